@@ -6,6 +6,8 @@ mod memory;
 mod name;
 mod operators;
 mod text;
+#[cfg(test)]
+mod tests;
 mod value;
 
 pub use arithmetic::{add, cmp, div, mul, neg, sub};
