@@ -1,0 +1,4 @@
+pub mod Grammar
+pub mod Notation
+pub mod Reading
+pub mod Reads
