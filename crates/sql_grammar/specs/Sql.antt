@@ -143,11 +143,18 @@ filter = optional (word w.Where ~> test)
 unfoldable pub from_table : G Ident
 from_table = word w.From ~> ident
 
+-- FROM table [WHERE test]
+unfoldable pub source : G (Ident × Option Test)
+source = from_table ~ filter
+
+unfoldable pub selection : G (List Expr × (Ident × Option Test))
+selection = exprs ~ source
+
 abbrev pub query_of : Token × (List Expr × (Ident × Option Test)) → Query
 query_of p = record { anchor = anchor_of p.0; items = p.1.0; table = p.1.1.0; filter = p.1.1.1 }
 
 unfoldable pub query : G Query
-query = query_of => word w.Select ~ exprs ~ from_table ~ filter
+query = query_of => word w.Select ~ selection
 
 -- ---- INSERT
 
@@ -160,8 +167,17 @@ more_rows = many (sign s.Comma ~> row)
 unfoldable pub rows : G (List (List Expr))
 rows = (λ p. p.0 ∷ p.1) => row ~ more_rows
 
+unfoldable pub inserted_rows : G (List (List Expr))
+inserted_rows = word w.Values ~> rows
+
+unfoldable pub insertion : G Insert
+insertion = (λ p. record { table = p.0; rows = p.1 }) => ident ~ inserted_rows
+
+unfoldable pub into_table : G Insert
+into_table = word w.Into ~> insertion
+
 unfoldable pub insert : G Insert
-insert = (λ p. record { table = p.0; rows = p.1 }) => word w.Insert ~> word w.Into ~> ident ~ (word w.Values ~> rows)
+insert = word w.Insert ~> into_table
 
 -- ---- CREATE
 
@@ -189,18 +205,30 @@ more_parameters = many (sign s.Comma ~> parameter)
 unfoldable pub parameters : G (List Parameter)
 parameters = (λ p. p.0 ∷ p.1) => parameter ~ more_parameters
 
+unfoldable pub table_definition : G CreateTable
+table_definition = (λ p. record { name = p.0; columns = p.1 }) => ident ~ bracketed Columns
+
 unfoldable pub create_table : G CreateTable
-create_table = (λ p. record { name = p.0; columns = p.1 }) => word w.Table ~> ident ~ bracketed Columns
+create_table = word w.Table ~> table_definition
+
+unfoldable pub returns_type : G SqlType
+returns_type = word w.Returns ~> integer
+
+unfoldable pub return_value : G Expr
+return_value = word w.Return ~> expr
 
 -- RETURNS type RETURN e
 unfoldable pub body : G (SqlType × Expr)
-body = word w.Returns ~> integer ~ (word w.Return ~> expr)
+body = returns_type ~ return_value
 
 abbrev pub function_of : Ident × (List Parameter × (SqlType × Expr)) → CreateFunction
 function_of p = record { name = p.0; parameters = p.1.0; returns = p.1.1.0; result = p.1.1.1 }
 
+unfoldable pub function_definition : G CreateFunction
+function_definition = function_of => ident ~ bracketed Parameters ~ body
+
 unfoldable pub create_function : G CreateFunction
-create_function = function_of => word w.Function ~> ident ~ bracketed Parameters ~ body
+create_function = word w.Function ~> function_definition
 
 unfoldable pub created : G Stmt
 created = stmt.CreateTable => create_table or stmt.CreateFunction => create_function
