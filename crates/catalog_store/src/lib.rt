@@ -1,13 +1,6 @@
-// A library with one function.
+//! The catalog: tables and functions by their names, in the order of their making.
 #![tactic(auto)]
 
-ghost use Rattle.std.specs.Prelude.{◌≡◌};
-ghost use Rattle.catalog_store.specs.Echo.{echo_of};
+mod entry;
 
-// The `ensures` clause is the contract: what `echo` returns is `echo_of` of its argument, a definition
-// in `specs/Echo.antt`, which a caller's clause can cite too.
-pub fn echo(x: usize) -> usize
-    ensures { result ≡ echo_of x }
-{
-    x
-}
+pub use entry::{Entry, FunctionEntry, Object, TableEntry};
