@@ -1,8 +1,8 @@
 -- The catalog: what its names stand for, in the order of their making.
-use Rattle.std.specs.Prelude.{ℕ, ◌+◌, Bool, true, false, List, [], ◌∷◌, if◌then◌else◌, Option, Some, None}
+use Rattle.std.specs.Prelude.{ℕ, List, [], ◌∷◌, if◌then◌else◌, Option, Some, None}
 use Rattle.std.specs.Str.{bytes_eq}
 use Rattle.sql_values.specs.declared.value.Value.TheVariants.{Null}
-use Rattle.rel_algebra.specs.Tree.{Expr, Literal, Routine, Returns}
+use Rattle.rel_algebra.specs.Tree.{Literal, Routine, Returns}
 
 -- a function: how many parameters it has, its height, and its tree
 pub record Function : Type 0 where
