@@ -57,6 +57,10 @@ nullable (many g) = true
 nullable (staged item next stage) = true
 nullable (map_to f g) = nullable g
 
+-- the kinds of all stages
+abbrev pub at_stages : (Stage → List Kind) → List Kind
+at_stages kinds = kinds First ++ (kinds Second ++ kinds Third)
+
 abbrev pub first : {R : Type 0} {Tree : R → Type 0} {A : Type 0} → Grammar R Tree A → List Kind
 first (token kind) = kind ∷ []
 first (nested opening r closing) = opening ∷ []
@@ -64,12 +68,8 @@ first (both g h) = first g ++ cond (nullable g) (first h) []
 first (either g h) = first g ++ first h
 first (optional g) = first g
 first (many g) = first g
-first (staged item next stage) = first (item stage)
+first (staged item next stage) = at_stages (λ s. first (item s))
 first (map_to f g) = first g
-
--- the kinds of all stages
-abbrev pub at_stages : (Stage → List Kind) → List Kind
-at_stages kinds = kinds First ++ (kinds Second ++ kinds Third)
 
 abbrev pub goes_on : {R : Type 0} {Tree : R → Type 0} {A : Type 0} → Grammar R Tree A → List Kind
 goes_on (token kind) = []
