@@ -1,3 +1,5 @@
 pub mod Ahead
 pub mod Shapes
 pub mod Sound
+pub mod Complete
+pub mod Reach

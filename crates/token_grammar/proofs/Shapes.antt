@@ -188,6 +188,24 @@ each_from_starts S f kinds starts stage (x ∷ xs) ts rest (next, s, each) = go 
     go (inl e) (inl e') = inl (e ∙ e')
     go (inl e) (inr b) = inr (subst (λ (z : List Token). begins (at_stages kinds) z ≡ true) (sym e) b)
 
+-- what a repetition from the stage begins with
+abbrev kinds_from : (Stage → List Kind) → (Stage → Bool) → Stage → List Kind
+kinds_from kinds nulls stage = kinds stage ++ cond (nulls stage) (at_stages kinds) []
+
+from_starts : {A : Type 0} (S : Stage → A → List Token → List Token → Type 0) (f : Stage → A → Stage) (kinds : Stage → List Kind) (nulls : Stage → Bool)
+    → ((stage : Stage) (x : A) (ts rest : List Token) → S stage x ts rest → (ts ≡ rest) ⊎ (begins (kinds stage) ts ≡ true))
+    → ((stage : Stage) (x : A) (ts rest : List Token) → S stage x ts rest → length rest + least (nulls stage) ≤ length ts)
+    → (stage : Stage) (xs : List A) (ts rest : List Token) → EachFrom S f stage xs ts rest → (ts ≡ rest) ⊎ (begins (kinds_from kinds nulls stage) ts ≡ true)
+from_starts S f kinds nulls starts shorter stage [] ts rest e = inl e
+from_starts S f kinds nulls starts shorter stage (x ∷ xs) ts rest (next, s, each) = go (starts stage x ts next s) (each_from_starts S f kinds starts (f stage x) xs next rest each)
+  where
+    go : (ts ≡ next) ⊎ (begins (kinds stage) ts ≡ true) → (next ≡ rest) ⊎ (begins (at_stages kinds) next ≡ true)
+        → (ts ≡ rest) ⊎ (begins (kinds_from kinds nulls stage) ts ≡ true)
+    go (inr b) q = inr (begins_left (kinds stage) (cond (nulls stage) (at_stages kinds) []) ts b)
+    go (inl e) (inl e') = inl (e ∙ e')
+    go (inl e) (inr b) = inr (first_both (nulls stage) (kinds stage) (at_stages kinds) ts (nullable_by (nulls stage) ts next (shorter stage x ts next s) e)
+        (subst (λ (z : List Token). begins (at_stages kinds) z ≡ true) (sym e) b))
+
 pub spells_starts : {R : Type 0} {Tree : R → Type 0} {A : Type 0} (inner : Inner R Tree) → Shortens inner
     → (g : Grammar R Tree A) (x : A) (ts rest : List Token) → Spells inner g x ts rest → (ts ≡ rest) ⊎ (begins (first g) ts ≡ true)
 spells_starts inner short (token kind) x ts rest s = inr (takes_begins kind x ts rest s)
@@ -221,7 +239,8 @@ spells_starts inner short (many g) (x ∷ xs) ts rest s = go (spells_starts inne
     go (inl e) (inl e') = inl (e ∙ e')
     go (inl e) (inr b) = inr (subst (λ (z : List Token). begins (first g) z ≡ true) (sym e) b)
 spells_starts inner short (staged item next stage) xs ts rest s =
-    each_from_starts (λ t. Spells inner (item t)) next (λ t. first (item t)) (λ t. spells_starts inner short (item t)) stage xs ts rest s
+    from_starts (λ t. Spells inner (item t)) next (λ t. first (item t)) (λ t. nullable (item t)) (λ t. spells_starts inner short (item t))
+    (λ t. spells_shorter inner short (item t)) stage xs ts rest s
 spells_starts inner short (map_to f g) y ts rest s = spells_starts inner short g s.0 ts rest s.2
 
 abbrev pub StartsOrNothing : List Kind → List Token → List Token → Type 0
@@ -243,6 +262,23 @@ starts_then kinds ts next end (inl e) (inr b) = inr (subst (λ (z : List Token).
 starts_some : (kinds : Stage → List Kind) (stage : Stage) (ts end : List Token) → StartsOrNothing (kinds stage) ts end → StartsOrNothing (at_stages kinds) ts end
 starts_some kinds stage ts end (inl e) = inl e
 starts_some kinds stage ts end (inr b) = inr (some_stage kinds stage ts b)
+
+from_starts_then : {A : Type 0} (S : Stage → A → List Token → List Token → Type 0) (f : Stage → A → Stage) (kinds : Stage → List Kind) (nulls : Stage → Bool)
+    → ((stage : Stage) (x : A) (ts rest : List Token) → S stage x ts rest → (ts ≡ rest) ⊎ (begins (kinds stage) ts ≡ true))
+    → ((stage : Stage) (x : A) (ts rest : List Token) → S stage x ts rest → length rest + least (nulls stage) ≤ length ts)
+    → (stage : Stage) (xs : List A) (ts next end : List Token) → EachFrom S f stage xs ts next
+    → StartsOrNothing (kinds (stage_after f stage xs)) next end → StartsOrNothing (kinds_from kinds nulls stage) ts end
+from_starts_then S f kinds nulls starts shorter stage [] ts next end e start =
+    starts_left (kinds stage) (cond (nulls stage) (at_stages kinds) []) ts end (starts_then (kinds stage) ts next end (inl e) start)
+from_starts_then S f kinds nulls starts shorter stage (x ∷ xs) ts next end (mid, s, each) start =
+    go (starts stage x ts mid s) (starts_then (at_stages kinds) mid next end (each_from_starts S f kinds starts (f stage x) xs mid next each)
+    (starts_some kinds (stage_after f (f stage x) xs) next end start))
+  where
+    go : StartsOrNothing (kinds stage) ts mid → StartsOrNothing (at_stages kinds) mid end → StartsOrNothing (kinds_from kinds nulls stage) ts end
+    go (inr b) q = inr (begins_left (kinds stage) (cond (nulls stage) (at_stages kinds) []) ts b)
+    go (inl e) (inl e') = inl (e ∙ e')
+    go (inl e) (inr b) = inr (first_both (nulls stage) (kinds stage) (at_stages kinds) ts (nullable_by (nulls stage) ts mid (shorter stage x ts mid s) e)
+        (subst (λ (z : List Token). begins (at_stages kinds) z ≡ true) (sym e) b))
 
 pub cut_starts : {R : Type 0} {Tree : R → Type 0} {A : Type 0} (inner : Inner R Tree) → Shortens inner → (beg : Begun R)
     → (g : Grammar R Tree A) (ts end : List Token) → Cut inner beg g ts end → StartsOrNothing (first g) ts end
@@ -267,8 +303,8 @@ cut_starts inner short beg (many g) ts end (xs, next, each, inl e) = starts_then
 cut_starts inner short beg (many g) ts end (xs, next, each, inr c) =
     starts_then (first g) ts next end (spells_starts inner short (many g) xs ts next each) (cut_starts inner short beg g next end c)
 cut_starts inner short beg (staged item f stage) ts end (xs, next, each, inl e) =
-    starts_then (at_stages (λ t. first (item t))) ts next end (spells_starts inner short (staged item f stage) xs ts next each) (inl e)
+    starts_then (first (staged item f stage)) ts next end (spells_starts inner short (staged item f stage) xs ts next each) (inl e)
 cut_starts inner short beg (staged item f stage) ts end (xs, next, each, inr c) =
-    starts_then (at_stages (λ t. first (item t))) ts next end (spells_starts inner short (staged item f stage) xs ts next each)
-    (starts_some (λ t. first (item t)) (stage_after f stage xs) next end (cut_starts inner short beg (item (stage_after f stage xs)) next end c))
+    from_starts_then (λ t. Spells inner (item t)) f (λ t. first (item t)) (λ t. nullable (item t)) (λ t. spells_starts inner short (item t))
+    (λ t. spells_shorter inner short (item t)) stage xs ts next end each (cut_starts inner short beg (item (stage_after f stage xs)) next end c)
 cut_starts inner short beg (map_to f g) ts end c = cut_starts inner short beg g ts end c

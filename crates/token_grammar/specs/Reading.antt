@@ -68,7 +68,7 @@ first (both g h) = first g ++ cond (nullable g) (first h) []
 first (either g h) = first g ++ first h
 first (optional g) = first g
 first (many g) = first g
-first (staged item next stage) = at_stages (λ s. first (item s))
+first (staged item next stage) = first (item stage) ++ cond (nullable (item stage)) (at_stages (λ s. first (item s))) []
 first (map_to f g) = first g
 
 abbrev pub goes_on : {R : Type 0} {Tree : R → Type 0} {A : Type 0} → Grammar R Tree A → List Kind
