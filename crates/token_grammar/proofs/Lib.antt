@@ -3,3 +3,5 @@ pub mod Shapes
 pub mod Sound
 pub mod Complete
 pub mod Reach
+pub mod After
+pub mod Further
