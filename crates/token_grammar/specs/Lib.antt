@@ -3,4 +3,5 @@ pub mod Notation
 pub mod Reading
 pub mod Reads
 pub mod Exact
+pub mod Statement
 pub mod Example
