@@ -5,4 +5,4 @@ pub mod Complete
 pub mod Reach
 pub mod After
 pub mod Further
-pub mod Law
+pub mod Places

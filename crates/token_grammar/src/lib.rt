@@ -3,6 +3,8 @@
 
 mod fault;
 mod input;
+mod language;
 
 pub use fault::{ParseError, ParseFault};
 pub use input::Input;
+pub use language::{Ending, Part, reads_part, reads_whole};
