@@ -56,12 +56,12 @@ sum = (λ p. added p.0 p.1) => operand ~ many (sign s.Plus ~ operand)
 unfoldable pub handler : G Declaration
 handler = Handler => word w.Exit ~> sum
 
+abbrev pub declared : List ℕ → Option Token → Declaration
+declared n (Some t) = Cursor n
+declared n None = Variable n
+
 unfoldable pub variable_or_cursor : G Declaration
-variable_or_cursor = (λ p. named (name_of p.0.lexeme) p.1) => name ~ optional (word w.Cursor)
-  where
-    named : List ℕ → Option Token → Declaration
-    named n (Some t) = Cursor n
-    named n None = Variable n
+variable_or_cursor = (λ p. declared (name_of p.0.lexeme) p.1) => name ~ optional (word w.Cursor)
 
 unfoldable pub cursor : G Declaration
 cursor = (λ t. Cursor (name_of t.lexeme)) => name <~ word w.Cursor
@@ -89,16 +89,12 @@ abbrev pub rules : (r : Rule) → G (Tree r)
 rules Bracketed = sum
 rules Block = staged declaration next_stage First
 
--- ---- rows
+-- ---- one token ahead decides
 
-abbrev pub numbered : ℕ → List Lexeme → List Token
-numbered n [] = []
-numbered n (l ∷ ls) = record { lexeme = l; number = n; start = n; end = n + 1; line = 1; column = n + 1 } ∷ numbered (n + 1) ls
-
-pub all_decide : (r : Rule) → decides rules (rules r) ≡ true
+pub rules_decide : (r : Rule) → decides rules (rules r) ≡ true
 unfolding same_kind operand sum handler variable_or_cursor cursor declaration block statement
-all_decide Bracketed = refl
-all_decide Block = refl
+rules_decide Bracketed = refl
+rules_decide Block = refl
 
 pub statement_decides : decides rules statement ≡ true
 unfolding same_kind operand sum handler variable_or_cursor cursor declaration block statement
@@ -107,3 +103,56 @@ statement_decides = refl
 pub statement_ends : goes_on statement ≡ []
 unfolding same_kind operand sum handler variable_or_cursor cursor declaration block statement
 statement_ends = refl
+
+-- ---- rows
+
+abbrev pub numbered : ℕ → List Lexeme → List Token
+numbered n [] = []
+numbered n (l ∷ ls) = record { lexeme = l; number = n; start = n; end = n + 1; line = 1; column = n + 1 } ∷ numbered (n + 1) ls
+
+-- the tokens, numbered from 0
+abbrev pub tokens_of : List Lexeme → List Token
+tokens_of ls = numbered 0 ls
+
+-- the names X and C
+abbrev pub x : Lexeme
+x = lexeme.Name (88 ∷ [])
+
+abbrev pub c : Lexeme
+c = lexeme.Name (67 ∷ [])
+
+abbrev pub one : Lexeme
+one = lexeme.Number (pos 1)
+
+-- BEGIN DECLARE X; DECLARE C CURSOR; DECLARE EXIT 1; END X + (1);
+abbrev pub with_block : List Token
+with_block = tokens_of (lexeme.Word w.Begin ∷ lexeme.Word w.Declare ∷ x ∷ lexeme.Sign s.Semicolon
+    ∷ lexeme.Word w.Declare ∷ c ∷ lexeme.Word w.Cursor ∷ lexeme.Sign s.Semicolon
+    ∷ lexeme.Word w.Declare ∷ lexeme.Word w.Exit ∷ one ∷ lexeme.Sign s.Semicolon ∷ lexeme.Word w.End
+    ∷ x ∷ lexeme.Sign s.Plus ∷ lexeme.Sign s.LeftParen ∷ one ∷ lexeme.Sign s.RightParen ∷ lexeme.Sign s.Semicolon ∷ [])
+
+pub is_read : reading rules 1 statement with_block
+    ≡ Ok ((Some (Variable (88 ∷ []) ∷ Cursor (67 ∷ []) ∷ Handler (Number 10 (pos 1)) ∷ []), Plus 14 (Column 13 (88 ∷ [])) (Number 16 (pos 1))), [])
+unfolding same_kind operand sum handler variable_or_cursor cursor declaration block statement
+is_read = refl
+
+-- BEGIN DECLARE C CURSOR; DECLARE X; .. : behind a cursor only a cursor may have a name, so the refusal stands at the second `;`.
+abbrev pub variable_behind_cursor : List Token
+variable_behind_cursor = tokens_of (lexeme.Word w.Begin ∷ lexeme.Word w.Declare ∷ c ∷ lexeme.Word w.Cursor ∷ lexeme.Sign s.Semicolon
+    ∷ lexeme.Word w.Declare ∷ x ∷ lexeme.Sign s.Semicolon ∷ lexeme.Word w.End ∷ one ∷ lexeme.Sign s.Semicolon ∷ [])
+
+pub is_refused : reading rules 24 statement variable_behind_cursor ≡ Err (NoSpelling (drop 7 variable_behind_cursor))
+unfolding same_kind operand sum handler variable_or_cursor cursor declaration block statement
+is_refused = refl
+
+-- ((1));
+abbrev pub two_deep : List Token
+two_deep = tokens_of (lexeme.Sign s.LeftParen ∷ lexeme.Sign s.LeftParen ∷ one ∷ lexeme.Sign s.RightParen ∷ lexeme.Sign s.RightParen ∷ lexeme.Sign s.Semicolon ∷ [])
+
+pub is_too_deep : reading rules 1 statement two_deep ≡ Err (TooDeep (drop 1 two_deep))
+unfolding same_kind operand sum handler variable_or_cursor cursor declaration block statement
+is_too_deep = refl
+
+pub is_deep_enough : reading rules 2 statement two_deep ≡ Ok ((None, Number 2 (pos 1)), [])
+unfolding same_kind operand sum handler variable_or_cursor cursor declaration block statement
+is_deep_enough = refl
