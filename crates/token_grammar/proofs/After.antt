@@ -2,7 +2,8 @@
 use Rattle.std.proofs.Common.{◌≡◌, ℕ, zero, suc, ◌+◌, ◌-◌, ◌<◌, ◌≤◌, Bool, true, false, List, [], ◌∷◌, length, drop, Option, Some, None, refl, ap, sym, ◌∙◌, subst, inl, inr, ◌⊎◌, arith, length-drop}
 use Rattle.sql_lex.specs.declared.token.Kind.{Kind}
 use Rattle.sql_lex.specs.declared.token.Token.{Token}
-use Rattle.token_grammar.specs.Grammar.{Stage, Grammar, token, nested, both, either, optional, many, staged, map_to, Inner, Begun, Takes, Passes, Each, EachFrom, stage_after, Spells, Cut, inside, begun}
+use Rattle.token_grammar.specs.declared.stage.Stage.{Stage}
+use Rattle.token_grammar.specs.Grammar.{Grammar, token, nested, both, either, optional, many, staged, map_to, Inner, Begun, Takes, Passes, Each, EachFrom, stage_after, Spells, Cut, inside, begun}
 
 abbrev pub After : List Token → List Token → Type 0
 After ts rest = (k : ℕ) × (k ≤ length ts) × (rest ≡ drop k ts)

@@ -7,7 +7,9 @@ use Rattle.sql_lex.specs.contracts.sign.Sign.{the_type as signs}
 use Rattle.sql_lex.specs.declared.token.Kind.{Kind}
 use Rattle.sql_lex.specs.declared.token.Kind.TheVariants as kind
 use Rattle.sql_lex.specs.declared.token.Token.{Token}
-use Rattle.token_grammar.specs.Grammar.{Stage, First, Second, Third, Takes, Passes}
+use Rattle.token_grammar.specs.declared.stage.Stage.{Stage}
+use Rattle.token_grammar.specs.declared.stage.Stage.TheVariants.{First, Second, Third}
+use Rattle.token_grammar.specs.Grammar.{Takes, Passes}
 use Rattle.token_grammar.specs.Reading.{same_kind, is_one_of, begins, apart, at_stages, at_each_stage}
 
 pub same_is : (a b : Kind) → same_kind a b ≡ true → a ≡ b

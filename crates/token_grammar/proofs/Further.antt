@@ -2,7 +2,8 @@
 use Rattle.std.proofs.Common.{◌≡◌, ℕ, zero, suc, ◌+◌, ◌<◌, ◌≤◌, Bool, true, false, not, ◌&&◌, ◌||◌, cond, List, [], ◌∷◌, ◌++◌, length, Option, Some, None, Result, Ok, Err, refl, ap, sym, ◌∙◌, subst, inl, inr, ◌⊎◌, arith}
 use Rattle.sql_lex.specs.declared.token.Kind.{Kind}
 use Rattle.sql_lex.specs.declared.token.Token.{Token}
-use Rattle.token_grammar.specs.Grammar.{Stage, Grammar, token, nested, both, either, optional, many, staged, map_to, Inner, Begun, Takes, Each, EachFrom, stage_after, Spells, Cut, inside, begun}
+use Rattle.token_grammar.specs.declared.stage.Stage.{Stage}
+use Rattle.token_grammar.specs.Grammar.{Grammar, token, nested, both, either, optional, many, staged, map_to, Inner, Begun, Takes, Each, EachFrom, stage_after, Spells, Cut, inside, begun}
 use Rattle.token_grammar.specs.Reading.{Outcome, first, nullable, goes_on, apart, decides, begins, repeat, repeat_from, at_stages, read, readers, reading, ◌>>=◌}
 use Rattle.token_grammar.specs.Exact.{Gets}
 use Rattle.token_grammar.proofs.Ahead.{sees_is, and_true, or_cases, begins-append, apart_stops, each_stage, not_true, not_both}

@@ -6,3 +6,4 @@ pub mod Reach
 pub mod After
 pub mod Further
 pub mod Places
+pub mod Turns

@@ -3,7 +3,8 @@ use Rattle.std.proofs.Common.{◌≡◌, ℕ, zero, suc, ◌+◌, ◌<◌, ◌�
 use Rattle.sql_lex.specs.Tokens.{kind_of}
 use Rattle.sql_lex.specs.declared.token.Kind.{Kind}
 use Rattle.sql_lex.specs.declared.token.Token.{Token}
-use Rattle.token_grammar.specs.Grammar.{Stage, Grammar, token, nested, both, either, optional, many, staged, map_to, Takes, Passes, Each, EachFrom, stage_after, Spells, Cut, inside, begun}
+use Rattle.token_grammar.specs.declared.stage.Stage.{Stage}
+use Rattle.token_grammar.specs.Grammar.{Grammar, token, nested, both, either, optional, many, staged, map_to, Takes, Passes, Each, EachFrom, stage_after, Spells, Cut, inside, begun}
 use Rattle.token_grammar.specs.Reading.{Outcome, Fault, NoSpelling, TooDeep, first, nullable, goes_on, apart, is_one_of, decides, begins, expect, enter, repeat, repeat_from, at_stages, read, readers, ◌>>=◌}
 use Rattle.token_grammar.specs.Exact.{IsSound, Gets, Reaches}
 use Rattle.token_grammar.proofs.Ahead.{is_sees, and_true, not_true, not_both, stops_both, stops_one, apart_stops, some_stage, each_stage_stops, each_stage}

@@ -2,7 +2,8 @@
 use Rattle.std.proofs.Common.{◌≡◌, ℕ, zero, suc, ◌+◌, ◌<◌, ◌≤◌, Bool, true, false, not, ◌&&◌, ◌||◌, cond, List, [], ◌∷◌, ◌++◌, length, Option, Some, None, refl, ap, sym, ◌∙◌, subst, inl, inr, ◌⊎◌, arith}
 use Rattle.sql_lex.specs.declared.token.Kind.{Kind}
 use Rattle.sql_lex.specs.declared.token.Token.{Token}
-use Rattle.token_grammar.specs.Grammar.{Stage, Grammar, token, nested, both, either, optional, many, staged, map_to, Inner, Begun, Takes, Passes, Each, EachFrom, stage_after, Spells, Cut, inside, begun}
+use Rattle.token_grammar.specs.declared.stage.Stage.{Stage}
+use Rattle.token_grammar.specs.Grammar.{Grammar, token, nested, both, either, optional, many, staged, map_to, Inner, Begun, Takes, Passes, Each, EachFrom, stage_after, Spells, Cut, inside, begun}
 use Rattle.token_grammar.specs.Reading.{nullable, first, begins, at_stages}
 use Rattle.token_grammar.proofs.Ahead.{takes_begins, passes_begins, begins_left, begins_right, some_stage}
 

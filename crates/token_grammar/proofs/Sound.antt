@@ -3,7 +3,8 @@ use Rattle.std.proofs.Common.{◌≡◌, ℕ, zero, suc, ◌+◌, ◌<◌, ◌�
 use Rattle.sql_lex.specs.Tokens.{kind_of}
 use Rattle.sql_lex.specs.declared.token.Kind.{Kind}
 use Rattle.sql_lex.specs.declared.token.Token.{Token}
-use Rattle.token_grammar.specs.Grammar.{Stage, Grammar, token, nested, both, either, optional, many, staged, map_to, Takes, Passes, Each, EachFrom, stage_after, Spells, Cut, inside, begun}
+use Rattle.token_grammar.specs.declared.stage.Stage.{Stage}
+use Rattle.token_grammar.specs.Grammar.{Grammar, token, nested, both, either, optional, many, staged, map_to, Takes, Passes, Each, EachFrom, stage_after, Spells, Cut, inside, begun}
 use Rattle.token_grammar.specs.Reading.{Outcome, Fault, NoSpelling, TooDeep, first, begins, next_token, expect, enter, repeat, repeat_from, read, readers, ◌>>=◌}
 use Rattle.token_grammar.specs.Exact.{IsSound}
 use Rattle.token_grammar.proofs.Ahead.{sees_is}

@@ -11,7 +11,9 @@ use Rattle.sql_lex.specs.declared.token.Token.{Token}
 use Rattle.sql_lex.specs.declared.token.Kind.TheVariants as kind
 use Rattle.sql_lex.specs.declared.word.Word.TheVariants as w
 use Rattle.sql_lex.specs.declared.sign.Sign.TheVariants as s
-use Rattle.token_grammar.specs.Grammar.{Stage, First, Second, Third, Grammar, token, nested, both, either, optional, many, staged, map_to}
+use Rattle.token_grammar.specs.declared.stage.Stage.{Stage}
+use Rattle.token_grammar.specs.declared.stage.Stage.TheVariants.{First, Second, Third}
+use Rattle.token_grammar.specs.Grammar.{Grammar, token, nested, both, either, optional, many, staged, map_to}
 use Rattle.token_grammar.specs.Notation.{word, sign, name, number, ◌~◌, ◌~>◌, ◌<~◌, ◌or◌, ◌=>◌, name_of, number_of, is_there}
 use Rattle.token_grammar.specs.Reading.{decides, reading, NoSpelling, TooDeep, same_kind, goes_on}
 
