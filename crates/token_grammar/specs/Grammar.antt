@@ -4,12 +4,7 @@ use Rattle.std.specs.Prelude.{◌≡◌, ℕ, zero, suc, List, [], ◌∷◌, Op
 use Rattle.sql_lex.specs.Tokens.{kind_of}
 use Rattle.sql_lex.specs.declared.token.Kind.{Kind}
 use Rattle.sql_lex.specs.declared.token.Token.{Token}
-
--- how far a repetition by stages has come
-pub data Stage : Type 0 where
-  First : Stage
-  Second : Stage
-  Third : Stage
+use Rattle.token_grammar.specs.declared.stage.Stage.{Stage}
 
 -- a grammar whose trees are of the type
 pub data Grammar (R : Type 0) (Tree : R → Type 0) : Type 0 → Type 1 where

@@ -8,7 +8,9 @@ use Rattle.sql_lex.specs.declared.token.Lexeme.TheVariants as lexeme
 use Rattle.sql_lex.specs.declared.token.Kind.{Kind}
 use Rattle.sql_lex.specs.declared.token.Kind.TheVariants as kind
 use Rattle.sql_lex.specs.declared.token.Token.{Token}
-use Rattle.token_grammar.specs.Grammar.{Stage, First, Second, Third, Grammar, token, nested, both, either, optional, many, staged, map_to}
+use Rattle.token_grammar.specs.declared.stage.Stage.{Stage}
+use Rattle.token_grammar.specs.declared.stage.Stage.TheVariants.{First, Second, Third}
+use Rattle.token_grammar.specs.Grammar.{Grammar, token, nested, both, either, optional, many, staged, map_to}
 
 -- ---- the next token
 
@@ -57,6 +59,10 @@ nullable (many g) = true
 nullable (staged item next stage) = true
 nullable (map_to f g) = nullable g
 
+-- the kinds of all stages
+abbrev pub at_stages : (Stage → List Kind) → List Kind
+at_stages kinds = kinds First ++ (kinds Second ++ kinds Third)
+
 abbrev pub first : {R : Type 0} {Tree : R → Type 0} {A : Type 0} → Grammar R Tree A → List Kind
 first (token kind) = kind ∷ []
 first (nested opening r closing) = opening ∷ []
@@ -64,12 +70,8 @@ first (both g h) = first g ++ cond (nullable g) (first h) []
 first (either g h) = first g ++ first h
 first (optional g) = first g
 first (many g) = first g
-first (staged item next stage) = first (item stage)
+first (staged item next stage) = first (item stage) ++ cond (nullable (item stage)) (at_stages (λ s. first (item s))) []
 first (map_to f g) = first g
-
--- the kinds of all stages
-abbrev pub at_stages : (Stage → List Kind) → List Kind
-at_stages kinds = kinds First ++ (kinds Second ++ kinds Third)
 
 abbrev pub goes_on : {R : Type 0} {Tree : R → Type 0} {A : Type 0} → Grammar R Tree A → List Kind
 goes_on (token kind) = []
