@@ -150,11 +150,14 @@ source = from_table ~ filter
 unfoldable pub selection : G (List Expr × (Ident × Option Test))
 selection = exprs ~ source
 
-abbrev pub query_of : Token × (List Expr × (Ident × Option Test)) → Query
-query_of p = record { anchor = anchor_of p.0; items = p.1.0; table = p.1.1.0; filter = p.1.1.1 }
+unfoldable pub select_word : G Anchor
+select_word = anchor_of => word w.Select
+
+abbrev pub query_of : Anchor × (List Expr × (Ident × Option Test)) → Query
+query_of p = record { anchor = p.0; items = p.1.0; table = p.1.1.0; filter = p.1.1.1 }
 
 unfoldable pub query : G Query
-query = query_of => word w.Select ~ selection
+query = query_of => select_word ~ selection
 
 -- ---- INSERT
 

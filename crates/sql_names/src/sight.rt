@@ -1,6 +1,7 @@
 //! The names in sight of an expression.
 
-ghost use Rattle.std.specs.Prelude.{◌≡◌, map};
+ghost use Rattle.std.specs.Prelude.{◌≡◌, position};
+ghost use Rattle.std.specs.Str.{bytes_eq};
 ghost use Rattle.sql_names.specs.Sight.{place_of, parameter_names};
 
 use catalog_store::Entry;
@@ -26,6 +27,13 @@ pub(crate) fn column_place(columns: &[Name], name: &Name) -> Option<usize>
 /// The place of the first parameter of a name.
 pub(crate) fn parameter_place(parameters: &[Parameter], name: &Name) -> Option<usize>
     ensures { result ≡ place_of name.now (parameter_names parameters.now) }
+{
+    let place = first_parameter(parameters, name);
+    place
+}
+
+fn first_parameter(parameters: &[Parameter], name: &Name) -> Option<usize>
+    ensures { result ≡ position (λ p. bytes_eq p.name.name name.now) parameters.now }
 {
     parameters.iter().position(|parameter| parameter.name.name.is(name))
 }

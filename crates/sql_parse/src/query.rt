@@ -10,8 +10,9 @@ use crate::expr::{expr, exprs};
 use crate::place::{anchor, ident};
 use sql_lex::{Kind, Sign, Word};
 use sql_values::Comparison;
+use sqlite_items::Items;
 use std::alloc::Global;
-use syntax_trees::{Anchor, Ident, Query, Test};
+use syntax_trees::{Anchor, Expr, Ident, Query, Test};
 use token_grammar::{Input, ParseError};
 
 // A comparison, with its anchor.
@@ -83,17 +84,40 @@ fn source(alloc: Global, input: &mut Input<'_>, room: u32) -> Result<(Ident, Opt
     Ok((table, filter))
 }
 
-#[tactic(auto, unfolding(sql_grammar::specs::Sql::query, sql_grammar::specs::Sql::selection))]
-pub(crate) fn query(alloc: Global, input: &mut Input<'_>, room: u32) -> Result<Query, ParseError>
-    ensures { Reads (reading rules room g.query input.old.rest.now) result input.new.rest.now }
+// What stands behind SELECT: the select list, and where its rows come from.
+#[tactic(auto, unfolding(sql_grammar::specs::Sql::selection))]
+fn selection(
+    alloc: Global,
+    input: &mut Input<'_>,
+    room: u32,
+) -> Result<(Items<Expr>, (Ident, Option<Test>)), ParseError>
+    ensures { Reads (reading rules room g.selection input.old.rest.now) result input.new.rest.now }
+{
+    let items = exprs(alloc, input, room)?;
+    let source = source(alloc, input, room)?;
+    Ok((items, source))
+}
+
+#[tactic(auto, unfolding(sql_grammar::specs::Sql::select_word))]
+fn select_word(input: &mut Input<'_>, room: u32) -> Result<Anchor, ParseError>
+    ensures { Reads (reading rules room g.select_word input.old.rest.now) result input.new.rest.now }
 {
     let anchor = anchor(input);
     input.expect(Kind::Word(Word::Select))?;
-    let items = exprs(alloc, input, room)?;
-    let source = source(alloc, input, room)?;
+    Ok(anchor)
+}
+
+/// A query.
+#[tactic(auto, unfolding(sql_grammar::specs::Sql::query))]
+pub(crate) fn query(alloc: Global, input: &mut Input<'_>, room: u32) -> Result<Query, ParseError>
+    ensures { Reads (reading rules room g.query input.old.rest.now) result input.new.rest.now }
+{
+    let anchor = select_word(input, room)?;
+    let selected = selection(alloc, input, room)?;
+    let source = selected.1;
     Ok(Query {
         anchor,
-        items,
+        items: selected.0,
         table: source.0,
         filter: source.1,
     })

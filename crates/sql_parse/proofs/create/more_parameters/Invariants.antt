@@ -8,4 +8,4 @@ decreases-more l = length l.input.rest.now
 
 abbrev pub invariant-more : goal.invariant-more
 invariant-more l =
-    reading g.rules l.room g.more_parameters l.initial.input.rest.now ≡ with_front l.found (reading g.rules l.room g.more_parameters l.input.rest.now)
+    with_front l.found (reading g.rules l.room g.more_parameters l.input.rest.now) ≡ reading g.rules l.room g.more_parameters l.initial.input.rest.now

@@ -44,18 +44,18 @@ decreases-factors-more l = length l.input.rest.now
 
 abbrev pub invariant-factors-more : goal.invariant-factors-more
 invariant-factors-more l =
-    reading g.rules l.room g.factors l.initial.input.rest.now ≡ with_front l.found (reading g.rules l.room g.factors l.input.rest.now)
+    with_front l.found (reading g.rules l.room g.factors l.input.rest.now) ≡ reading g.rules l.room g.factors l.initial.input.rest.now
 
 abbrev pub decreases-addends-more : goal.decreases-addends-more
 decreases-addends-more l = length l.input.rest.now
 
 abbrev pub invariant-addends-more : goal.invariant-addends-more
 invariant-addends-more l =
-    reading g.rules l.room g.addends l.initial.input.rest.now ≡ with_front l.found (reading g.rules l.room g.addends l.input.rest.now)
+    with_front l.found (reading g.rules l.room g.addends l.input.rest.now) ≡ reading g.rules l.room g.addends l.initial.input.rest.now
 
 abbrev pub decreases-more_exprs-more : goal.decreases-more_exprs-more
 decreases-more_exprs-more l = length l.input.rest.now
 
 abbrev pub invariant-more_exprs-more : goal.invariant-more_exprs-more
 invariant-more_exprs-more l =
-    reading g.rules l.room g.more_exprs l.initial.input.rest.now ≡ with_front l.found (reading g.rules l.room g.more_exprs l.input.rest.now)
+    with_front l.found (reading g.rules l.room g.more_exprs l.input.rest.now) ≡ reading g.rules l.room g.more_exprs l.initial.input.rest.now
