@@ -3,7 +3,8 @@ use Rattle.std.specs.Prelude.{◌≡◌, ℕ, List, map, Option, Some, None, Res
 use Rattle.std.specs.Borrow.{Bor}
 use Rattle.syntax_trees.specs.declared.statement.Parameter.{Parameter}
 use Rattle.catalog_store.specs.Catalog.{routines}
-use Rattle.catalog_store.specs.View.{tree_of, link_of, plain}
+use Rattle.rel_algebra.specs.Tree.{Routine}
+use Rattle.catalog_store.specs.View.{tree_of, link_of, query_of, rows_of, entry_of, plain}
 use Rattle.catalog_store.specs.declared.entry.Entry.{Entry}
 use Rattle.sql_names.specs.declared.fault.NameFault.{NameFault}
 use Rattle.sql_names.specs.declared.fault.NameFault.TheVariants as fault
@@ -11,6 +12,9 @@ use Rattle.sql_names.specs.declared.sight.Sight.{Sight}
 use Rattle.sql_names.specs.declared.expr.Bound.{Bound}
 use Rattle.sql_names.specs.declared.expr.BoundAll.{BoundAll}
 use Rattle.sql_names.specs.declared.expr.BoundLinks.{BoundLinks}
+use Rattle.sql_names.specs.declared.statement.BoundStmt.{BoundStmt}
+use Rattle.sql_names.specs.declared.statement.BoundStmt.TheVariants as bound
+use Rattle.sql_names.specs.Statements.{Statement, Creates, Inserts, Asks}
 use Rattle.sql_names.specs.Sight.{Seen, parameter_names}
 use Rattle.sql_names.specs.Names.{Resolved, ResolvedAll, ResolvedLinks}
 
@@ -30,3 +34,9 @@ all_view s b = record { trees = map (tree_of (routines (plain s.catalog.now))) b
 
 abbrev pub links_view : Sight → BoundLinks → ResolvedLinks
 links_view s b = record { trees = map (link_of (routines (plain s.catalog.now))) b.links; height = b.height }
+
+-- the plain statement of a bound one
+abbrev pub statement_of : List Routine → BoundStmt → Statement
+statement_of known (bound.Create entry) = Creates (entry_of known entry)
+statement_of known (bound.Insert s) = Inserts s.table (rows_of known s.rows)
+statement_of known (bound.Query q) = Asks (query_of known q)

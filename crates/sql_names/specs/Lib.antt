@@ -1,3 +1,4 @@
 pub mod Sight
 pub mod Names
 pub mod Binds
+pub mod Statements

@@ -77,7 +77,12 @@ fn bind_call(name: &Name, args: BoundAll, sight: &Sight<'_>) -> Result<Bound, Na
     }
 }
 
-fn bind_chain(alloc: Global, first: Bound, links: BoundLinks, sight: &Sight<'_>) -> Result<Bound, NameFault>
+fn bind_chain(
+    alloc: Global,
+    first: Bound,
+    links: BoundLinks,
+    sight: &Sight<'_>,
+) -> Result<Bound, NameFault>
     ensures { Binds (chain_of (Some (bound_view sight.now first)) (Some (links_view sight.now links))) (bound_view sight.now) result }
 {
     let height = first.height.max(links.height);
@@ -122,7 +127,10 @@ pub fn bind_exprs(alloc: Global, exprs: &[Expr], sight: &Sight<'_>) -> Result<Bo
             Err(fault) => return Err(fault),
         }
     }
-    Ok(BoundAll { exprs: found, height })
+    Ok(BoundAll {
+        exprs: found,
+        height,
+    })
 }
 
 #[cycle(binder)]
@@ -142,5 +150,8 @@ fn bind_links(alloc: Global, links: &[Link], sight: &Sight<'_>) -> Result<BoundL
             Err(fault) => return Err(fault),
         }
     }
-    Ok(BoundLinks { links: found, height })
+    Ok(BoundLinks {
+        links: found,
+        height,
+    })
 }

@@ -42,7 +42,11 @@ fn column(input: &mut Input<'_>, room: u32) -> Result<Column, ParseError>
 }
 
 #[tactic(auto, unfolding(sql_grammar::specs::Sql::more_columns))]
-fn more_columns(alloc: Global, input: &mut Input<'_>, room: u32) -> Result<Items<Column>, ParseError>
+fn more_columns(
+    alloc: Global,
+    input: &mut Input<'_>,
+    room: u32,
+) -> Result<Items<Column>, ParseError>
     ensures { Reads (reading rules room g.more_columns input.old.rest.now) result input.new.rest.now }
 {
     let mut found = Items::new(alloc);
@@ -65,7 +69,11 @@ fn columns(alloc: Global, input: &mut Input<'_>, room: u32) -> Result<Items<Colu
 }
 
 #[tactic(auto, unfolding(sql_grammar::specs::Sql::bracketed))]
-fn table_columns(alloc: Global, input: &mut Input<'_>, room: u32) -> Result<Items<Column>, ParseError>
+fn table_columns(
+    alloc: Global,
+    input: &mut Input<'_>,
+    room: u32,
+) -> Result<Items<Column>, ParseError>
     ensures { Reads (reading rules room (g.bracketed g.Columns) input.old.rest.now) result input.new.rest.now }
 {
     let left = input.open(room, Kind::Sign(Sign::LeftParen))?;
@@ -74,7 +82,11 @@ fn table_columns(alloc: Global, input: &mut Input<'_>, room: u32) -> Result<Item
 }
 
 #[tactic(auto, unfolding(sql_grammar::specs::Sql::table_definition))]
-fn table_definition(alloc: Global, input: &mut Input<'_>, room: u32) -> Result<CreateTable, ParseError>
+fn table_definition(
+    alloc: Global,
+    input: &mut Input<'_>,
+    room: u32,
+) -> Result<CreateTable, ParseError>
     ensures { Reads (reading rules room g.table_definition input.old.rest.now) result input.new.rest.now }
 {
     let name = ident(input, room)?;
@@ -100,7 +112,11 @@ fn parameter(input: &mut Input<'_>, room: u32) -> Result<Parameter, ParseError>
 }
 
 #[tactic(auto, unfolding(sql_grammar::specs::Sql::more_parameters))]
-fn more_parameters(alloc: Global, input: &mut Input<'_>, room: u32) -> Result<Items<Parameter>, ParseError>
+fn more_parameters(
+    alloc: Global,
+    input: &mut Input<'_>,
+    room: u32,
+) -> Result<Items<Parameter>, ParseError>
     ensures { Reads (reading rules room g.more_parameters input.old.rest.now) result input.new.rest.now }
 {
     let mut found = Items::new(alloc);
@@ -114,7 +130,11 @@ fn more_parameters(alloc: Global, input: &mut Input<'_>, room: u32) -> Result<It
 }
 
 #[tactic(auto, unfolding(sql_grammar::specs::Sql::parameters))]
-fn parameters(alloc: Global, input: &mut Input<'_>, room: u32) -> Result<Items<Parameter>, ParseError>
+fn parameters(
+    alloc: Global,
+    input: &mut Input<'_>,
+    room: u32,
+) -> Result<Items<Parameter>, ParseError>
     ensures { Reads (reading rules room g.parameters input.old.rest.now) result input.new.rest.now }
 {
     let first = parameter(input, room)?;
@@ -123,7 +143,11 @@ fn parameters(alloc: Global, input: &mut Input<'_>, room: u32) -> Result<Items<P
 }
 
 #[tactic(auto, unfolding(sql_grammar::specs::Sql::parameters, sql_grammar::specs::Sql::parameter, sql_grammar::specs::Sql::ident))]
-fn if_parameters(alloc: Global, input: &mut Input<'_>, room: u32) -> Result<Items<Parameter>, ParseError>
+fn if_parameters(
+    alloc: Global,
+    input: &mut Input<'_>,
+    room: u32,
+) -> Result<Items<Parameter>, ParseError>
     ensures { Reads (reading rules room (rules g.Parameters) input.old.rest.now) result input.new.rest.now }
 {
     if input.sees(Kind::Name) {
@@ -134,7 +158,11 @@ fn if_parameters(alloc: Global, input: &mut Input<'_>, room: u32) -> Result<Item
 }
 
 #[tactic(auto, unfolding(sql_grammar::specs::Sql::bracketed))]
-fn function_parameters(alloc: Global, input: &mut Input<'_>, room: u32) -> Result<Items<Parameter>, ParseError>
+fn function_parameters(
+    alloc: Global,
+    input: &mut Input<'_>,
+    room: u32,
+) -> Result<Items<Parameter>, ParseError>
     ensures { Reads (reading rules room (g.bracketed g.Parameters) input.old.rest.now) result input.new.rest.now }
 {
     let left = input.open(room, Kind::Sign(Sign::LeftParen))?;
@@ -169,7 +197,11 @@ fn body(alloc: Global, input: &mut Input<'_>, room: u32) -> Result<(SqlType, Exp
 }
 
 #[tactic(auto, unfolding(sql_grammar::specs::Sql::function_definition))]
-fn function_definition(alloc: Global, input: &mut Input<'_>, room: u32) -> Result<CreateFunction, ParseError>
+fn function_definition(
+    alloc: Global,
+    input: &mut Input<'_>,
+    room: u32,
+) -> Result<CreateFunction, ParseError>
     ensures { Reads (reading rules room g.function_definition input.old.rest.now) result input.new.rest.now }
 {
     let name = ident(input, room)?;
@@ -184,7 +216,11 @@ fn function_definition(alloc: Global, input: &mut Input<'_>, room: u32) -> Resul
 }
 
 #[tactic(auto, unfolding(sql_grammar::specs::Sql::create_function))]
-fn create_function(alloc: Global, input: &mut Input<'_>, room: u32) -> Result<CreateFunction, ParseError>
+fn create_function(
+    alloc: Global,
+    input: &mut Input<'_>,
+    room: u32,
+) -> Result<CreateFunction, ParseError>
     ensures { Reads (reading rules room g.create_function input.old.rest.now) result input.new.rest.now }
 {
     input.expect(Kind::Word(Word::Function))?;

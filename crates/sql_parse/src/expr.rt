@@ -15,7 +15,11 @@ use syntax_trees::{Expr, Link};
 use token_grammar::{Input, ParseError};
 
 /// A list with one more in front.
-pub(crate) fn with_first<T: Drop>(alloc: Global, first: T, more: Items<T>) -> Result<Items<T>, AllocError>
+pub(crate) fn with_first<T: Drop>(
+    alloc: Global,
+    first: T,
+    more: Items<T>,
+) -> Result<Items<T>, AllocError>
     ensures { IfOk result (λ all. all ≡ first ∷ more) }
 {
     let mut all = Items::new(alloc);
@@ -117,7 +121,11 @@ fn factor(alloc: Global, input: &mut Input<'_>, room: u32) -> Result<Link, Parse
         Operator::Divide
     };
     let operand = primary(alloc, input, room)?;
-    Ok(Link { operator, anchor, operand })
+    Ok(Link {
+        operator,
+        anchor,
+        operand,
+    })
 }
 
 #[tactic(auto, unfolding(sql_grammar::specs::Sql::factors, sql_grammar::specs::Sql::factor))]
@@ -158,7 +166,11 @@ fn addend(alloc: Global, input: &mut Input<'_>, room: u32) -> Result<Link, Parse
         Operator::Subtract
     };
     let operand = term(alloc, input, room)?;
-    Ok(Link { operator, anchor, operand })
+    Ok(Link {
+        operator,
+        anchor,
+        operand,
+    })
 }
 
 #[tactic(auto, unfolding(sql_grammar::specs::Sql::addends, sql_grammar::specs::Sql::addend))]
@@ -203,7 +215,11 @@ fn more_exprs(alloc: Global, input: &mut Input<'_>, room: u32) -> Result<Items<E
 
 #[tactic(auto, unfolding(sql_grammar::specs::Sql::exprs))]
 #[cycle(parser)]
-pub(crate) fn exprs(alloc: Global, input: &mut Input<'_>, room: u32) -> Result<Items<Expr>, ParseError>
+pub(crate) fn exprs(
+    alloc: Global,
+    input: &mut Input<'_>,
+    room: u32,
+) -> Result<Items<Expr>, ParseError>
     ensures { Reads (reading rules room g.exprs input.old.rest.now) result input.new.rest.now }
 {
     let first = expr(alloc, input, room)?;

@@ -24,7 +24,11 @@ fn row(alloc: Global, input: &mut Input<'_>, room: u32) -> Result<Items<Expr>, P
 }
 
 #[tactic(auto, unfolding(sql_grammar::specs::Sql::more_rows))]
-fn more_rows(alloc: Global, input: &mut Input<'_>, room: u32) -> Result<Items<Items<Expr>>, ParseError>
+fn more_rows(
+    alloc: Global,
+    input: &mut Input<'_>,
+    room: u32,
+) -> Result<Items<Items<Expr>>, ParseError>
     ensures { Reads (reading rules room g.more_rows input.old.rest.now) result input.new.rest.now }
 {
     let mut found = Items::new(alloc);
@@ -47,7 +51,11 @@ fn rows(alloc: Global, input: &mut Input<'_>, room: u32) -> Result<Items<Items<E
 }
 
 #[tactic(auto, unfolding(sql_grammar::specs::Sql::inserted_rows))]
-fn inserted_rows(alloc: Global, input: &mut Input<'_>, room: u32) -> Result<Items<Items<Expr>>, ParseError>
+fn inserted_rows(
+    alloc: Global,
+    input: &mut Input<'_>,
+    room: u32,
+) -> Result<Items<Items<Expr>>, ParseError>
     ensures { Reads (reading rules room g.inserted_rows input.old.rest.now) result input.new.rest.now }
 {
     input.expect(Kind::Word(Word::Values))?;

@@ -76,7 +76,11 @@ fn from_table(input: &mut Input<'_>, room: u32) -> Result<Ident, ParseError>
 
 // FROM table [WHERE test]
 #[tactic(auto, unfolding(sql_grammar::specs::Sql::source))]
-fn source(alloc: Global, input: &mut Input<'_>, room: u32) -> Result<(Ident, Option<Test>), ParseError>
+fn source(
+    alloc: Global,
+    input: &mut Input<'_>,
+    room: u32,
+) -> Result<(Ident, Option<Test>), ParseError>
     ensures { Reads (reading rules room g.source input.old.rest.now) result input.new.rest.now }
 {
     let table = from_table(input, room)?;

@@ -1,5 +1,5 @@
 -- One token ahead decides.
-use Rattle.std.proofs.Common.{◌≡◌, true, refl, []}
+use Rattle.std.specs.Prelude.{◌≡◌, true, refl, []}
 use Rattle.token_grammar.specs.Reading.{decides, goes_on, same_kind}
 use Rattle.sql_grammar.specs.Sql as g
 use Rattle.sql_grammar.specs.Sql.{Rule, Columns, Parameters, Arguments, Row, bracketed, ident, integer, named, primary, factor_operator, factor, factors, term, addend_operator, addend, addends, expr, more_exprs, exprs, comparison, test, filter, from_table, source, selection, select_word, query, row, more_rows, rows, inserted_rows, insertion, into_table, insert, primary_key, column, more_columns, columns, parameter, more_parameters, parameters, table_definition, create_table, returns_type, return_value, body, function_definition, create_function, created, unended, statement}
