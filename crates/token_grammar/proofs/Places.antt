@@ -1,11 +1,14 @@
 -- What the reader's outcome says of places.
-use Rattle.std.proofs.Common.{◌≡◌, ℕ, zero, suc, ◌+◌, ◌-◌, ◌<◌, ◌≤◌, Bool, true, false, List, [], ◌∷◌, length, drop, Ok, Err, refl, ap, sym, ◌∙◌, subst, inl, inr, ◌⊎◌, arith, length-drop}
+use Rattle.std.proofs.Common.{◌≡◌, ℕ, zero, suc, ◌+◌, ◌-◌, ◌<◌, ◌≤◌, Bool, true, false, List, [], ◌∷◌, length, drop, Result, Ok, Err, refl, ap, sym, ◌∙◌, subst, inl, inr, ◌⊎◌, arith, length-drop}
 use Rattle.sql_lex.specs.declared.token.Kind.{Kind}
 use Rattle.sql_lex.specs.declared.token.Token.{Token}
 use Rattle.token_grammar.specs.Grammar.{Grammar, Spells, Cut, inside, begun}
 use Rattle.token_grammar.specs.Reading.{Outcome, NoSpelling, TooDeep, begins, goes_on, decides, reading}
+use Rattle.token_grammar.specs.declared.fault.ParseError.{ParseError}
+use Rattle.token_grammar.specs.declared.fault.ParseError.TheVariants as error
+use Rattle.token_grammar.specs.Reads.{Reads}
 use Rattle.token_grammar.specs.Exact.{IsSound, Gets, Reaches}
-use Rattle.token_grammar.specs.Statement.{SpellsWithin, BeginsWithin, Front, IsFurthest, IsStuck, IsTooDeep, ReadsNothing, Answers, PartAnswers, place, at_places}
+use Rattle.token_grammar.specs.Statement.{SpellsWithin, BeginsWithin, Front, IsFurthest, IsStuck, IsTooDeep, ReadsNothing, Answers, PartAnswers, place, at_places, answered}
 use Rattle.token_grammar.proofs.After.{After, drop_more, spells_after, inside_after, cut_after, begun_after}
 use Rattle.token_grammar.proofs.Shapes.{whole_begins}
 use Rattle.token_grammar.proofs.Sound.{sound}
@@ -111,3 +114,20 @@ module _ {R : Type 0} {Tree : R → Type 0} {A : Type 0} (rules : (r : R) → Gr
   reading_part_answers n g d tokens i li = part_answers rules n g tokens i li (reading rules n g (drop i tokens)) (sound rules n g (drop i tokens))
       (λ m end cut. reach_in rules n m (content_complete rules all n m) (content_reaches rules all n m) g d (drop i tokens) end cut)
       (λ x rest s far. complete_far rules n n (content_complete rules all n n) g d x (drop i tokens) rest s far)
+
+-- ---- of a parser that reads as the reader does
+
+module _ {R : Type 0} {Tree : R → Type 0} {A : Type 0} (rules : (r : R) → Grammar R Tree (Tree r)) (n : ℕ) (g : Grammar R Tree A) (tokens : List Token) (i : ℕ) where
+  pub read_answers : (o : Outcome A) → Answers rules n g tokens i (at_places tokens o) → (r : Result A ParseError) (rest : List Token) → Reads o r rest
+      → Answers rules n g tokens i (answered r (place tokens rest))
+  read_answers o a (Ok x) rest e = subst (λ z. Answers rules n g tokens i (at_places tokens z)) e a
+  read_answers o a (Err error.NoMemory) rest e = tt
+  read_answers o a (Err error.NoStatement) rest e = subst (λ z. Answers rules n g tokens i (at_places tokens z)) e a
+  read_answers o a (Err error.TooDeep) rest e = subst (λ z. Answers rules n g tokens i (at_places tokens z)) e a
+
+  pub read_part_answers : (o : Outcome A) → PartAnswers rules n g tokens i (at_places tokens o) → (r : Result A ParseError) (rest : List Token) → Reads o r rest
+      → PartAnswers rules n g tokens i (answered r (place tokens rest))
+  read_part_answers o a (Ok x) rest e = subst (λ z. PartAnswers rules n g tokens i (at_places tokens z)) e a
+  read_part_answers o a (Err error.NoMemory) rest e = tt
+  read_part_answers o a (Err error.NoStatement) rest e = subst (λ z. PartAnswers rules n g tokens i (at_places tokens z)) e a
+  read_part_answers o a (Err error.TooDeep) rest e = subst (λ z. PartAnswers rules n g tokens i (at_places tokens z)) e a

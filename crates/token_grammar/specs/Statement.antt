@@ -2,6 +2,8 @@
 -- grammar is read from place i on, where at most n constructs may be open at once.
 use Rattle.std.specs.Prelude.{◌≡◌, ℕ, zero, suc, ◌+◌, ◌-◌, ◌≤◌, List, length, drop, Result, Ok, Err}
 use Rattle.sql_lex.specs.declared.token.Token.{Token}
+use Rattle.token_grammar.specs.declared.fault.ParseError.{ParseError}
+use Rattle.token_grammar.specs.declared.fault.ParseError.TheVariants as error
 use Rattle.token_grammar.specs.declared.fault.ParseFault.{ParseFault}
 use Rattle.token_grammar.specs.declared.fault.ParseFault.TheVariants as fault
 use Rattle.token_grammar.specs.Grammar.{Grammar, Spells, Cut, inside, begun}
@@ -70,3 +72,16 @@ abbrev pub at_places : {A : Type 0} → List Token → Outcome A → Result (A �
 at_places tokens (Ok p) = Ok (p.0, place tokens p.1)
 at_places tokens (Err (NoSpelling rest)) = Err (fault.NoStatement (place tokens rest))
 at_places tokens (Err (TooDeep rest)) = Err (fault.TooDeep (place tokens rest))
+
+-- ---- of a parser's answer
+
+-- why nothing was read, with the place where the input stands
+abbrev pub fault_at : ParseError → ℕ → ParseFault
+fault_at error.NoMemory k = fault.NoMemory
+fault_at error.NoStatement k = fault.NoStatement k
+fault_at error.TooDeep k = fault.TooDeep k
+
+-- what was read, or why nothing was, with the place where the input stands
+abbrev pub answered : {A : Type 0} → Result A ParseError → ℕ → Result (A × ℕ) ParseFault
+answered (Ok x) k = Ok (x, k)
+answered (Err e) k = Err (fault_at e k)
