@@ -118,16 +118,33 @@ module _ {R : Type 0} {Tree : R → Type 0} {A : Type 0} (rules : (r : R) → Gr
 -- ---- of a parser that reads as the reader does
 
 module _ {R : Type 0} {Tree : R → Type 0} {A : Type 0} (rules : (r : R) → Grammar R Tree (Tree r)) (n : ℕ) (g : Grammar R Tree A) (tokens : List Token) (i : ℕ) where
-  pub read_answers : (o : Outcome A) → Answers rules n g tokens i (at_places tokens o) → (r : Result A ParseError) (rest : List Token) → Reads o r rest
+  read_answers : (o : Outcome A) → Answers rules n g tokens i (at_places tokens o) → (r : Result A ParseError) (rest : List Token) → Reads o r rest
       → Answers rules n g tokens i (answered r (place tokens rest))
   read_answers o a (Ok x) rest e = subst (λ z. Answers rules n g tokens i (at_places tokens z)) e a
   read_answers o a (Err error.NoMemory) rest e = tt
   read_answers o a (Err error.NoStatement) rest e = subst (λ z. Answers rules n g tokens i (at_places tokens z)) e a
   read_answers o a (Err error.TooDeep) rest e = subst (λ z. Answers rules n g tokens i (at_places tokens z)) e a
 
-  pub read_part_answers : (o : Outcome A) → PartAnswers rules n g tokens i (at_places tokens o) → (r : Result A ParseError) (rest : List Token) → Reads o r rest
+  read_part_answers : (o : Outcome A) → PartAnswers rules n g tokens i (at_places tokens o) → (r : Result A ParseError) (rest : List Token) → Reads o r rest
       → PartAnswers rules n g tokens i (answered r (place tokens rest))
   read_part_answers o a (Ok x) rest e = subst (λ z. PartAnswers rules n g tokens i (at_places tokens z)) e a
   read_part_answers o a (Err error.NoMemory) rest e = tt
   read_part_answers o a (Err error.NoStatement) rest e = subst (λ z. PartAnswers rules n g tokens i (at_places tokens z)) e a
   read_part_answers o a (Err error.TooDeep) rest e = subst (λ z. PartAnswers rules n g tokens i (at_places tokens z)) e a
+
+module _ {R : Type 0} {Tree : R → Type 0} {A : Type 0} (rules : (r : R) → Grammar R Tree (Tree r)) (all : (r : R) → decides rules (rules r) ≡ true) where
+  -- of a grammar with an end of its own: ts are the tokens from i on, and k is the place where the input stands afterwards
+  pub parsed : (n : ℕ) (g : Grammar R Tree A) → decides rules g ≡ true → goes_on g ≡ [] → (tokens : List Token) (i : ℕ) → i ≤ length tokens
+      → (ts : List Token) → ts ≡ drop i tokens → (r : Result A ParseError) (rest : List Token) → Reads (reading rules n g ts) r rest
+      → (k : ℕ) → k ≡ place tokens rest → Answers rules n g tokens i (answered r k)
+  parsed n g d e tokens i li ts et r rest reads k ek = subst (λ z. Answers rules n g tokens i (answered r z)) (sym ek)
+      (read_answers rules n g tokens i (reading rules n g (drop i tokens)) (reading_answers rules all n g d e tokens i li) r rest
+      (subst (λ z. Reads (reading rules n g z) r rest) et reads))
+
+  -- of a part
+  pub parsed_part : (n : ℕ) (g : Grammar R Tree A) → decides rules g ≡ true → (tokens : List Token) (i : ℕ) → i ≤ length tokens
+      → (ts : List Token) → ts ≡ drop i tokens → (r : Result A ParseError) (rest : List Token) → Reads (reading rules n g ts) r rest
+      → (k : ℕ) → k ≡ place tokens rest → PartAnswers rules n g tokens i (answered r k)
+  parsed_part n g d tokens i li ts et r rest reads k ek = subst (λ z. PartAnswers rules n g tokens i (answered r z)) (sym ek)
+      (read_part_answers rules n g tokens i (reading rules n g (drop i tokens)) (reading_part_answers rules all n g d tokens i li) r rest
+      (subst (λ z. Reads (reading rules n g z) r rest) et reads))

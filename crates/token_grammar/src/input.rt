@@ -83,12 +83,11 @@ impl<'a> Input<'a> {
         }
     }
 
-    /// The place in these tokens from which they are left.
+    /// The place in these tokens from which they are left, where they are left of these.
     pub fn place_in(&self, tokens: &[Token]) -> usize
-        requires { length self.now.rest.now ≤ length tokens.now }
         ensures { result ≡ place tokens.now self.now.rest.now }
     {
-        tokens.len() - self.rest.len()
+        tokens.len().saturating_sub(self.rest.len())
     }
 
     /// The kind of the next token, if there is one.
