@@ -7,3 +7,4 @@ pub mod After
 pub mod Further
 pub mod Places
 pub mod Turns
+pub mod Depth

@@ -192,11 +192,12 @@ module _ {R : Type 0} {Tree : R → Type 0} (rules : (r : R) → Grammar R Tree 
 
   -- an item at its stage: `while` an item of the stage begins
   pub staged_step : {A : Type 0} (n : ℕ) (item : Stage → Grammar R Tree A) (f : Stage → A → Stage) → ((t : Stage) → nullable (item t) ≡ false)
-      → (found found' : List A) (stage : Stage) (ts next : List Token) (x : A) (b : Bool) (whole : Outcome (List A))
+      → (found found' : List A) (stage stage' : Stage) (ts next : List Token) (x : A) (b : Bool) (whole : Outcome (List A))
       → with_front found (reading rules n (staged item f stage) ts) ≡ whole → b ≡ begins (first (item stage)) ts → b ≡ true → reading rules n (item stage) ts ≡ Ok (x, next) → found' ≡ found ++ x ∷ []
-      → with_front found' (reading rules n (staged item f (f stage x)) next) ≡ whole
-  staged_step n item f nn found found' stage ts next x b whole inv eb tb r e =
-      ap (λ z. with_front z (reading rules n (staged item f (f stage x)) next)) e
+      → stage' ≡ f stage x → with_front found' (reading rules n (staged item f stage') next) ≡ whole
+  staged_step n item f nn found found' stage stage' ts next x b whole inv eb tb r e es =
+      ap (λ z. with_front z (reading rules n (staged item f stage') next)) e
+      ∙ ap (λ z. with_front (found ++ x ∷ []) (reading rules n (staged item f z) next)) es
       ∙ sym (ap (with_front found) (from_step n item f nn (length ts) stage ts x next refl (sym eb ∙ tb) r) ∙ fronts found x (reading rules n (staged item f (f stage x)) next)) ∙ inv
 
   pub staged_err : {A : Type 0} (n : ℕ) (item : Stage → Grammar R Tree A) (f : Stage → A → Stage) (found : List A) (stage : Stage) (ts rest : List Token) (b : Bool) (whole : Outcome (List A)) (e : ParseError)

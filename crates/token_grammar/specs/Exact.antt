@@ -1,5 +1,7 @@
 -- What an outcome of reading says of the tokens.
 use Rattle.std.specs.Prelude.{◌≡◌, ℕ, zero, suc, ◌<◌, ◌≤◌, List, [], ◌∷◌, length, Ok, Err, ◌⊎◌}
+use Rattle.sql_lex.specs.Tokens.{kind_of}
+use Rattle.sql_lex.specs.declared.token.Kind.{Kind}
 use Rattle.sql_lex.specs.declared.token.Token.{Token}
 use Rattle.token_grammar.specs.Grammar.{Grammar, Spells, Cut, inside, begun}
 use Rattle.token_grammar.specs.Reading.{Outcome, Fault, NoSpelling, TooDeep}
@@ -22,3 +24,9 @@ abbrev pub Reaches : {A : Type 0} → ℕ → ℕ → Outcome A → List Token �
 Reaches n m (Ok p) end = length p.1 ≤ length end
 Reaches n m (Err (NoSpelling rest)) end = length rest ≤ length end
 Reaches n m (Err (TooDeep rest)) end = (length rest ≤ length end) ⊎ (n < m)
+
+-- a token of such a kind, where there was no room
+abbrev pub DeepAt : {A : Type 0} → (Kind → Type 0) → Outcome A → Type 0
+DeepAt opens (Ok p) = Unit {0}
+DeepAt opens (Err (NoSpelling rest)) = Unit {0}
+DeepAt opens (Err (TooDeep rest)) = (t : Token) × (more : List Token) × (rest ≡ t ∷ more) × opens (kind_of t.lexeme)

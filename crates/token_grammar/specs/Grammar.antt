@@ -93,3 +93,18 @@ inside rules (suc n) = λ r x tokens rest. Spells (inside rules n) (rules r) x t
 abbrev pub begun : {R : Type 0} {Tree : R → Type 0} → ((r : R) → Grammar R Tree (Tree r)) → ℕ → Begun R
 begun rules zero = λ r tokens end. ⊥
 begun rules (suc n) = λ r tokens end. Cut (inside rules n) (begun rules n) (rules r) tokens end
+
+-- The kind opens a construct of the grammar, outside all others.
+abbrev pub OpensHere : {R : Type 0} {Tree : R → Type 0} {A : Type 0} → Grammar R Tree A → Kind → Type 0
+OpensHere (token kind) k = ⊥
+OpensHere (nested opening r closing) k = k ≡ opening
+OpensHere (both g h) k = OpensHere g k ⊎ OpensHere h k
+OpensHere (either g h) k = OpensHere g k ⊎ OpensHere h k
+OpensHere (optional g) k = OpensHere g k
+OpensHere (many g) k = OpensHere g k
+OpensHere (staged item next stage) k = (s : Stage) × OpensHere (item s) k
+OpensHere (map_to f g) k = OpensHere g k
+
+-- The kind opens a construct of the grammar, or of what stands in one.
+abbrev pub Opens : {R : Type 0} {Tree : R → Type 0} {A : Type 0} → ((r : R) → Grammar R Tree (Tree r)) → Grammar R Tree A → Kind → Type 0
+Opens {R = R} rules g k = OpensHere g k ⊎ ((r : R) × OpensHere (rules r) k)

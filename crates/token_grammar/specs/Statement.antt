@@ -1,10 +1,13 @@
 -- What reading says of a statement, and of a part of one, by places in a list of tokens. A place is a token's number, from 0; a
 -- grammar is read from place i on, where at most n constructs may be open at once.
-use Rattle.std.specs.Prelude.{◌≡◌, ℕ, zero, suc, ◌+◌, ◌-◌, ◌≤◌, List, length, drop, Result, Ok, Err}
+use Rattle.std.specs.Prelude.{◌≡◌, ℕ, zero, suc, ◌+◌, ◌-◌, ◌≤◌, List, ◌∷◌, length, drop, Result, Ok, Err}
+use Rattle.sql_lex.specs.Tokens.{kind_of}
 use Rattle.sql_lex.specs.declared.token.Token.{Token}
+use Rattle.token_grammar.specs.declared.fault.ParseError.{ParseError}
+use Rattle.token_grammar.specs.declared.fault.ParseError.TheVariants as error
 use Rattle.token_grammar.specs.declared.fault.ParseFault.{ParseFault}
 use Rattle.token_grammar.specs.declared.fault.ParseFault.TheVariants as fault
-use Rattle.token_grammar.specs.Grammar.{Grammar, Spells, Cut, inside, begun}
+use Rattle.token_grammar.specs.Grammar.{Grammar, Spells, Cut, inside, begun, Opens}
 use Rattle.token_grammar.specs.Reading.{Outcome, NoSpelling, TooDeep}
 
 -- how many constructs may be open at once in a statement
@@ -33,9 +36,13 @@ module _ {R : Type 0} {Tree : R → Type 0} {A : Type 0} (rules : (r : R) → Gr
   abbrev pub IsStuck : ℕ → Grammar R Tree A → List Token → ℕ → ℕ → Type 0
   IsStuck n g tokens i k = IsFurthest n g tokens i k × (Front g tokens i (k + 1) → ⊥)
 
-  -- No beginning goes further, but one goes on by the token at k with one construct more open.
+  -- The token at k is of a kind that opens a construct.
+  abbrev pub OpensAt : Grammar R Tree A → List Token → ℕ → Type 0
+  OpensAt g tokens k = (t : Token) × (more : List Token) × (drop k tokens ≡ t ∷ more) × Opens rules g (kind_of t.lexeme)
+
+  -- No beginning goes further with at most n constructs open, but one goes on by the token at k, which opens one more.
   abbrev pub IsTooDeep : ℕ → Grammar R Tree A → List Token → ℕ → ℕ → Type 0
-  IsTooDeep n g tokens i k = IsFurthest n g tokens i k × BeginsWithin rules (suc n) g tokens i (k + 1)
+  IsTooDeep n g tokens i k = IsFurthest n g tokens i k × BeginsWithin rules (suc n) g tokens i (k + 1) × OpensAt g tokens k
 
   -- Nothing is read from i on.
   abbrev pub ReadsNothing : ℕ → Grammar R Tree A → List Token → ℕ → Type 0
@@ -70,3 +77,16 @@ abbrev pub at_places : {A : Type 0} → List Token → Outcome A → Result (A �
 at_places tokens (Ok p) = Ok (p.0, place tokens p.1)
 at_places tokens (Err (NoSpelling rest)) = Err (fault.NoStatement (place tokens rest))
 at_places tokens (Err (TooDeep rest)) = Err (fault.TooDeep (place tokens rest))
+
+-- ---- of a parser's answer
+
+-- why nothing was read, with the place where the input stands
+abbrev pub fault_at : ParseError → ℕ → ParseFault
+fault_at error.NoMemory k = fault.NoMemory
+fault_at error.NoStatement k = fault.NoStatement k
+fault_at error.TooDeep k = fault.TooDeep k
+
+-- what was read, or why nothing was, with the place where the input stands
+abbrev pub answered : {A : Type 0} → Result A ParseError → ℕ → Result (A × ℕ) ParseFault
+answered (Ok x) k = Ok (x, k)
+answered (Err e) k = Err (fault_at e k)

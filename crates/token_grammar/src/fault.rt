@@ -14,6 +14,22 @@ pub enum ParseError {
     TooDeep,
 }
 
+impl ParseError {
+    ghost use Rattle.std.specs.Prelude.{◌≡◌};
+    ghost use Rattle.token_grammar.specs.Statement.{fault_at};
+
+    /// The same, with the place where the input stands.
+    pub fn at(self, place: usize) -> ParseFault
+        ensures { result ≡ fault_at self place }
+    {
+        match self {
+            ParseError::NoMemory => ParseFault::NoMemory,
+            ParseError::NoStatement => ParseFault::NoStatement(place),
+            ParseError::TooDeep => ParseFault::TooDeep(place),
+        }
+    }
+}
+
 impl From<AllocError> for ParseError {
     ghost use Rattle.std.specs.Prelude.{◌≡◌};
     ghost use Rattle.token_grammar.specs.declared.fault.ParseError.TheVariants.{NoMemory};

@@ -1,18 +1,22 @@
 //! A place in the tokens, from which a parser by recursive descent reads.
 
-ghost use Rattle.std.specs.Prelude.{◌≡◌, [], ◌∷◌, drop, cond};
+ghost use Rattle.std.specs.Prelude.{◌≡◌, [], ◌∷◌, ◌≤◌, length, drop, cond, true, IfOk, IfErr};
 ghost use Rattle.sql_lex.specs.declared.token.Kind.TheVariants as kinds;
+ghost use Rattle.sql_lex.specs.Tokens.{kind_of};
+ghost use Rattle.token_grammar.specs.declared.fault.ParseError.TheVariants as errors;
 ghost use Rattle.token_grammar.specs.Notation.{name_of, number_of, text_of};
 ghost use Rattle.token_grammar.specs.Reading.{next_kind, next_token, begins, expect, enter, mapped, same_kind};
 ghost use Rattle.token_grammar.specs.Reads.{Reads, lent};
+ghost use Rattle.token_grammar.specs.Statement.{place};
 
 use crate::fault::ParseError;
 use sql_lex::{Kind, Lexeme, Token};
-use sql_values::{Name, Text};
+use sql_values::{Name, NoMemory, Text};
 
 #[tactic(auto, unfolding(crate::specs::Reading::same_kind))]
 fn is_same(a: Kind, b: Kind) -> bool
-    ensures { result ≡ same_kind a b }
+    ensures same { result ≡ same_kind a b }
+    ensures means { result ≡ true → a ≡ b }
 {
     match a {
         Kind::Name => matches!(b, Kind::Name),
@@ -30,6 +34,38 @@ fn is_same(a: Kind, b: Kind) -> bool
     }
 }
 
+/// The name that a token spells. NoMemory: there is none for the copy.
+pub fn name_in(token: &Token) -> Result<Name, NoMemory>
+    requires { kind_of token.now.lexeme ≡ kinds.Name }
+    ensures { IfOk result (λ n. n ≡ name_of token.now.lexeme) }
+{
+    match &token.lexeme {
+        Lexeme::Name(name) => name.copied(),
+        _ => unreachable!(),
+    }
+}
+
+/// The text that a token spells.
+pub fn text_in(token: &Token) -> &Text
+    requires { kind_of token.now.lexeme ≡ kinds.Text }
+    ensures { result.now ≡ text_of token.now.lexeme }
+{
+    match &token.lexeme {
+        Lexeme::Text(text) => text,
+        _ => unreachable!(),
+    }
+}
+
+/// The whole number that a token spells, or 0.
+pub fn number_in(token: &Token) -> i64
+    ensures { result ≡ number_of token.now.lexeme }
+{
+    match token.lexeme {
+        Lexeme::Number(number) => number,
+        _ => 0,
+    }
+}
+
 /// The tokens that are left.
 #[derive(Drop)]
 pub struct Input<'a> {
@@ -37,6 +73,23 @@ pub struct Input<'a> {
 }
 
 impl<'a> Input<'a> {
+    /// The tokens from a place on.
+    pub fn from_place(tokens: &'a [Token], at: usize) -> Input<'a>
+        requires { at ≤ length tokens.now }
+        ensures { result.rest.now ≡ drop at tokens.now }
+    {
+        Input {
+            rest: &tokens[at..],
+        }
+    }
+
+    /// The place in these tokens from which they are left, where they are left of these.
+    pub fn place_in(&self, tokens: &[Token]) -> usize
+        ensures { result ≡ place tokens.now self.now.rest.now }
+    {
+        tokens.len().saturating_sub(self.rest.len())
+    }
+
     /// The kind of the next token, if there is one.
     pub fn peek(&self) -> Option<Kind>
         ensures { result ≡ next_kind self.now.rest.now }
@@ -88,59 +141,19 @@ impl<'a> Input<'a> {
         found
     }
 
-    /// Reads a token of the kind and answers its number. NoStatement: another token stands here, or none.
-    pub fn expect(&mut self, kind: Kind) -> Result<usize, ParseError>
-        ensures { Reads (mapped (λ t. t.number) (expect kind self.old.rest.now)) result self.new.rest.now }
-    {
-        let place = self.place();
-        if self.eat(kind) {
-            Ok(place)
-        } else {
-            Err(ParseError::NoStatement)
-        }
-    }
-
-    /// Reads a name. NoStatement: no name stands here. NoMemory: there is none for the copy.
+    /// Reads a token of the kind. NoStatement: another token stands here, or none.
     #[tactic(auto, unfolding(crate::specs::Reading::same_kind))]
-    pub fn name(&mut self) -> Result<Name, ParseError>
-        ensures { Reads (mapped (λ t. name_of t.lexeme) (expect kinds.Name self.old.rest.now)) result self.new.rest.now }
+    pub fn expect(&mut self, kind: Kind) -> Result<&'a Token, ParseError>
+        ensures reads { Reads (expect kind self.old.rest.now) (lent result) self.new.rest.now }
+        ensures fits { IfOk result (λ t. kind_of t.now.lexeme ≡ kind) }
     {
-        if let [token, rest @ ..] = self.rest {
-            if let Lexeme::Name(name) = &token.lexeme {
-                let copy = name.copied()?;
+        match self.rest {
+            [token, rest @ ..] if is_same(token.kind(), kind) => {
                 self.rest = rest;
-                return Ok(copy);
+                Ok(token)
             }
+            _ => Err(ParseError::NoStatement),
         }
-        Err(ParseError::NoStatement)
-    }
-
-    /// Reads a whole number. NoStatement: no number stands here.
-    #[tactic(auto, unfolding(crate::specs::Reading::same_kind))]
-    pub fn number(&mut self) -> Result<i64, ParseError>
-        ensures { Reads (mapped (λ t. number_of t.lexeme) (expect kinds.Number self.old.rest.now)) result self.new.rest.now }
-    {
-        if let [token, rest @ ..] = self.rest {
-            if let Lexeme::Number(number) = token.lexeme {
-                self.rest = rest;
-                return Ok(number);
-            }
-        }
-        Err(ParseError::NoStatement)
-    }
-
-    /// Reads a text. NoStatement: no text stands here.
-    #[tactic(auto, unfolding(crate::specs::Reading::same_kind))]
-    pub fn text(&mut self) -> Result<&'a Text, ParseError>
-        ensures { Reads (mapped (λ t. text_of t.lexeme) (expect kinds.Text self.old.rest.now)) (lent result) self.new.rest.now }
-    {
-        if let [token, rest @ ..] = self.rest {
-            if let Lexeme::Text(text) = &token.lexeme {
-                self.rest = rest;
-                return Ok(text);
-            }
-        }
-        Err(ParseError::NoStatement)
     }
 
     /// Opens a construct by a token of the kind, and answers how many more may be opened in it. NoStatement: another token
