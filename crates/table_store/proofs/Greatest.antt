@@ -1,10 +1,10 @@
 -- A row whose key is above all others: it comes last, and its key stands once.
-use Rattle.std.proofs.Common.{ℕ, ◌≡◌, Bool, true, false, List, [], ◌∷◌, ◌++◌, refl, sym, ap, ◌∙◌, arith, subst, cond, not, ◌&&◌, ◌||◌, append_assoc, Option, Some, None}
+use Rattle.std.proofs.Common.{ℕ, ◌≡◌, Bool, true, false, List, [], ◌∷◌, ◌++◌, refl, sym, ap, ◌∙◌, not, ◌&&◌, ◌||◌}
 use Rattle.std.specs.List.{list_any, list_all}
 use Rattle.rel_algebra.specs.Tables.{Row, key_of, has_key, has_null_key, repeats_key, put, in_key_order}
 use Rattle.table_store.specs.Keys.{precedes, precedes_first, rises, all_below}
-use Rattle.table_store.proofs.Order.{cases, precedes-trans, precedes-asym, has_key-below, has_key-above, has_key-same, above}
-use Rattle.table_store.proofs.Puts.{left, right, both, no_left, no_right, to_not, from_not, list_any-append, meets, repeats-append, put-front, put-past, in_order-rises, tail-rises, head-rises, null-rises}
+use Rattle.table_store.proofs.Order.{cases, precedes-trans, precedes-asym, has_key-below, has_key-above}
+use Rattle.table_store.proofs.Puts.{left, right, both, to_not, put-front, put-past, tail-rises, head-rises, null-rises}
 
 abbrev all_above : ℕ → Row → List Row → Bool
 all_above key x rows = list_all (λ r. precedes key x r) rows

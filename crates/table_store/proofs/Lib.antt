@@ -3,3 +3,4 @@ pub mod Puts
 pub mod Greatest
 pub mod Steps
 pub mod Whole
+pub mod Names

@@ -1,11 +1,10 @@
 -- The order of two and three keys.
-use Rattle.std.proofs.Common.{ℕ, ◌≡◌, Bool, true, false, List, [], ◌∷◌, refl, sym, ap, ◌∙◌, arith, subst, cond, not, ◌&&◌, ◌||◌, ℤ, get_or}
+use Rattle.std.proofs.Common.{ℕ, ◌≡◌, Bool, true, false, refl, ◌∙◌, arith, ℤ}
 use Rattle.std.proofs.lemmas.Int.{ints}
 use Rattle.sql_values.specs.declared.value.Value.{Value}
 use Rattle.sql_values.specs.declared.value.Value.TheVariants.{Null, Int}
 use Rattle.sql_values.specs.declared.operators.Comparison.TheVariants.{Equals, LessThan}
-use Rattle.sql_values.specs.Operators.{compared, is_true_in, allows}
-use Rattle.sql_values.specs.Values.{int_order, order_of}
+use Rattle.sql_values.specs.Operators.{compared}
 use Rattle.rel_algebra.specs.Tables.{Row, key_of, has_key, has_null_key, is_null}
 use Rattle.table_store.specs.Keys.{precedes}
 

@@ -1,9 +1,9 @@
 -- Rows put in key order.
-use Rattle.std.proofs.Common.{ℕ, ◌≡◌, Bool, true, false, List, [], ◌∷◌, ◌++◌, refl, sym, ap, ◌∙◌, arith, subst, cond, not, ◌&&◌, ◌||◌, append_assoc, Option, Some, None}
-use Rattle.std.specs.List.{list_any, list_all}
-use Rattle.rel_algebra.specs.Tables.{Row, key_of, has_key, has_null_key, repeats_key, put, in_key_order, inserted}
+use Rattle.std.proofs.Common.{ℕ, ◌≡◌, Bool, true, false, List, [], ◌∷◌, ◌++◌, refl, sym, ap, ◌∙◌, cond, not, ◌&&◌, ◌||◌}
+use Rattle.std.specs.List.{list_any}
+use Rattle.rel_algebra.specs.Tables.{Row, key_of, has_key, has_null_key, repeats_key, put, in_key_order}
 use Rattle.table_store.specs.Keys.{precedes, precedes_first, rises}
-use Rattle.table_store.proofs.Order.{cases, precedes-trans, precedes-asym, has_key-swapped, has_key-below, has_key-above, has_key-same, above}
+use Rattle.table_store.proofs.Order.{cases, precedes-trans, precedes-asym, has_key-swapped, above}
 
 -- Tests.
 pub left : (a b : Bool) → (a && b) ≡ true → a ≡ true

@@ -1,17 +1,17 @@
 -- The steps of a walk through rows in key order, and what stands at the end.
-use Rattle.std.proofs.Common.{ℕ, ◌≡◌, ◌<◌, ◌≤◌, ◌+◌, ◌-◌, zero, suc, Bool, true, false, List, [], ◌∷◌, ◌++◌, refl, sym, ap, ◌∙◌, arith, subst, cond, not, ◌&&◌, ◌||◌, append_assoc, Option, Some, None, length, take, drop, get_or, reverse, length-append}
-use Rattle.std.proofs.lemmas.List.{append-nil, take_more, take-append-drop, take_all, reverse-append}
+use Rattle.std.proofs.Common.{ℕ, ◌≡◌, ◌<◌, ◌≤◌, ◌+◌, ◌-◌, zero, suc, Bool, true, false, List, [], ◌∷◌, ◌++◌, refl, sym, ap, ◌∙◌, arith, subst, ◌||◌, append_assoc, None, length, take, drop, get_or, length-append}
+use Rattle.std.proofs.lemmas.List.{append-nil, take_more, take-append-drop, take_all}
 use Rattle.std.proofs.lemmas.Option.{unwrap_or-slice_get}
 use Rattle.std.specs.Prelude.{slice_get, unwrap_or}
-use Rattle.std.specs.List.{list_any, list_all}
+use Rattle.std.specs.List.{list_any}
 use Rattle.sql_values.specs.declared.value.Value.{Value}
 use Rattle.sql_values.specs.declared.value.Value.TheVariants.{Null, Int}
 use Rattle.sql_values.specs.declared.operators.Comparison.TheVariants.{LessThan}
 use Rattle.sql_values.specs.Operators.{compared}
-use Rattle.rel_algebra.specs.Tables.{Row, key_of, has_key, has_null_key, repeats_key, put, in_key_order, inserted, is_null}
-use Rattle.table_store.specs.Keys.{precedes, precedes_first, rises, all_below, Tops}
-use Rattle.table_store.proofs.Order.{cases, has_key-same, above}
-use Rattle.table_store.proofs.Puts.{both, no_left, no_right, list_any-append, meets, repeats-append, in_order-rises}
+use Rattle.rel_algebra.specs.Tables.{Row, key_of, has_key, has_null_key, repeats_key, in_key_order, is_null}
+use Rattle.table_store.specs.Keys.{precedes, rises, all_below, Tops}
+use Rattle.table_store.proofs.Order.{cases, has_key-same}
+use Rattle.table_store.proofs.Puts.{both, no_left, no_right, list_any-append, meets, repeats-append}
 use Rattle.table_store.proofs.Greatest.{below-trans, all-append, in_order-greatest, repeats-greatest, last-below, last-null, front-rises, repeats-rises, append-rises}
 
 -- Keys that a row lacks.

@@ -1,15 +1,14 @@
 -- What an insert leaves, by halves.
-use Rattle.std.proofs.Common.{ℕ, ◌≡◌, Bool, true, false, List, [], ◌∷◌, ◌++◌, refl, sym, ap, ◌∙◌, arith, subst, cond, not, ◌&&◌, ◌||◌, append_assoc, Option, Some, None, take, drop, reverse, length, ◌≤◌}
+use Rattle.std.proofs.Common.{ℕ, ◌≡◌, Bool, true, false, List, [], ◌∷◌, ◌++◌, refl, sym, ap, ◌∙◌, arith, cond, ◌||◌, Option, Some, None, take, drop, reverse, length, ◌≤◌}
 use Rattle.std.proofs.lemmas.List.{append-nil, take-append-drop}
 use Rattle.std.specs.List.{list_any}
 use Rattle.std.specs.Option.{option_map}
 use Rattle.std.specs.declared.vec.Vec.{Vec}
 use Rattle.std.specs.declared.alloc.Global.{Global}
 use Rattle.sql_values.specs.declared.value.Value.{Value}
-use Rattle.rel_algebra.specs.Tables.{Row, Table, key_of, has_key, has_null_key, repeats_key, put, in_key_order, inserted}
+use Rattle.rel_algebra.specs.Tables.{Row, Table, has_null_key, repeats_key, in_key_order, inserted}
 use Rattle.table_store.specs.Keys.{rises}
 use Rattle.table_store.specs.Inserting.{answer_to, rows_with, table_with, united}
-use Rattle.table_store.specs.declared.inserted.Inserted.{Inserted}
 use Rattle.table_store.specs.declared.inserted.Inserted.TheVariants.{Stored, Refused}
 use Rattle.table_store.proofs.Puts.{no_left, no_right, list_any-append, meets, repeats-append, repeats-before, repeats-behind, in_order-before, in_order-behind, in_order-rises, nulls-rises, rises-in_order}
 

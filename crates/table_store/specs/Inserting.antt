@@ -1,5 +1,5 @@
 -- What an INSERT leaves and answers.
-use Rattle.std.specs.Prelude.{ℕ, Bool, true, false, List, [], ◌∷◌, ◌++◌, if◌then◌else◌, Option, Some, None, IsTrue}
+use Rattle.std.specs.Prelude.{◌≡◌, ◌<◌, length, slice_index_or, slice_set, ℕ, List, [], ◌++◌, if◌then◌else◌, Option, Some, None, IsTrue}
 use Rattle.rel_algebra.specs.Tables.{Row, Table, Tables, Stored as Named, table_named, with_rows, repeats_key, in_key_order, inserted}
 use Rattle.table_store.specs.Keys.{rises}
 use Rattle.table_store.specs.declared.inserted.Inserted.{Inserted}
@@ -37,3 +37,9 @@ rows_with (Some more) rows = more
 abbrev pub AllRise : ℕ → Option (List Row) → Type 0
 AllRise key None = Unit {0}
 AllRise key (Some rows) = IsTrue (rises key rows)
+
+-- the first table of a name stands at this place
+pub record IsFirstNamed (name : List ℕ) (tables : Tables) (place : ℕ) : Type 0 where
+  pub within : place < length tables
+  pub table : (d : Named) → table_named name tables ≡ Some (slice_index_or tables place d).table
+  pub rows : (rows : List Row) (d : Named) → with_rows name rows tables ≡ slice_set tables place (record { name = (slice_index_or tables place d).name; table = record (slice_index_or tables place d).table { rows = rows } })

@@ -1,5 +1,5 @@
 -- The order of rows by their keys.
-use Rattle.std.specs.Prelude.{◌≡◌, ℕ, ◌&&◌, Bool, true, false, not, List, [], ◌∷◌, ◌++◌}
+use Rattle.std.specs.Prelude.{◌≡◌, ℕ, ◌&&◌, Bool, true, not, List, [], ◌∷◌, ◌++◌}
 use Rattle.std.specs.List.{list_all}
 use Rattle.sql_values.specs.Operators.{compared}
 use Rattle.sql_values.specs.declared.operators.Comparison.TheVariants.{LessThan}

@@ -1,5 +1,4 @@
-use Rattle.std.proofs.Common.{arith, sym, ◌∙◌, ◌≡◌, true}
-use Rattle.table_store.specs.Keys.{all_below}
+use Rattle.std.proofs.Common.{sym, ◌∙◌}
 use Rattle.table_store.proofs.Steps.{order-first, order-second, repeats-first, repeats-second, rises-front, greatest_there}
 use Rattle.table_store.proofs.merge.take_greatest.Goals as goal
 

@@ -1,4 +1,4 @@
-use Rattle.std.proofs.Common.{sym, ap, ◌∙◌}
+use Rattle.std.proofs.Common.{sym, ◌∙◌}
 use Rattle.table_store.proofs.Whole.{refused_first, refused_second, by_halves, halves, stored_is, refused_is, none_of, some_of}
 use Rattle.table_store.proofs.sort.+in_order.Goals as goal
 

@@ -1,6 +1,6 @@
-use Rattle.std.proofs.Common.{◌≡◌, ◌∙◌, ap, sym, subst, IsTrue}
+use Rattle.std.proofs.Common.{◌≡◌, ◌∙◌, ap, subst}
 use Rattle.rel_algebra.specs.Tables.{Table, inserted}
-use Rattle.table_store.specs.declared.inserted.Inserted.TheVariants.{Stored, Refused}
+use Rattle.table_store.specs.declared.inserted.Inserted.TheVariants.{Refused}
 use Rattle.table_store.specs.Inserting.{answer_to, table_with, rows_with}
 use Rattle.table_store.proofs.Whole.{refused_alone, into_rows, rows_in_table, none_of, some_of}
 use Rattle.table_store.proofs.table.Table.insert.Goals as goal
