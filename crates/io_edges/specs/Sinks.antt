@@ -1,5 +1,5 @@
 -- What the sinks tell of themselves.
-use Rattle.std.specs.Prelude.{◌≡◌, ℕ, Bool, true, false, length, min, Option, Some, Result, IfOk, MatchResult}
+use Rattle.std.specs.Prelude.{◌≡◌, ℕ, true, false, min, Option, Some, Result, IfOk, MatchResult}
 use Rattle.io_edges.specs.Course.{Course, course_of, fails_now}
 use Rattle.io_edges.specs.Told.{Told, IsWithin}
 use Rattle.io_edges.specs.declared.memory.MemSink.{MemSink}

@@ -9,6 +9,8 @@ mod sink;
 mod source;
 mod standard;
 mod sure;
+#[cfg(test)]
+mod tests;
 
 pub use memory::{MemSink, MemSource};
 pub use sink::Sink;

@@ -65,8 +65,7 @@ impl Source for MemSource {
         ensures course { mem_source_course self.new ≡ one_later (mem_source_course self.old) }
     {
         if self.calls.fails_now() {
-            self.faults = self.faults.saturating_add(1);
-            return Err(Failed);
+            return Err(Failed::counted(&mut self.faults));
         }
         let count = (self.bytes.len() - self.at)
             .min(buf.len())
@@ -148,13 +147,11 @@ impl Sink for MemSink {
         ensures course { mem_sink_course self.new ≡ one_later (mem_sink_course self.old) }
     {
         if self.calls.fails_now() {
-            self.faults = self.faults.saturating_add(1);
-            return Err(Failed);
+            return Err(Failed::counted(&mut self.faults));
         }
         let count = piece.len().min(self.calls.per_call());
         if self.bytes.extend_from_slice(&piece[..count]).is_err() {
-            self.faults = self.faults.saturating_add(1);
-            return Err(Failed);
+            return Err(Failed::counted(&mut self.faults));
         }
         Ok(count)
     }
@@ -167,8 +164,7 @@ impl Sink for MemSink {
         ensures course { mem_sink_course self.new ≡ one_later (mem_sink_course self.old) }
     {
         if self.calls.fails_now() {
-            self.faults = self.faults.saturating_add(1);
-            return Err(Failed);
+            return Err(Failed::counted(&mut self.faults));
         }
         self.flushed = self.bytes.len();
         Ok(())

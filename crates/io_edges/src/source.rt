@@ -1,5 +1,5 @@
 //! The source of a script, read piece by piece.
-ghost use Rattle.std.specs.Prelude.{ℕ, List, Option};
+ghost use Rattle.std.specs.Prelude.{◌≡◌, ◌≤◌, ◌+◌, ◌-◌, ◌^◌, ℕ, min, List, Option};
 ghost use Rattle.std.specs.Io.{ReadsAtMost};
 ghost use Rattle.std.specs.Io.KnownBytes.{ReadConsumes};
 ghost use Rattle.io_edges.specs.Causes.{HasCause};
@@ -7,6 +7,17 @@ ghost use Rattle.io_edges.specs.Causes.{HasCause};
 /// A call of a source or a sink failed, and took nothing.
 #[derive(Clone, Copy, Debug, PartialEq, Eq)]
 pub struct Failed;
+
+impl Failed {
+    // Counts a fault, up to the last value of the count.
+    pub(crate) fn counted(faults: &mut u64) -> Failed
+        ensures count { faults.new ≡ min (faults.old + 1) (2 ^ 64 - 1) }
+        ensures later { faults.old ≤ faults.new }
+    {
+        *faults = faults.saturating_add(1);
+        Failed
+    }
+}
 
 /// Where bytes come from.
 pub trait Source {

@@ -26,6 +26,13 @@ impl<R: Read + Drop> StdSource<R> {
     {
         StdSource { inner, faults: 0 }
     }
+
+    /// How often it has failed.
+    pub fn faults(&self) -> u64
+        ensures { result ≡ std_source_faults self.now }
+    {
+        self.faults
+    }
 }
 
 impl<R: Read + Drop> Source for StdSource<R> {
@@ -45,10 +52,7 @@ impl<R: Read + Drop> Source for StdSource<R> {
     {
         match self.inner.read(buf) {
             Ok(count) => Ok(count),
-            Err(_) => {
-                self.faults = self.faults.saturating_add(1);
-                Err(Failed)
-            }
+            Err(_) => Err(Failed::counted(&mut self.faults)),
         }
     }
 }
@@ -69,6 +73,20 @@ impl<W: Write + Drop> StdSink<W> {
         ensures faults { std_sink_faults result ≡ 0 }
     {
         StdSink { inner, faults: 0 }
+    }
+
+    /// How often it has failed.
+    pub fn faults(&self) -> u64
+        ensures { result ≡ std_sink_faults self.now }
+    {
+        self.faults
+    }
+
+    /// The writer, with what it has taken.
+    pub fn into_inner(self) -> W
+        ensures { result ≡ writer_of self }
+    {
+        self.inner
     }
 }
 
@@ -92,10 +110,7 @@ impl<W: Write + Drop> Sink for StdSink<W> {
     {
         match self.inner.write(piece) {
             Ok(count) if count > 0 || piece.is_empty() => Ok(count),
-            _ => {
-                self.faults = self.faults.saturating_add(1);
-                Err(Failed)
-            }
+            _ => Err(Failed::counted(&mut self.faults)),
         }
     }
 
@@ -107,10 +122,7 @@ impl<W: Write + Drop> Sink for StdSink<W> {
     {
         match self.inner.flush() {
             Ok(()) => Ok(()),
-            Err(_) => {
-                self.faults = self.faults.saturating_add(1);
-                Err(Failed)
-            }
+            Err(_) => Err(Failed::counted(&mut self.faults)),
         }
     }
 }

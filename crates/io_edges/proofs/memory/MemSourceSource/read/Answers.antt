@@ -1,4 +1,4 @@
-use Rattle.std.proofs.Common.{rules, arith, length-drop, length-append, ℕ, ◌+◌, ◌≤◌, ◌≡◌, length, []}
+use Rattle.std.proofs.Common.{rules, arith, length-drop, length-append, ℕ, ◌+◌}
 use Rattle.std.proofs.lemmas.List.{drop_all}
 use Rattle.io_edges.proofs.Reading.{read_front}
 use Rattle.io_edges.proofs.memory.MemSourceSource.read.Goals as goal
