@@ -1,16 +1,15 @@
 -- Laws on what a call of the program says of its edges.
-use Rattle.std.proofs.Common.{◌≡◌, ℕ, ◌≤◌, List, [], ◌++◌, true, false, refl, sym, ◌∙◌, ap, subst, arith, length, length-append, ◌⊎◌, inl, inr}
+use Rattle.std.proofs.Common.{◌≡◌, ℕ, ◌≤◌, List, [], ◌++◌, refl, sym, ◌∙◌, ap, subst, arith, length, length-append, ◌⊎◌, inl, inr}
 use Rattle.std.specs.Prelude.{Option, Some, None, IfSome}
 use Rattle.std.specs.Io.KnownBytes.{Consumes}
 use Rattle.io_edges.specs.Told.{Told}
 use Rattle.io_edges.proofs.ToldLemmas.{Takes-nil}
 use Rattle.psm_session.specs.Database.{Plain}
-use Rattle.psm_cli.specs.Reading.{ReadsWhole, TakesCount}
-use Rattle.psm_cli.specs.Whole.{IsFirstFew, EndsOn, RunsWhole, IsCutShort}
+use Rattle.psm_cli.specs.Reading.{TakesCount}
+use Rattle.psm_cli.specs.Whole.{IsFirstFew, EndsOn}
 use Rattle.psm_cli.specs.declared.status.Status.{Status}
-use Rattle.psm_cli.specs.declared.status.Status.TheVariants.{Done, DoneWithExceptions, WriteFault, NoMemory, ScriptTooLong}
+use Rattle.psm_cli.specs.declared.status.Status.TheVariants.{NoMemory, ScriptTooLong}
 use Rattle.psm_cli.proofs.LowerLaws.{some_lexing}
-use Rattle.psm_cli.proofs.OneRun.{script_is}
 
 -- before anything was run
 pub none_ran : (script : List ℕ) (told : Option Told) (db : Plain) → EndsOn script told told db db NoMemory
@@ -26,24 +25,6 @@ none_run_of script left told db is =
 pub none_run : (left : Option (List ℕ)) (told : Option Told) (db : Plain) → IsFirstFew left told told db db
 none_run None told db = none_run_of [] None told db tt
 none_run (Some bytes) told db = none_run_of bytes (Some bytes) told db refl
-
--- a script that was read whole is what was left
-left_is : (left left' : Option (List ℕ)) (script : List ℕ) → ReadsWhole left left' script → IfSome left (λ bytes. script ≡ bytes)
-left_is None left' script r = tt
-left_is (Some xs) left' script r = sym (script_is (Some xs) left' xs script refl r)
-
-module _ (left left' : Option (List ℕ)) (script : List ℕ) (read : ReadsWhole left left' script) (told told' : Option Told) (before after : Plain) where
-  pub done : EndsOn script told told' before after Done → RunsWhole left left' told told' before after false
-  done e = record { script = script; read = read; lexing = e.lexing; lexed = e.lexed; completes = e.ends }
-
-  pub excepted : EndsOn script told told' before after DoneWithExceptions → RunsWhole left left' told told' before after true
-  excepted e = record { script = script; read = read; lexing = e.lexing; lexed = e.lexed; completes = e.ends }
-
-  pub cut : EndsOn script told told' before after WriteFault → IsCutShort left left' told told' before after
-  cut e = record { script = script; read = read; lexing = e.lexing; lexed = e.lexed; cut = e.ends }
-
-  pub few : EndsOn script told told' before after NoMemory → IsFirstFew left told told' before after
-  few e = record { script = script; is = left_is left left' script read; lexing = e.lexing; lexed = e.lexed; first = e.ends }
 
 -- how many bytes were taken, from what was left before and after
 pub taken : (left left' : Option (List ℕ)) (bytes rest bs : List ℕ) → left ≡ Some (bytes ++ rest) → left' ≡ Some rest → Consumes left left' bs → length bs ≡ length bytes
