@@ -1,0 +1,19 @@
+//! The edges of the program: where bytes come from and where they go. A source and a sink each count their faults,
+//! tell what they took where they can, and answer `Failed` only where the count rose. This crate knows nothing of
+//! what the bytes mean.
+#![tactic(auto)]
+
+mod calls;
+mod memory;
+mod sink;
+mod source;
+mod standard;
+mod sure;
+#[cfg(test)]
+mod tests;
+
+pub use memory::{MemSink, MemSource};
+pub use sink::Sink;
+pub use source::{Failed, Source};
+pub use standard::{StdSink, StdSource};
+pub use sure::{SureSink, SureSource};

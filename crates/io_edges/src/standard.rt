@@ -1,0 +1,128 @@
+//! A source over a reader of std and a sink over a writer of std: the trusted edge. They count each error, and tell
+//! nothing of bytes.
+ghost use Rattle.std.specs.Prelude.{◌≡◌, None};
+ghost use Rattle.std.specs.Io.{ReadsAtMost};
+ghost use Rattle.std.specs.Io.KnownBytes.{ReadConsumes, WriteAppends};
+ghost use Rattle.io_edges.specs.Causes.{HasCause, Counts};
+ghost use Rattle.io_edges.specs.Told.{WritesSome};
+
+use crate::{Failed, Sink, Source};
+use std::io::{Read, Write};
+
+/// A source over a reader of std. It tells nothing of bytes.
+#[derive(Drop)]
+pub struct StdSource<R: Read + Drop> {
+    inner: R,
+    faults: u64,
+}
+
+impl<R: Read + Drop> StdSource<R> {
+    ghost use Rattle.io_edges.specs.Sources.{std_source_faults, reader_of};
+
+    /// A source over this reader, with no fault so far.
+    pub fn new(inner: R) -> Self
+        ensures reader { reader_of result ≡ inner }
+        ensures faults { std_source_faults result ≡ 0 }
+    {
+        StdSource { inner, faults: 0 }
+    }
+
+    /// How often it has failed.
+    pub fn faults(&self) -> u64
+        ensures { result ≡ std_source_faults self.now }
+    {
+        self.faults
+    }
+}
+
+impl<R: Read + Drop> Source for StdSource<R> {
+    ghost use Rattle.io_edges.specs.Sources.{std_source_faults, reader_of};
+
+    ghost left = { λ _. None };
+
+    ghost faults = { std_source_faults };
+
+    // Each error of the reader is a fault.
+    fn read(&mut self, buf: &mut [u8]) -> Result<usize, Failed>
+        ensures bound { ReadsAtMost result buf.new }
+        ensures bytes { ReadConsumes None None result buf.new }
+        ensures cause { HasCause (std_source_faults self.old) (std_source_faults self.new) result }
+        ensures counts { Counts (std_source_faults self.old) (std_source_faults self.new) result }
+        ensures reader { ReadConsumes (R.remaining (reader_of self.old)) (R.remaining (reader_of self.new)) result buf.new }
+    {
+        match self.inner.read(buf) {
+            Ok(count) => Ok(count),
+            Err(_) => Err(Failed::counted(&mut self.faults)),
+        }
+    }
+}
+
+/// A sink over a writer of std. It tells nothing of bytes.
+#[derive(Drop)]
+pub struct StdSink<W: Write + Drop> {
+    inner: W,
+    faults: u64,
+}
+
+impl<W: Write + Drop> StdSink<W> {
+    ghost use Rattle.io_edges.specs.Sinks.{std_sink_faults, writer_of};
+
+    /// A sink over this writer, with no fault so far.
+    pub fn new(inner: W) -> Self
+        ensures writer { writer_of result ≡ inner }
+        ensures faults { std_sink_faults result ≡ 0 }
+    {
+        StdSink { inner, faults: 0 }
+    }
+
+    /// How often it has failed.
+    pub fn faults(&self) -> u64
+        ensures { result ≡ std_sink_faults self.now }
+    {
+        self.faults
+    }
+
+    /// The writer, with what it has taken.
+    pub fn into_inner(self) -> W
+        ensures { result ≡ writer_of self }
+    {
+        self.inner
+    }
+}
+
+impl<W: Write + Drop> Sink for StdSink<W> {
+    ghost use Rattle.io_edges.specs.Sinks.{std_sink_faults, writer_of};
+    ghost use Rattle.io_edges.specs.Told.{nothing_told, WriteTakes, FlushTells};
+
+    ghost told = { λ _. None };
+
+    ghost faults = { std_sink_faults };
+
+    ghost within = { λ s. nothing_told };
+
+    // Each error of the writer is a fault, and so is a write that takes nothing of a piece that has a byte.
+    fn write(&mut self, piece: &[u8]) -> Result<usize, Failed>
+        ensures some { WritesSome result piece.now }
+        ensures bytes { WriteTakes None None result piece.now }
+        ensures cause { HasCause (std_sink_faults self.old) (std_sink_faults self.new) result }
+        ensures counts { Counts (std_sink_faults self.old) (std_sink_faults self.new) result }
+        ensures writer { WriteAppends (W.contents (writer_of self.old)) (W.contents (writer_of self.new)) result piece.now }
+    {
+        match self.inner.write(piece) {
+            Ok(count) if count > 0 || piece.is_empty() => Ok(count),
+            _ => Err(Failed::counted(&mut self.faults)),
+        }
+    }
+
+    // Each error of the writer is a fault.
+    fn flush(&mut self) -> Result<(), Failed>
+        ensures bytes { FlushTells None None result }
+        ensures cause { HasCause (std_sink_faults self.old) (std_sink_faults self.new) result }
+        ensures counts { Counts (std_sink_faults self.old) (std_sink_faults self.new) result }
+    {
+        match self.inner.flush() {
+            Ok(()) => Ok(()),
+            Err(_) => Err(Failed::counted(&mut self.faults)),
+        }
+    }
+}

@@ -1,0 +1,6 @@
+pub mod WriteLemmas
+pub mod ReadLemmas
+pub mod LowerLaws
+pub mod RunLemmas
+pub mod OneRun
+pub mod ProgramLemmas

@@ -1,0 +1,7 @@
+pub mod Script
+pub mod Session
+pub mod Words
+pub mod Reading
+pub mod Writing
+pub mod Outcome
+pub mod Whole

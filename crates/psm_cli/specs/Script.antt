@@ -1,0 +1,32 @@
+-- Runs of statements, over any step: the replies one after the other, and the database that they leave.
+use Rattle.std.specs.Prelude.{◌≡◌, ◌==◌, ℕ, Bool, false, List, [], ◌∷◌, Option, None, Some, slice_get, flat_map}
+use Rattle.std.specs.List.{list_any}
+
+-- One statement: at this place it takes the one database to the other, with this reply, and the next one begins at `to`.
+abbrev pub Step : Type 0 → Type 1
+Step D = ℕ → D → List ℕ → ℕ → D → Type 0
+
+-- the statements from a place on, one by one: their replies, where the next one begins, and the database that they leave
+abbrev pub Runs : {D : Type 0} → Step D → ℕ → D → List (List ℕ) → ℕ → D → Type 0
+Runs step at before [] to after = (to ≡ at) × (after ≡ before)
+Runs {D} step at before (reply ∷ replies) to after = (mid : ℕ) × (between : D) × step at before reply mid between × Runs step mid between replies to after
+
+-- a statement at a place has one outcome, and none begins at the end
+pub record IsDetermined {D : Type 0} (step : Step D) (end : ℕ) : Type 0 where
+  pub one : (at : ℕ) (before : D) (reply reply' : List ℕ) (to to' : ℕ) (after after' : D) → step at before reply to after → step at before reply' to' after' → (reply ≡ reply') × (to ≡ to') × (after ≡ after')
+  pub ends : (before : D) (reply : List ℕ) (to : ℕ) (after : D) → step end before reply to after → ⊥
+
+abbrev pub begins_with_mark : Option ℕ → Bool
+begins_with_mark None = false
+begins_with_mark (Some b) = b == 33
+
+-- a reply begins with `!` where its statement ended in an exception or a fault
+abbrev pub is_exception : List ℕ → Bool
+is_exception reply = begins_with_mark (slice_get reply 0)
+
+abbrev pub has_exception : List (List ℕ) → Bool
+has_exception replies = list_any is_exception replies
+
+-- all that a run writes: the replies joined
+abbrev pub whole : List (List ℕ) → List ℕ
+whole replies = flat_map (λ r. r) replies

@@ -1,0 +1,59 @@
+//! psm runs a script of SQL and SQL/PSM from standard input and writes its replies to standard output:
+//!
+//! ```text
+//! psm run <script
+//! ```
+//!
+//! From here on down: `program` has the answers, `words`, `read` and `write` the edges of a call, `run` the statements
+//! one by one. What a statement means is psm_session's.
+#![tactic(auto)]
+
+mod program;
+mod read;
+mod run;
+mod status;
+#[cfg(test)]
+mod tests;
+mod words;
+mod write;
+
+use io_edges::{StdSink, StdSource};
+pub use program::run_program;
+use psm_session::Database;
+use sql_values::NoMemory;
+pub use status::Status;
+use std::alloc::Global;
+use std::env;
+use std::io::ErrorKind;
+use std::process::ExitCode;
+
+// The words of the command line, and none where one of them is no text.
+fn given_words(rt: &HostRuntime, alloc: Global) -> Result<Vec<String>, NoMemory> {
+    match env::args(rt) {
+        Ok(words) => Ok(words.collect(alloc)?),
+        Err(error) if error.kind() == ErrorKind::OutOfMemory => Err(NoMemory),
+        Err(_) => Ok(Vec::new(alloc)),
+    }
+}
+
+// Runs the program over the standard streams and an empty database.
+fn run_words(rt: &HostRuntime, alloc: Global) -> Result<Status, NoMemory> {
+    let given = given_words(rt, alloc)?;
+    let words: Vec<&str> = given.iter().map(|word| word.as_str()).collect(alloc)?;
+    let mut src = StdSource::new(rt.stdin());
+    let mut out = StdSink::new(rt.stdout());
+    let mut err = StdSink::new(rt.stderr());
+    let mut db = Database::new(alloc);
+    Ok(run_program(alloc, &words, &mut src, &mut out, &mut err, &mut db))
+}
+
+fn main(rt: HostRuntime) -> ExitCode {
+    let status = match run_words(&rt, rt.alloc()) {
+        Ok(status) => status,
+        Err(NoMemory) => {
+            program::tell(&mut StdSink::new(rt.stderr()), Status::NoMemory);
+            Status::NoMemory
+        }
+    };
+    ExitCode::from(status.number())
+}

@@ -1,0 +1,128 @@
+//! All that the program does, from words to an answer. Which answer comes, and why, stands in the clauses of
+//! `run_program`; what a script means stands in specs/Session.antt.
+ghost use Rattle.std.specs.Prelude.{◌≡◌, ◌⊎◌, ◌≤◌, ◌+◌, ◌++◌, ℕ, List, length, map, Some, None, true, false};
+ghost use Rattle.io_edges.specs.Causes.{Rose};
+ghost use Rattle.psm_cli.specs.Words.{takes_run};
+ghost use Rattle.psm_cli.specs.Reading.{TakesCount, limit};
+ghost use Rattle.psm_cli.specs.Whole.{RunsWhole, IsCutShort, IsFirstFew, SaysExceptions, LeavesTheOnlyRun, WritesFront, ReadsCount, Tells, line_of};
+
+use crate::read::{ReadEnd, read_script};
+use crate::run::run_script;
+use crate::status::Status;
+use crate::words::takes_run;
+use crate::write::write_whole;
+use io_edges::{Sink, Source};
+use psm_session::Database;
+use std::alloc::Global;
+
+/// Writes the line of a status. A sink that fails changes nothing else.
+pub(crate) fn tell<E: Sink>(err: &mut E, status: Status)
+    ensures { Tells (E.told err.old) (E.told err.new) (E.faults err.old) (E.faults err.new) (line_of status) }
+{
+    let _ = write_whole(err, status.line());
+}
+
+// Reads the script whole, and then runs it.
+fn run_source<S: Source, K: Sink>(
+    alloc: Global,
+    src: &mut S,
+    out: &mut K,
+    db: &mut Database,
+) -> Status
+    ensures done { result ≡ Status.Done
+        → RunsWhole (S.left src.old) (S.left src.new) (K.told out.old) (K.told out.new) db.old db.new false }
+    ensures exceptions { result ≡ Status.DoneWithExceptions
+        → RunsWhole (S.left src.old) (S.left src.new) (K.told out.old) (K.told out.new) db.old db.new true }
+    ensures usage { result ≡ Status.Usage → ⊥ }
+    ensures read_fault { result ≡ Status.ReadFault
+        → Rose (S.faults src.old) (S.faults src.new) × (out.new ≡ out.old) × (db.new ≡ db.old) }
+    ensures write_fault { result ≡ Status.WriteFault → Rose (K.faults out.old) (K.faults out.new)
+        × IsCutShort (S.left src.old) (S.left src.new) (K.told out.old) (K.told out.new) db.old db.new }
+    ensures no_memory { result ≡ Status.NoMemory
+        → IsFirstFew (S.left src.old) (K.told out.old) (K.told out.new) db.old db.new }
+    ensures too_long { result ≡ Status.ScriptTooLong
+        → ReadsCount (S.left src.old) (S.left src.new) (limit + 1) × (out.new ≡ out.old) × (db.new ≡ db.old) }
+    ensures within { (result ≡ Status.ScriptTooLong) ⊎ TakesCount (S.left src.old) (S.left src.new) (λ n. n ≤ limit) }
+{
+    match read_script(alloc, src) {
+        Ok(script) => run_script(alloc, &script, out, db),
+        Err(ReadEnd::Fault) => Status::ReadFault,
+        Err(ReadEnd::TooLong) => Status::ScriptTooLong,
+        Err(ReadEnd::Memory) => Status::NoMemory,
+    }
+}
+
+/// All that the program does: it takes the words, reads the script of `src` whole, runs its statements one by one over
+/// the database, writes their replies to `out`, each whole before the next statement, flushes `out` once, and writes
+/// at most one line to `err`.
+pub fn run_program<'a, S: Source, K: Sink, E: Sink>(
+    alloc: Global,
+    words: &'a [&'a str],
+    src: &mut S,
+    out: &mut K,
+    err: &mut E,
+    db: &mut Database,
+) -> Status
+    // 0 and 1: the source was read to its end, and all replies were written and flushed. None begins with `!`, or one
+    // does.
+    ensures done { result ≡ Status.Done → (takes_run (map (λ w. w.now) words.entry.now) ≡ true)
+        × RunsWhole (S.left src.old) (S.left src.new) (K.told out.old) (K.told out.new) db.old db.new false }
+    ensures exceptions { result ≡ Status.DoneWithExceptions → (takes_run (map (λ w. w.now) words.entry.now) ≡ true)
+        × RunsWhole (S.left src.old) (S.left src.new) (K.told out.old) (K.told out.new) db.old db.new true }
+
+    // A script has one run: its replies are what was written, and its database is what is left.
+    ensures only { (result ≡ Status.Done) ⊎ (result ≡ Status.DoneWithExceptions)
+        → LeavesTheOnlyRun (S.left src.old) (K.told out.old) (K.told out.new) db.old db.new }
+
+    // 1 is exactly where a reply begins with `!` and all was written and flushed.
+    ensures exactly { takes_run (map (λ w. w.now) words.entry.now) ≡ true
+        → SaysExceptions (S.left src.old) (K.told out.old) (K.told out.new) db.old result }
+
+    // 2: exactly where the words are not taken, and nothing is touched.
+    ensures usage { result ≡ Status.Usage → (takes_run (map (λ w. w.now) words.entry.now) ≡ false)
+        × (src.new ≡ src.old) × (out.new ≡ out.old) × (db.new ≡ db.old) }
+    ensures not_taken { takes_run (map (λ w. w.now) words.entry.now) ≡ false → result ≡ Status.Usage }
+
+    // 3: the source failed, and nothing was run or written.
+    ensures read_fault { result ≡ Status.ReadFault
+        → Rose (S.faults src.old) (S.faults src.new) × (out.new ≡ out.old) × (db.new ≡ db.old) }
+
+    // 4: the sink failed, and took a front of the replies; the database is the one after the statements whose reply
+    // was begun.
+    ensures write_fault { result ≡ Status.WriteFault → Rose (K.faults out.old) (K.faults out.new)
+        × IsCutShort (S.left src.old) (S.left src.new) (K.told out.old) (K.told out.new) db.old db.new }
+
+    // 5: the first replies were written whole, and nothing else; the database is the one after their statements.
+    ensures no_memory { result ≡ Status.NoMemory
+        → IsFirstFew (S.left src.old) (K.told out.old) (K.told out.new) db.old db.new }
+
+    // 4 and 5: what was written is a front of all replies of the script.
+    ensures front { (result ≡ Status.WriteFault) ⊎ (result ≡ Status.NoMemory)
+        → WritesFront (S.left src.old) (K.told out.old) (K.told out.new) db.old }
+
+    // 6: exactly where one byte more than the limit was read, and nothing was run or written.
+    ensures too_long { result ≡ Status.ScriptTooLong
+        → ReadsCount (S.left src.old) (S.left src.new) (limit + 1) × (out.new ≡ out.old) × (db.new ≡ db.old) }
+    ensures too_long_there { (bytes rest : List ℕ) → S.left src.old ≡ Some (bytes ++ rest) → S.left src.new ≡ Some rest
+        → length bytes ≡ limit + 1 → result ≡ Status.ScriptTooLong }
+
+    // No more is read than one byte past the limit.
+    ensures reads { TakesCount (S.left src.old) (S.left src.new) (λ n. n ≤ limit + 1) }
+
+    // With words that are taken, a script within the limit and no fault, all is done, or memory ran out.
+    ensures complete { takes_run (map (λ w. w.now) words.entry.now) ≡ true
+        → (bytes : List ℕ) → S.left src.old ≡ Some bytes → length bytes ≤ limit
+        → (Rose (S.faults src.old) (S.faults src.new) → ⊥) → (Rose (K.faults out.old) (K.faults out.new) → ⊥)
+        → ((result ≡ Status.Done) ⊎ (result ≡ Status.DoneWithExceptions)) ⊎ (result ≡ Status.NoMemory) }
+
+    // A front of the status's line, and all of it where `err` did not fail.
+    ensures err { Tells (E.told err.old) (E.told err.new) (E.faults err.old) (E.faults err.new) (line_of result) }
+{
+    let status = if takes_run(words) {
+        run_source(alloc, src, out, db)
+    } else {
+        Status::Usage
+    };
+    tell(err, status);
+    status
+}

@@ -1,0 +1,119 @@
+//! Rows of scripts with what they write, and the answers at edges that fail. No row may find too little memory.
+ghost use Rattle.std.specs.Prelude.{◌<◌};
+
+use crate::{Status, run_program};
+use io_edges::{MemSink, MemSource};
+use psm_session::Database;
+use std::alloc::{AllocError, Global};
+use std::test::Fail;
+
+const INVERSES: &[u8] = b"CREATE TABLE t (k INTEGER PRIMARY KEY, a INTEGER);
+INSERT INTO t VALUES (2,10),(1,NULL),(3,0);
+CREATE FUNCTION inv (x INTEGER) RETURNS INTEGER RETURN 100 / x;
+SELECT k, inv(a) FROM t; SELECT k, inv(a) FROM t WHERE a <> 0;";
+
+const INVERSES_REPLIES: &[u8] =
+    b"00000\n00000 rows 3\n00000\n! 22012 division by zero\n2,10\n00000 rows 1\n";
+
+const LIMIT: usize = 16_777_216;
+
+// What a call wrote.
+#[derive(Drop)]
+struct Outcome {
+    status: Status,
+    out: MemSink,
+    err: MemSink,
+}
+
+// Runs a script from an empty database into a sink.
+fn ran(alloc: Global, words: &[&str], mut src: MemSource, mut out: MemSink) -> Outcome {
+    let mut err = MemSink::new(alloc, Vec::new(alloc), 100);
+    let mut db = Database::new(alloc);
+    let status = run_program(alloc, words, &mut src, &mut out, &mut err, &mut db);
+    Outcome { status, out, err }
+}
+
+// A source that gives at most seven bytes a call.
+fn source(alloc: Global, script: &[u8]) -> Result<MemSource, AllocError> {
+    Ok(MemSource::new(script.to_vec(alloc)?, Vec::new(alloc), 7))
+}
+
+fn sink(alloc: Global, per_call: usize) -> MemSink
+    requires { 0 < per_call }
+{
+    MemSink::new(alloc, Vec::new(alloc), per_call)
+}
+
+// Each row into a sink that takes all at once, and into one of a byte a call.
+#[test]
+fn scripts(rt: HostRuntime) -> Result<(), Fail> {
+    let alloc = rt.alloc();
+    let rows: [(&[u8], Status, &[u8]); 2] = [
+        (b"", Status::Done, b""),
+        (INVERSES, Status::DoneWithExceptions, INVERSES_REPLIES),
+    ];
+    for (script, status, replies) in rows {
+        for per_call in [1, 1000] {
+            let end = ran(
+                alloc,
+                &["psm", "run"],
+                source(alloc, script)?,
+                sink(alloc, per_call),
+            );
+            assert_eq!(rt; end.status, status);
+            assert_eq!(rt; end.out.bytes(), replies);
+            assert_eq!(rt; end.out.flushed(), replies.len());
+            assert_eq!(rt; end.err.bytes().len(), 0);
+        }
+    }
+    Ok(())
+}
+
+#[test]
+fn no_words(rt: HostRuntime) -> Result<(), Fail> {
+    let alloc = rt.alloc();
+    let end = ran(alloc, &["psm"], source(alloc, INVERSES)?, sink(alloc, 100));
+    assert_eq!(rt; end.status, Status::Usage);
+    assert_eq!(rt; end.out.bytes().len(), 0);
+    assert_eq!(rt;
+        end.err.bytes(),
+        b"usage: psm run [--plain] [--budget N] [--dump] | psm check | psm demo --seed S --rows N\n".as_slice()
+    );
+    Ok(())
+}
+
+#[test]
+fn edges_that_fail(rt: HostRuntime) -> Result<(), Fail> {
+    let alloc = rt.alloc();
+    let broken = MemSource::new(INVERSES.to_vec(alloc)?, vec![in alloc; 0]?, 100);
+    let unread = ran(alloc, &["psm", "run"], broken, sink(alloc, 100));
+    assert_eq!(rt; unread.status, Status::ReadFault);
+    assert_eq!(rt; unread.out.bytes().len(), 0);
+    assert_eq!(rt; unread.err.bytes(), b"psm: read failed\n".as_slice());
+
+    let narrow = MemSink::new(alloc, vec![in alloc; 1]?, 5);
+    let cut = ran(alloc, &["psm", "run"], source(alloc, INVERSES)?, narrow);
+    assert_eq!(rt; cut.status, Status::WriteFault);
+    assert_eq!(rt; cut.out.bytes(), b"00000".as_slice());
+    assert_eq!(rt; cut.err.bytes(), b"psm: write failed\n".as_slice());
+    Ok(())
+}
+
+// The longest script, and one of a byte more.
+#[test]
+fn longest_script(rt: HostRuntime) -> Result<(), Fail> {
+    let alloc = rt.alloc();
+    for (size, status) in [(LIMIT, Status::Done), (LIMIT + 1, Status::ScriptTooLong)] {
+        let mut spaces = Vec::new(alloc);
+        spaces.resize(size, b' ')?;
+        let end = ran(
+            alloc,
+            &["psm", "run"],
+            MemSource::new(spaces, Vec::new(alloc), LIMIT),
+            sink(alloc, 100),
+        );
+        assert_eq!(rt; end.status, status);
+        assert_eq!(rt; end.out.bytes().len(), 0);
+    }
+    Ok(())
+}
