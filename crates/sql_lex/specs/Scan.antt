@@ -1,6 +1,6 @@
 -- What stands at the head of some bytes, as one function of them: what the scanning functions give. What tokens are is said
 -- in Tokens, and proofs/ shows that both agree.
-use Rattle.std.specs.Prelude.{ℕ, ◌≡◌, ◌+◌, nat_eq, nat_le, nat_lt, pos, ℤ, not, ◌||◌, ◌&&◌, Bool, true, false, if◌then◌else◌, Option, Some, None, List, [], ◌∷◌, length, take, drop, slice_index}
+use Rattle.std.specs.Prelude.{ℕ, ◌≡◌, ◌+◌, nat_eq, nat_le, pos, ℤ, not, ◌||◌, ◌&&◌, Bool, true, false, if◌then◌else◌, Option, Some, None, List, [], ◌∷◌, ◌++◌, length, take, drop, slice_index}
 use Rattle.std.specs.List.{prefix_len, find}
 use Rattle.std.specs.Str.{bytes_eq, is_utf8, chars}
 use Rattle.sql_values.specs.Names.{is_letter, is_digit, is_name_part, begins_by, folded, most_characters}
@@ -42,6 +42,12 @@ words_of b =
     if nat_eq b 87 then word.When ∷ word.Where ∷ word.While ∷ [] else
     []
 
+-- whether the bytes begin with these two
+abbrev pub begins_with : ℕ → ℕ → List ℕ → Bool
+begins_with b c [] = false
+begins_with b c (x ∷ []) = false
+begins_with b c (x ∷ (y ∷ ys)) = nat_eq x b && nat_eq y c
+
 -- the reserved word that capitals spell
 abbrev pub reserved : List ℕ → Option Word
 reserved capitals = find (λ w. bytes_eq (spelling w) capitals) (words_of (slice_index capitals 0))
@@ -71,18 +77,27 @@ number_step bytes =
     let width = prefix_len is_digit bytes in
     if begins_by is_name_part (drop width bytes) then step.Bad else number_token (number_of (take width bytes)) width
 
--- with one more byte in front, which took some bytes to write
-abbrev pub with_front : ℕ → ℕ → Option (List ℕ × ℕ) → Option (List ℕ × ℕ)
-with_front b width None = None
-with_front b width (Some r) = Some (b ∷ r.0, width + r.1)
+-- how many bytes the byte at the head of a text's rest takes; none at the quote that closes the text
+abbrev pub width_in_text : List ℕ → Option ℕ
+width_in_text bytes = if not (is_quote (slice_index bytes 0)) then Some 1 else if begins_with 39 39 bytes then Some 2 else None
+
+-- with more bytes in front, which took some bytes to write
+abbrev pub with_front : List ℕ → ℕ → Option (List ℕ × ℕ) → Option (List ℕ × ℕ)
+with_front front width None = None
+with_front front width (Some r) = Some (front ++ r.0, width + r.1)
 
 -- behind an opening quote: the bytes of the text, and how many bytes stand up to the closing quote and with it
 abbrev pub unquoted : List ℕ → Option (List ℕ × ℕ)
 unquoted [] = None
 unquoted (b ∷ []) = if is_quote b then Some ([], 1) else None
 unquoted (b ∷ (c ∷ cs)) =
-    if is_quote b then (if is_quote c then with_front b 2 (unquoted cs) else Some ([], 1))
-    else with_front b 1 (unquoted (c ∷ cs))
+    if is_quote b then (if is_quote c then with_front (b ∷ []) 2 (unquoted cs) else Some ([], 1))
+    else with_front (b ∷ []) 1 (unquoted (c ∷ cs))
+
+-- the width that `unquoted` gives, with its bytes added to a list
+abbrev pub IsUnquoted : Option (List ℕ × ℕ) → List ℕ → List ℕ → Option ℕ → Type 0
+IsUnquoted read old new None = read ≡ None
+IsUnquoted read old new (Some width) = (text : List ℕ) × (read ≡ Some (text, width)) × (new ≡ old ++ text)
 
 -- the text of these bytes, where they are UTF-8 and within the limit
 abbrev pub text_of : List ℕ → Option (List ℕ)
@@ -107,7 +122,7 @@ plus n (Some k) = Some (n + k)
 -- how many bytes stand up to the first `*/` and with it
 abbrev pub close_end : List ℕ → Option ℕ
 close_end [] = None
-close_end (b ∷ bs) = if nat_eq b 42 && begins_by (λ c. nat_eq c 47) bs then Some 2 else plus 1 (close_end bs)
+close_end (b ∷ bs) = if begins_with 42 47 (b ∷ bs) then Some 2 else plus 1 (close_end bs)
 
 abbrev pub gap_of : Option ℕ → Step
 gap_of None = step.Bad
@@ -157,9 +172,6 @@ abbrev pub sign_step : List ℕ → Step
 sign_step bytes =
     sign_token (long_sign (slice_index bytes 0) (slice_index bytes 1)) 2
     (sign_token (short_sign (slice_index bytes 0)) 1 step.Bad)
-
-abbrev pub begins_with : ℕ → ℕ → List ℕ → Bool
-begins_with b c bytes = nat_lt 1 (length bytes) && (nat_eq (slice_index bytes 0) b && nat_eq (slice_index bytes 1) c)
 
 -- what stands at the head of the bytes, of which there is one
 abbrev pub step_of : List ℕ → Step

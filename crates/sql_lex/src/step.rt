@@ -1,15 +1,18 @@
 //! What stands at the head of some bytes: a token, or a part of what stands between tokens.
 
-ghost use Rattle.std.specs.Prelude.{◌≡◌, ◌<◌, ◌++◌, List, ℕ, true, IfOk, MatchOption, length, not};
+ghost use Rattle.std.specs.Prelude.{◌≡◌, ◌<◌, true, IfOk, length, not};
 ghost use Rattle.std.specs.List.{list_all, prefix_len};
 ghost use Rattle.sql_values.specs.Names.{is_letter, is_digit, is_name_part as is_part_of_name, begins_by};
 ghost use Rattle.sql_lex.specs.Tokens.{is_line_feed};
-ghost use Rattle.sql_lex.specs.Scan.{begins_with as begins_with_both, block_step, close_end as end_of_comment, line_step, long_sign as sign_of_two, number_of as number_of_digits, number_step, short_sign as sign_of_one, sign_step, step_of, text_of as text_of_bytes, text_step, text_token as step_over_text, unquoted as text_behind, word_step};
+ghost use Rattle.sql_lex.specs.Scan.{begins_with as begins_with_both, block_step, close_end as end_of_comment, line_step, long_sign as sign_of_two, number_of as number_of_digits, number_step, short_sign as sign_of_one, sign_step, step_of, text_of as text_of_bytes, text_step, text_token as step_over_text, unquoted as text_behind, width_in_text as width_in_quotes, word_step, IsUnquoted};
 
 use crate::word::reserved;
 use crate::{Lexeme, Sign};
 use sql_values::{Name, NoMemory, Text};
 use std::alloc::Global;
+
+// The greatest number that a script may write.
+const MOST_NUMBER: u64 = 0x7fff_ffff_ffff_ffff;
 
 /// What stands at the head of some bytes, and how many bytes it takes.
 #[derive(Debug, Drop)]
@@ -86,15 +89,15 @@ fn number_of(digits: &[u8]) -> Option<i64>
     requires { list_all is_digit digits.now ≡ true }
     ensures { result ≡ number_of_digits digits.now }
 {
-    let mut number = 0i64;
+    let mut number = 0;
     for b in digits {
-        let digit = i64::from(*b - b'0');
-        if number > (i64::MAX - digit) / 10 {
+        let digit = u64::from(*b - b'0');
+        if number > (MOST_NUMBER - digit) / 10 {
             return None;
         }
         number = 10 * number + digit;
     }
-    Some(number)
+    Some(number as i64)
 }
 
 // The number at the head.
@@ -111,21 +114,33 @@ fn number(bytes: &[u8]) -> Step
     }
 }
 
+// How many bytes the byte at the head of a text's rest takes: two, where it is a quote written twice. `None` at the quote
+// that closes the text.
+fn width_in_text(bytes: &[u8]) -> Option<usize>
+    requires { 0 < length bytes.now }
+    ensures { result ≡ width_in_quotes bytes.now }
+{
+    if bytes[0] != b'\'' {
+        Some(1)
+    } else if begins_with(bytes, b'\'', b'\'') {
+        Some(2)
+    } else {
+        None
+    }
+}
+
 // The bytes of a text whose opening quote stands before, added to what is there, and how many bytes it took with its
 // closing quote; `None` where there is no such quote.
 fn unquoted(bytes: &[u8], text: &mut Vec<u8>) -> Result<Option<usize>, NoMemory>
-    ensures { IfOk result (λ width. MatchOption width (text_behind bytes.now ≡ None) (λ n. (p : List ℕ) × (text_behind bytes.now ≡ Some (p, n)) × (text.new.items ≡ text.old.items ++ p))) }
+    ensures { IfOk result (λ width. IsUnquoted (text_behind bytes.now) text.old.items text.new.items width) }
 {
     let mut at = 0;
     while at < bytes.len() {
-        if bytes[at] == b'\'' {
-            if at + 1 == bytes.len() || bytes[at + 1] != b'\'' {
-                return Ok(Some(at + 1));
-            }
-            at += 1;
-        }
+        let Some(width) = width_in_text(&bytes[at..]) else {
+            return Ok(Some(at + 1));
+        };
         text.push(bytes[at])?;
-        at += 1;
+        at += width;
     }
     Ok(None)
 }
@@ -176,7 +191,7 @@ fn close_end(bytes: &[u8]) -> Option<usize>
 {
     let mut at = 0;
     while at < bytes.len() {
-        if bytes[at] == b'*' && at + 1 < bytes.len() && bytes[at + 1] == b'/' {
+        if begins_with(&bytes[at..], b'*', b'/') {
             return Some(at + 2);
         }
         at += 1;
