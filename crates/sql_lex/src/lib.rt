@@ -1,6 +1,7 @@
 //! The tokens of a script.
 #![tactic(auto)]
 
+mod law;
 mod lexer;
 mod position;
 mod sign;
@@ -9,6 +10,7 @@ mod token;
 mod token_list;
 mod word;
 
+pub use law::each_script_has_one_lexing;
 pub use lexer::tokens;
 pub use position::Position;
 pub use sign::Sign;
