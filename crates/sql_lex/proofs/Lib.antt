@@ -1,4 +1,6 @@
 pub mod Complete
+pub mod Lists
+pub mod Loop
 pub mod Scanning
 pub mod Sound
 pub mod Spans
