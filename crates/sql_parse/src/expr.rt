@@ -6,13 +6,13 @@ ghost use Rattle.token_grammar.specs.Reads.{Reads};
 ghost use Rattle.sql_grammar.specs.Sql as g;
 ghost use Rattle.sql_grammar.specs.Sql.{rules};
 
-use crate::place::{anchor, ident};
+use crate::place::{anchor, anchor_in, ident};
 use sql_lex::{Kind, Sign, Word};
 use sql_values::Operator;
 use sqlite_items::{Boxed, Items};
 use std::alloc::{AllocError, Global};
 use syntax_trees::{Expr, Link};
-use token_grammar::{Input, ParseError};
+use token_grammar::{Input, ParseError, number_in};
 
 /// A list with one more in front.
 pub(crate) fn with_first<T: Drop>(
@@ -65,12 +65,13 @@ fn begins_addend(input: &Input<'_>) -> bool
 fn primary(alloc: Global, input: &mut Input<'_>, room: u32) -> Result<Expr, ParseError>
     ensures { Reads (reading rules room g.primary input.old.rest.now) result input.new.rest.now }
 {
-    let anchor = anchor(input);
     if input.sees(Kind::Number) {
-        return Ok(Expr::Number(anchor, input.number()?));
+        let token = input.expect(Kind::Number)?;
+        return Ok(Expr::Number(anchor_in(token), number_in(token)));
     }
-    if input.eat(Kind::Word(Word::Null)) {
-        return Ok(Expr::Null(anchor));
+    if input.sees(Kind::Word(Word::Null)) {
+        let token = input.expect(Kind::Word(Word::Null))?;
+        return Ok(Expr::Null(anchor_in(token)));
     }
     named(alloc, input, room)
 }

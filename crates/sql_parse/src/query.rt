@@ -7,7 +7,7 @@ ghost use Rattle.sql_grammar.specs.Sql as g;
 ghost use Rattle.sql_grammar.specs.Sql.{rules};
 
 use crate::expr::{expr, exprs};
-use crate::place::{anchor, ident};
+use crate::place::{anchor, anchor_in, ident};
 use sql_lex::{Kind, Sign, Word};
 use sql_values::Comparison;
 use sqlite_items::Items;
@@ -106,9 +106,8 @@ fn selection(
 fn select_word(input: &mut Input<'_>, room: u32) -> Result<Anchor, ParseError>
     ensures { Reads (reading rules room g.select_word input.old.rest.now) result input.new.rest.now }
 {
-    let anchor = anchor(input);
-    input.expect(Kind::Word(Word::Select))?;
-    Ok(anchor)
+    let token = input.expect(Kind::Word(Word::Select))?;
+    Ok(anchor_in(token))
 }
 
 /// A query.
