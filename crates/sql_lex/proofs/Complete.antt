@@ -36,7 +36,7 @@ digit_no_letter b h = grind (arith, nat_tests)
 pub digit_in_name : (b : ℕ) → is_digit b ≡ true → is_name_part b ≡ true
 digit_in_name b h = grind (arith, nat_tests)
 
-most_le : (n m : ℕ) → n ≤ m → nat_le n m ≡ true
+pub most_le : (n m : ℕ) → n ≤ m → nat_le n m ≡ true
 most_le n m h = grind (arith, nat_tests)
 
 at_letter : (b : ℕ) (bs : List ℕ) → is_letter b ≡ true → step_of (b ∷ bs) ≡ word_step (b ∷ bs)
@@ -92,9 +92,9 @@ text_of-encoded : (text : List ℕ) → all_scalars text ≡ true → length tex
 text_of-encoded text scalar short =
     let same = chars-encodes text scalar in
     let utf8 = is_utf8-from_IsUtf8 (encode_utf8_all text) (text, (scalar, refl)) in
-    let small : nat_le (length (chars (encode_utf8_all text))) most_text ≡ true = ap (λ (cs : List ℕ). nat_le (length cs) most_text) same ∙ most_le (length text) most_text short in
-    let test = both (is_utf8 (encode_utf8_all text)) (nat_le (length (chars (encode_utf8_all text))) most_text) utf8 small in
-    ap (λ t. if t then Some (chars (encode_utf8_all text)) else None) test ∙ ap (λ (cs : List ℕ). Some cs) same
+    let small : nat_le (length text) most_text ≡ true = most_le (length text) most_text short in
+    let Within : List ℕ → Option (List ℕ) = λ cs. if nat_le (length cs) most_text then Some cs else None in
+    ap (λ t. if t then Within (chars (encode_utf8_all text)) else None) utf8 ∙ ap Within same ∙ ap (λ t. if t then Some text else None) small
 
 text_is_read : (text rest : List ℕ) → all_scalars text ≡ true → length text ≤ most_text → begins_by is_quote rest ≡ false → step_of ((39 ∷ (doubled (encode_utf8_all text) ++ 39 ∷ [])) ++ rest) ≡ step.Token (lexeme.Text text) (length (39 ∷ (doubled (encode_utf8_all text) ++ 39 ∷ [])))
 text_is_read text rest scalar short k =

@@ -1,6 +1,6 @@
 -- The loop of `tokens`: what holds of the tokens so far, and what each step keeps of it.
 use Rattle.std.proofs.Common.{ℕ, zero, suc, ◌≡◌, ◌+◌, ◌-◌, ◌<◌, ◌≤◌, List, [], ◌∷◌, ◌++◌, length, take, drop, refl, sym, ap, ◌∙◌, subst, arith, append_assoc, append-nil, length-append, length-drop, add-one}
-use Rattle.std.proofs.lemmas.List.{take_at, drop_at, take-append-drop, drop-drop, drop_all}
+use Rattle.std.proofs.lemmas.List.{take_at, drop_at, take-append-drop, drop-drop, drop_all, length-take-le}
 use Rattle.sql_lex.specs.declared.token.Lexeme.{Lexeme}
 use Rattle.sql_lex.specs.declared.token.Lexeme.TheVariants as lexeme
 use Rattle.sql_lex.specs.declared.token.Token.{Token}
@@ -10,6 +10,7 @@ use Rattle.sql_lex.specs.declared.position.Position.{Position}
 use Rattle.sql_lex.specs.Places.{origin, past}
 use Rattle.sql_lex.specs.Tokens.{IsLexeme, IsPiece, token_at, AreTokens}
 use Rattle.sql_lex.specs.Scan.{step_of}
+use Rattle.sql_lex.proofs.Scanning.{rest_of}
 use Rattle.sql_lex.proofs.Sound.{HasPiece, HasLexeme, Stands, step_stands}
 use Rattle.sql_lex.proofs.Lists.{past-append, piece_long, lexeme_long, after_piece, after_lexeme, at_bad, no_tokens}
 
@@ -123,3 +124,35 @@ so_far_all bytes list p so_far end =
       sym (ap (λ (l : List ℕ). past l p) none) ∙ so_far.leads,
       subst Whole (append-nil list) (so_far.tokens [] ([], none, tt)),
     )
+
+-- the same for the slices of the code: what is left from a place on, and the bytes of a step
+abbrev pub rest_at : List ℕ → ℕ → List ℕ
+rest_at bytes at = take (length bytes - at) (drop at bytes)
+
+pub cut_is : (bytes : List ℕ) (at w : ℕ) → Moves (drop at bytes) w → w ≡ length (take w (rest_at bytes at))
+cut_is bytes at w m = sym (ap (λ (l : List ℕ). length (take w l)) (rest_of bytes at) ∙ length-take-le w (drop at bytes) m.within)
+
+pub gap_ahead : (bytes : List ℕ) (at w : ℕ) (s : Step) → s ≡ step_of (rest_at bytes at) → s ≡ step.Gap w → step_of (drop at bytes) ≡ step.Gap w
+gap_ahead bytes at w s e is = ap step_of (sym (rest_of bytes at)) ∙ sym e ∙ is
+
+pub token_ahead : (bytes : List ℕ) (at w : ℕ) (l : Lexeme) (s : Step) → s ≡ step_of (rest_at bytes at) → s ≡ step.Token l w → step_of (drop at bytes) ≡ step.Token l w
+token_ahead bytes at w l s e is = ap step_of (sym (rest_of bytes at)) ∙ sym e ∙ is
+
+pub bad_ahead : (bytes : List ℕ) (at : ℕ) (s : Step) → s ≡ step_of (rest_at bytes at) → s ≡ step.Bad → step_of (drop at bytes) ≡ step.Bad
+bad_ahead bytes at s e is = ap step_of (sym (rest_of bytes at)) ∙ sym e ∙ is
+
+pub gap_passed : (bytes : List ℕ) (list : List Token) (p q : Position) (w : ℕ) → SoFar bytes list p → step_of (drop p.at bytes) ≡ step.Gap w → q ≡ past (take w (rest_at bytes p.at)) p → q.at ≡ p.at + length (take w (rest_at bytes p.at)) → q.line ≤ q.at + 1 → q.column ≤ q.at + 1 → SoFar bytes list q
+gap_passed bytes list p q w so_far e q_is q_at q_line q_column =
+    let width = cut_is bytes p.at w (gap_moves (drop p.at bytes) w e) in
+    so_far_gap bytes list p q w so_far (q_is ∙ ap (λ (l : List ℕ). past (take w l) p) (rest_of bytes p.at)) (q_at ∙ ap (λ n. p.at + n) (sym width)) q_line q_column e
+
+pub token_passed : (bytes : List ℕ) (list more : List Token) (p q : Position) (l : Lexeme) (w : ℕ) → SoFar bytes list p → step_of (drop p.at bytes) ≡ step.Token l w → more ≡ list ++ token_at l (length list) p w ∷ [] → q ≡ past (take w (rest_at bytes p.at)) p → q.at ≡ p.at + length (take w (rest_at bytes p.at)) → q.line ≤ q.at + 1 → q.column ≤ q.at + 1 → SoFar bytes more q
+token_passed bytes list more p q l w so_far e is q_is q_at q_line q_column =
+    let width = cut_is bytes p.at w (token_moves (drop p.at bytes) l w e) in
+    subst (λ ts. SoFar bytes ts q) (sym is)
+    (so_far_token bytes list p q w so_far (q_is ∙ ap (λ (l : List ℕ). past (take w l) p) (rest_of bytes p.at)) (q_at ∙ ap (λ n. p.at + n) (sym width)) q_line q_column l e)
+
+pub bad_passed : (bytes : List ℕ) (list more : List Token) (p q : Position) → SoFar bytes list p → p.at < length bytes → step_of (drop p.at bytes) ≡ step.Bad → more ≡ list ++ token_at lexeme.Bad (length list) p 1 ∷ [] → q ≡ past (rest_at bytes p.at) p → q.at ≡ p.at + length (rest_at bytes p.at) → q.line ≤ q.at + 1 → q.column ≤ q.at + 1 → SoFar bytes more q
+bad_passed bytes list more p q so_far inside e is q_is q_at q_line q_column =
+    subst (λ ts. SoFar bytes ts q) (sym is)
+    (so_far_bad bytes list p q so_far inside (q_is ∙ ap (λ (l : List ℕ). past l p) (rest_of bytes p.at)) (q_at ∙ ap (λ (l : List ℕ). p.at + length l) (rest_of bytes p.at)) q_line q_column e)

@@ -1,15 +1,22 @@
 -- One step of each scanning loop.
-use Rattle.std.proofs.Common.{ℕ, zero, suc, ◌≡◌, ◌+◌, ◌-◌, ◌*◌, ◌/◌, ◌<◌, ◌≤◌, Bool, true, false, ◌&&◌, not, List, [], ◌∷◌, ◌++◌, length, take, drop, get_or, refl, sym, ap, ◌∙◌, subst, arith, drop-cons, add-one, add-zero, append_assoc, nat_eq, nat_le, nat_lt, length-drop, get_or-drop, append-nil}
+use Rattle.std.proofs.Common.{ℕ, zero, suc, ◌≡◌, ◌+◌, ◌-◌, ◌*◌, ◌/◌, ◌<◌, ◌≤◌, Bool, true, false, ◌&&◌, not, List, [], ◌∷◌, ◌++◌, length, take, drop, get_or, refl, sym, ap, ◌∙◌, subst, arith, drop-cons, add-one, add-zero, append_assoc, nat_eq, nat_le, nat_lt, length-drop, get_or-drop, append-nil, length-append}
 use Rattle.std.specs.Prelude.{Option, Some, None, pos, if◌then◌else◌}
-use Rattle.std.specs.List.{fold, list_all}
+use Rattle.std.specs.List.{fold, list_all, prefix_len, find}
 use Rattle.std.proofs.lemmas.Slice.{between_to_end}
 use Rattle.std.proofs.lemmas.List.{drop_all, drop-drop}
 use Rattle.std.proofs.lemmas.Bool.Decides.{nat_tests}
-use Rattle.sql_values.specs.Names.{is_digit}
+use Rattle.sql_values.specs.Names.{is_digit, is_letter, is_name_part, begins_by, most_characters, IsWordLike}
+use Rattle.sql_lex.specs.declared.word.Word.{Word}
 use Rattle.sql_lex.specs.declared.position.Position.{Position}
 use Rattle.sql_lex.specs.Places.{past, behind}
-use Rattle.sql_lex.specs.Tokens.{is_quote, digits_value, most_number}
-use Rattle.sql_lex.specs.Scan.{begins_with, close_end, plus, unquoted, with_front, width_in_text, number_of}
+use Rattle.sql_lex.specs.Tokens.{is_quote, digits_value, doubled, most_number}
+use Rattle.sql_lex.specs.Scan.{begins_with, close_end, plus, unquoted, with_front, width_in_text, number_of, IsUnquoted, text_of, text_within}
+use Rattle.std.specs.Str.{IsUtf8, is_utf8, chars}
+use Rattle.std.proofs.lemmas.Str.{IsUtf8-from_is_utf8, is_utf8-from_IsUtf8}
+use Rattle.sql_lex.proofs.Complete.{most_le}
+use Rattle.sql_lex.proofs.Sound.{front_is_word}
+use Rattle.sql_lex.proofs.Spans.{both_left, both_right, list_all-prefix}
+use Rattle.sql_lex.proofs.Texts.{IsClosed, IsClosed-close_end, IsQuoted, IsQuoted-unquoted}
 
 -- what is left from a place on
 pub rest_of : (s : List ℕ) (i : ℕ) → take (length s - i) (drop i s) ≡ drop i s
@@ -77,14 +84,6 @@ with_front-with_front p q m n (Some r) =
     let e : m + (n + r.1) ≡ m + n + r.1 = omega arith in
     let l = sym (append_assoc p q r.0) in
     ap (λ (x : List ℕ × ℕ). Some x) (λ i. (l i, e i))
-
-both_left : (a b : Bool) → (a && b) ≡ true → a ≡ true
-both_left true b h = refl
-both_left false b h = h
-
-both_right : (a b : Bool) → (a && b) ≡ true → b ≡ true
-both_right true b h = h
-both_right false b h = cc
 
 digit_most : (b : ℕ) → is_digit b ≡ true → b ≤ 57
 digit_most b h = grind (arith, nat_tests)
@@ -171,3 +170,45 @@ unquoted-starts s = no-front (unquoted s)
 
 pub pushed : (text old read : List ℕ) (b : ℕ) → text ≡ old ++ read → text ++ b ∷ [] ≡ old ++ (read ++ b ∷ [])
 pushed text old read b e = ap (λ (l : List ℕ). l ++ b ∷ []) e ∙ append_assoc old read (b ∷ [])
+
+-- how far the readings reach
+pub close_end-within : (s : List ℕ) (width : ℕ) → close_end s ≡ Some width → width ≤ length s
+close_end-within s width h =
+    let q = IsClosed-close_end s width h in
+    omega (arith, q.width_is, ap length q.parts, length-append q.body (42 ∷ (47 ∷ q.rest)))
+
+pub unquoted-within : (s old new : List ℕ) (read : Option ℕ) (width : ℕ) → IsUnquoted (unquoted s) old new read → read ≡ Some width → width ≤ length s
+unquoted-within s old new None width h e = cc
+unquoted-within s old new (Some n) width h e =
+    let same : n ≡ width = cc in
+    let q = IsQuoted-unquoted s h.0 n h.1 in
+    omega (arith, q.width_is, ap length q.parts, length-append (doubled h.0) (39 ∷ q.rest))
+
+-- words
+pub front_is_word_like : (s : List ℕ) (n : ℕ) → begins_by is_letter s ≡ true → n ≡ prefix_len is_name_part s → n ≤ 128 → IsWordLike (take n s)
+front_is_word_like [] n h e m = cc
+front_is_word_like (b ∷ bs) n h e m =
+    let Like : ℕ → Type 0 = λ k. IsWordLike (take k (b ∷ bs)) in
+    let short : nat_le (prefix_len is_name_part (b ∷ bs)) most_characters ≡ true = most_le (prefix_len is_name_part (b ∷ bs)) most_characters (omega arith) in
+    subst Like (sym e) (front_is_word b bs h short)
+
+pub front_is_digits : (s : List ℕ) (n : ℕ) → n ≡ prefix_len is_digit s → list_all is_digit (take n s) ≡ true
+front_is_digits s n e = ap (λ k. list_all is_digit (take k s)) e ∙ list_all-prefix is_digit s
+
+-- reserved words
+pub find-goes : (p : Word → Bool) (ws : List Word) (i : ℕ) (d : Word) → i < length ws → p (get_or ws i d) ≡ false → find p (drop i ws) ≡ find p (drop (i + 1) ws)
+find-goes p ws i d h e = rw (add-one, drop-cons ws i d, e) refl
+
+pub find-here : (p : Word → Bool) (ws : List Word) (i : ℕ) (d : Word) → i < length ws → p (get_or ws i d) ≡ true → find p (drop i ws) ≡ Some (get_or ws i d)
+find-here p ws i d h e = rw (drop-cons ws i d, e) refl
+
+-- texts
+pub text_of-utf8 : (bytes string : List ℕ) → string ≡ bytes → IsUtf8 string → text_within (chars string) ≡ text_of bytes
+text_of-utf8 bytes string e utf8 =
+    let Is : Bool → Option (List ℕ) = λ t. if t then text_within (chars bytes) else None in
+    ap (λ (l : List ℕ). text_within (chars l)) e ∙ sym (ap Is (is_utf8-from_IsUtf8 bytes (subst IsUtf8 e utf8)))
+
+pub text_of-other : (bytes : List ℕ) → (IsUtf8 bytes → false ≡ true) → text_of bytes ≡ None
+text_of-other bytes not_utf8 =
+    let Is : Bool → Option (List ℕ) = λ t. if t then text_within (chars bytes) else None in
+    elim (is_utf8 bytes) as (λ t. is_utf8 bytes ≡ t → Is t ≡ None) [ true ↦ λ e. let never = not_utf8 (IsUtf8-from_is_utf8 bytes e) in cc | false ↦ λ e. refl ] refl

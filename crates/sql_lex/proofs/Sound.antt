@@ -50,7 +50,7 @@ letter_in_name : (b : ℕ) → is_letter b ≡ true → is_name_part b ≡ true
 letter_in_name b h = grind (arith, nat_tests)
 
 -- the front of name characters is like a word
-front_is_word : (b : ℕ) (bs : List ℕ) → is_letter b ≡ true → nat_le (prefix_len is_name_part (b ∷ bs)) most_characters ≡ true → IsWordLike (take (prefix_len is_name_part (b ∷ bs)) (b ∷ bs))
+pub front_is_word : (b : ℕ) (bs : List ℕ) → is_letter b ≡ true → nat_le (prefix_len is_name_part (b ∷ bs)) most_characters ≡ true → IsWordLike (take (prefix_len is_name_part (b ∷ bs)) (b ∷ bs))
 front_is_word b bs letter short =
     let s : List ℕ = b ∷ bs in
     let n : ℕ = prefix_len is_name_part s in
@@ -98,10 +98,11 @@ number_stands b bs digit =
 -- texts
 text_of_stands : (s raw : List ℕ) (width : ℕ) → IsQuoted s raw width → Stands (text_token (text_of raw) (1 + width)) (39 ∷ s)
 text_of_stands s raw width q =
-    choose (λ o. Stands (text_token o (1 + width)) (39 ∷ s)) (is_utf8 raw && nat_le (length (chars raw)) most_text) _ _
-    (λ test.
-        let utf8 = IsUtf8-from_is_utf8 raw (both_left (is_utf8 raw) (nat_le (length (chars raw)) most_text) test) in
-        let short = le_most (length (chars raw)) most_text (both_right (is_utf8 raw) (nat_le (length (chars raw)) most_text) test) in
+    let P : Option (List ℕ) → Type 0 = λ o. Stands (text_token o (1 + width)) (39 ∷ s) in
+    choose P (is_utf8 raw) _ _
+    (λ test. choose P (nat_le (length (chars raw)) most_text) _ _ (λ small.
+        let utf8 = IsUtf8-from_is_utf8 raw test in
+        let short = le_most (length (chars raw)) most_text small in
         let same : chars raw ≡ utf8.0 = ap chars (sym utf8.1.1) ∙ chars-encodes utf8.0 utf8.1.0 in
         let scalar : all_scalars (chars raw) ≡ true = ap all_scalars same ∙ utf8.1.0 in
         let back : encode_utf8_all (chars raw) ≡ raw = ap encode_utf8_all same ∙ utf8.1.1 in
@@ -112,6 +113,7 @@ text_of_stands s raw width q =
           width_is = omega (arith, q.width_is, length-append (doubled raw) (39 ∷ []));
           lexeme = ((scalar, short, ap (λ (l : List ℕ). 39 ∷ (doubled l ++ 39 ∷ [])) (sym back)), q.ends);
         })
+    (λ _. tt))
     (λ _. tt)
 
 text_stands : (s : List ℕ) → Stands (text_step (39 ∷ s)) (39 ∷ s)

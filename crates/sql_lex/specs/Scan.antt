@@ -99,9 +99,13 @@ abbrev pub IsUnquoted : Option (List ℕ × ℕ) → List ℕ → List ℕ → O
 IsUnquoted read old new None = read ≡ None
 IsUnquoted read old new (Some width) = (text : List ℕ) × (read ≡ Some (text, width)) × (new ≡ old ++ text)
 
+-- the text of these characters, where they are within the limit
+abbrev pub text_within : List ℕ → Option (List ℕ)
+text_within characters = if nat_le (length characters) most_text then Some characters else None
+
 -- the text of these bytes, where they are UTF-8 and within the limit
 abbrev pub text_of : List ℕ → Option (List ℕ)
-text_of bytes = if is_utf8 bytes && nat_le (length (chars bytes)) most_text then Some (chars bytes) else None
+text_of bytes = if is_utf8 bytes then text_within (chars bytes) else None
 
 abbrev pub text_token : Option (List ℕ) → ℕ → Step
 text_token None width = step.Bad

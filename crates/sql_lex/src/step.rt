@@ -1,10 +1,11 @@
 //! What stands at the head of some bytes: a token, or a part of what stands between tokens.
 
-ghost use Rattle.std.specs.Prelude.{◌≡◌, ◌<◌, true, IfOk, length, not};
+ghost use Rattle.std.specs.Prelude.{◌≡◌, ◌<◌, true, IfOk, length, not, string_bytes};
 ghost use Rattle.std.specs.List.{list_all, prefix_len};
+ghost use Rattle.std.specs.Str.{chars};
 ghost use Rattle.sql_values.specs.Names.{is_letter, is_digit, is_name_part as is_part_of_name, begins_by};
 ghost use Rattle.sql_lex.specs.Tokens.{is_line_feed};
-ghost use Rattle.sql_lex.specs.Scan.{begins_with as begins_with_both, block_step, close_end as end_of_comment, line_step, long_sign as sign_of_two, number_of as number_of_digits, number_step, short_sign as sign_of_one, sign_step, step_of, text_of as text_of_bytes, text_step, text_token as step_over_text, unquoted as text_behind, width_in_text as width_in_quotes, word_step, IsUnquoted};
+ghost use Rattle.sql_lex.specs.Scan.{begins_with as begins_with_both, block_step, close_end as end_of_comment, line_step, long_sign as sign_of_two, number_of as number_of_digits, number_step, short_sign as sign_of_one, sign_step, step_of, text_of as text_of_bytes, text_step, text_token as step_over_text, text_within as text_within_limit, unquoted as text_behind, width_in_text as width_in_quotes, word_step, IsUnquoted};
 
 use crate::word::reserved;
 use crate::{Lexeme, Sign};
@@ -145,15 +146,32 @@ fn unquoted(bytes: &[u8], text: &mut Vec<u8>) -> Result<Option<usize>, NoMemory>
     Ok(None)
 }
 
+// How many characters a text has.
+fn characters_in(text: &str) -> usize
+    ensures { result ≡ length (chars text.now) }
+{
+    text.chars().count()
+}
+
+// The text of these characters, where they are within the limit.
+fn text_within(characters: String) -> Option<Text>
+    ensures { result ≡ text_within_limit (chars (string_bytes characters)) }
+{
+    if characters_in(&characters) > 4096 {
+        None
+    } else {
+        Some(Text::of(characters))
+    }
+}
+
 // The text of these bytes, where they are UTF-8 and within the limit.
 fn text_of(bytes: Vec<u8>) -> Option<Text>
     ensures { result ≡ text_of_bytes bytes.items }
 {
-    let characters = String::from_utf8(bytes).ok()?;
-    if characters.chars().count() > 4096 {
-        return None;
+    match String::from_utf8(bytes) {
+        Ok(characters) => text_within(characters),
+        Err(_not_utf8) => None,
     }
-    Some(Text::of(characters))
 }
 
 // The text at the head.

@@ -287,5 +287,11 @@ pub(crate) fn reserved(capitals: &[u8]) -> Option<Word>
     ensures { result ≡ reserved_word capitals.now }
 {
     let first = *capitals.first()?;
-    words_of(first).iter().copied().find(|word| word.spelling() == capitals)
+    let words = words_of(first);
+    for word in words {
+        if word.spelling() == capitals {
+            return Some(*word);
+        }
+    }
+    None
 }

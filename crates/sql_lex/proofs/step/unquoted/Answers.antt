@@ -1,9 +1,9 @@
-use Rattle.std.proofs.Common.{sym, ◌∙◌, ap, append_assoc, [], ◌∷◌, ◌++◌, get_or, append-nil, refl}
+use Rattle.std.proofs.Common.{sym, ◌∙◌, [], ◌∷◌, ◌++◌, get_or, append-nil}
 use Rattle.sql_lex.proofs.Scanning.{unquoted-starts, unquoted-closes, unquoted-goes, pushed}
 use Rattle.sql_lex.proofs.step.unquoted.Goals as goal
 
 pub loop-at-init : goal.loop-at-init
-loop-at-init c = ([], sym (append-nil _), unquoted-starts _)
+loop-at-init c = ([], sym (append-nil c.args.text.now.items), unquoted-starts c.args.bytes.now)
 
 pub returns-in_default : goal.returns-in_default
 returns-in_default c =
