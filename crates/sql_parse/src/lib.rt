@@ -5,6 +5,9 @@
 mod create;
 mod expr;
 mod insert;
+mod parse;
 mod place;
 mod query;
 mod statement;
+
+pub use parse::parse_statement;
