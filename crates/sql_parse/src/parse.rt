@@ -1,6 +1,6 @@
 //! A statement in a list of tokens.
 
-ghost use Rattle.std.specs.Prelude.{◌≡◌, ◌≤◌, length};
+ghost use Rattle.std.specs.Prelude.{◌≡◌, ◌<◌, ◌≤◌, length, IfOk};
 ghost use Rattle.token_grammar.specs.Statement.{Answers, answered as answered_by, most_open};
 ghost use Rattle.sql_grammar.specs.Sql as g;
 ghost use Rattle.sql_grammar.specs.Sql.{rules};
@@ -19,7 +19,8 @@ const MOST_OPEN: u32 = 24;
 /// construct more may be open.
 pub fn parse_statement(alloc: Global, tokens: &Tokens, at: usize) -> Result<(Stmt, usize), ParseFault>
     requires { at ≤ length tokens.now.tokens }
-    ensures { Answers rules most_open g.statement tokens.now.tokens at result }
+    ensures answers { Answers rules most_open g.statement tokens.now.tokens at result }
+    ensures goes { IfOk result (λ r. (at < r.1) × (r.1 ≤ length tokens.now.tokens)) }
 {
     let all = tokens.as_slice();
     let mut input = Input::from_place(all, at);

@@ -1,0 +1,4 @@
+pub mod Database
+pub mod Effects
+pub mod Stored
+pub mod Statement
