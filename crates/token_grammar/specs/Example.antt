@@ -4,7 +4,7 @@
 --     variable  := DECLARE name        cursor := DECLARE name CURSOR        handler := DECLARE EXIT sum
 --     sum       := operand {'+' operand}
 --     operand   := number | name | '(' sum ')'
-use Rattle.std.specs.Prelude.{◌≡◌, ℕ, zero, suc, ◌+◌, Bool, true, false, List, [], ◌∷◌, Option, Some, None, ℤ, pos, refl, Ok, Err, drop}
+use Rattle.std.specs.Prelude.{◌≡◌, ℕ, ◌+◌, true, List, [], ◌∷◌, Option, Some, None, ℤ, pos, refl, Ok, Err, drop}
 use Rattle.sql_lex.specs.declared.token.Lexeme.{Lexeme}
 use Rattle.sql_lex.specs.declared.token.Lexeme.TheVariants as lexeme
 use Rattle.sql_lex.specs.declared.token.Token.{Token}
@@ -13,8 +13,8 @@ use Rattle.sql_lex.specs.declared.word.Word.TheVariants as w
 use Rattle.sql_lex.specs.declared.sign.Sign.TheVariants as s
 use Rattle.token_grammar.specs.declared.stage.Stage.{Stage}
 use Rattle.token_grammar.specs.declared.stage.Stage.TheVariants.{First, Second, Third}
-use Rattle.token_grammar.specs.Grammar.{Grammar, token, nested, both, either, optional, many, staged, map_to}
-use Rattle.token_grammar.specs.Notation.{word, sign, name, number, ◌~◌, ◌~>◌, ◌<~◌, ◌or◌, ◌=>◌, name_of, number_of, is_there}
+use Rattle.token_grammar.specs.Grammar.{Grammar, nested, optional, many, staged}
+use Rattle.token_grammar.specs.Notation.{word, sign, name, number, ◌~◌, ◌~>◌, ◌<~◌, ◌or◌, ◌=>◌, name_of, number_of}
 use Rattle.token_grammar.specs.Reading.{decides, reading, NoSpelling, TooDeep, same_kind, goes_on}
 
 -- a sum: what it adds, and the places of its numbers, names and signs
