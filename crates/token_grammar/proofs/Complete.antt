@@ -1,15 +1,14 @@
 -- What is spelled is read.
-use Rattle.std.proofs.Common.{◌≡◌, ℕ, zero, suc, ◌+◌, ◌<◌, ◌≤◌, Bool, true, false, not, ◌&&◌, cond, List, [], ◌∷◌, ◌++◌, length, Option, Some, None, Result, Ok, Err, refl, ap, sym, ◌∙◌, subst, inl, inr, ◌⊎◌, arith}
+use Rattle.std.proofs.Common.{◌≡◌, ℕ, zero, suc, ◌+◌, ◌≤◌, Bool, true, false, not, ◌&&◌, cond, List, [], ◌∷◌, ◌++◌, length, Some, None, Ok, Err, refl, ap, sym, ◌∙◌, subst, inl, inr, arith}
 use Rattle.sql_lex.specs.Tokens.{kind_of}
 use Rattle.sql_lex.specs.declared.token.Kind.{Kind}
 use Rattle.sql_lex.specs.declared.token.Token.{Token}
 use Rattle.token_grammar.specs.declared.stage.Stage.{Stage}
-use Rattle.token_grammar.specs.Grammar.{Grammar, token, nested, both, either, optional, many, staged, map_to, Takes, Passes, Each, EachFrom, stage_after, Spells, Cut, inside, begun}
-use Rattle.token_grammar.specs.Reading.{Outcome, Fault, NoSpelling, TooDeep, first, nullable, goes_on, apart, is_one_of, decides, begins, expect, enter, repeat, repeat_from, at_stages, read, readers, ◌>>=◌}
-use Rattle.token_grammar.specs.Exact.{IsSound, Gets, Reaches}
-use Rattle.token_grammar.proofs.Ahead.{is_sees, and_true, not_true, not_both, stops_both, stops_one, apart_stops, some_stage, each_stage_stops, each_stage}
-use Rattle.token_grammar.proofs.Shapes.{least, whole_begins, spells_shorter, inside_shorter, cut_shorter, begun_shorter, spells_starts, cut_starts, StartsOrNothing}
-use Rattle.token_grammar.proofs.Sound.{sound, sound_in, content_sound, sound_repeat, sound_repeat_from, sound_token}
+use Rattle.token_grammar.specs.Grammar.{Grammar, token, nested, both, either, optional, many, staged, map_to, Takes, Passes, Each, EachFrom, Spells, inside}
+use Rattle.token_grammar.specs.Reading.{Outcome, NoSpelling, TooDeep, first, nullable, goes_on, apart, is_one_of, decides, begins, expect, repeat, repeat_from, at_stages, read, readers, ◌>>=◌}
+use Rattle.token_grammar.specs.Exact.{Gets}
+use Rattle.token_grammar.proofs.Ahead.{is_sees, and_true, stops_both, stops_one, apart_stops, some_stage, each_stage_stops, each_stage}
+use Rattle.token_grammar.proofs.Shapes.{least, spells_shorter, inside_shorter, spells_starts, StartsOrNothing}
 
 -- ---- outcomes
 

@@ -1,11 +1,11 @@
 -- Where there is no room, the next token opens a construct.
-use Rattle.std.proofs.Common.{◌≡◌, ℕ, zero, suc, Bool, true, false, cond, List, [], ◌∷◌, length, Option, Some, None, Result, Ok, Err, refl, inl, inr, ◌⊎◌}
+use Rattle.std.proofs.Common.{◌≡◌, ℕ, zero, suc, Bool, true, false, cond, List, [], ◌∷◌, length, Some, None, Ok, Err, refl, inl, inr}
 use Rattle.sql_lex.specs.Tokens.{kind_of}
 use Rattle.sql_lex.specs.declared.token.Kind.{Kind}
 use Rattle.sql_lex.specs.declared.token.Token.{Token}
 use Rattle.token_grammar.specs.declared.stage.Stage.{Stage}
-use Rattle.token_grammar.specs.Grammar.{Grammar, token, nested, both, either, optional, many, staged, map_to, Opens, OpensHere}
-use Rattle.token_grammar.specs.Reading.{Outcome, Fault, NoSpelling, TooDeep, first, begins, expect, enter, repeat, repeat_from, read, readers, ◌>>=◌}
+use Rattle.token_grammar.specs.Grammar.{Grammar, token, nested, both, either, optional, many, staged, map_to, Opens}
+use Rattle.token_grammar.specs.Reading.{Outcome, NoSpelling, TooDeep, first, begins, expect, repeat, repeat_from, read, readers, ◌>>=◌}
 use Rattle.token_grammar.specs.Exact.{DeepAt}
 use Rattle.token_grammar.proofs.Ahead.{sees_is}
 

@@ -1,13 +1,13 @@
 -- A whole spelling that nothing goes beyond is read.
-use Rattle.std.proofs.Common.{◌≡◌, ℕ, zero, suc, ◌+◌, ◌<◌, ◌≤◌, Bool, true, false, not, ◌&&◌, ◌||◌, cond, List, [], ◌∷◌, ◌++◌, length, Option, Some, None, Result, Ok, Err, refl, ap, sym, ◌∙◌, subst, inl, inr, ◌⊎◌, arith}
+use Rattle.std.proofs.Common.{◌≡◌, ℕ, zero, suc, ◌≤◌, Bool, true, false, not, ◌&&◌, cond, List, [], ◌∷◌, ◌++◌, length, Some, None, Ok, refl, ap, sym, ◌∙◌, subst, inl, inr, ◌⊎◌, arith}
 use Rattle.sql_lex.specs.declared.token.Kind.{Kind}
 use Rattle.sql_lex.specs.declared.token.Token.{Token}
 use Rattle.token_grammar.specs.declared.stage.Stage.{Stage}
-use Rattle.token_grammar.specs.Grammar.{Grammar, token, nested, both, either, optional, many, staged, map_to, Inner, Begun, Takes, Each, EachFrom, stage_after, Spells, Cut, inside, begun}
-use Rattle.token_grammar.specs.Reading.{Outcome, first, nullable, goes_on, apart, decides, begins, repeat, repeat_from, at_stages, read, readers, reading, ◌>>=◌}
+use Rattle.token_grammar.specs.Grammar.{Grammar, token, nested, both, either, optional, many, staged, map_to, Inner, Begun, Each, EachFrom, Spells, Cut, inside, begun}
+use Rattle.token_grammar.specs.Reading.{first, nullable, goes_on, apart, decides, begins, repeat, repeat_from, at_stages, read, readers, ◌>>=◌}
 use Rattle.token_grammar.specs.Exact.{Gets}
 use Rattle.token_grammar.proofs.Ahead.{sees_is, and_true, or_cases, begins-append, apart_stops, each_stage, not_true, not_both}
-use Rattle.token_grammar.proofs.Shapes.{least, nothing_begins, inside_grows, spells_grows, spells_shorter, inside_shorter, spells_starts, StartsOrNothing}
+use Rattle.token_grammar.proofs.Shapes.{nothing_begins, inside_grows, spells_grows, spells_shorter, inside_shorter, spells_starts, StartsOrNothing}
 use Rattle.token_grammar.proofs.Complete.{ContentComplete, complete_in, gets_true, gets_false, gets_map, gets_bind, gets_from, gets_nested, gets_token, nonnull_starts, nonnull_least, ItemDecides, item_decides, begins_stage, begins_or_ends}
 
 empties : {R : Type 0} {Tree : R → Type 0} {A : Type 0} (inner : Inner R Tree) (g : Grammar R Tree A) → nullable g ≡ true → (ts : List Token) → (x : A) × Spells inner g x ts ts

@@ -1,5 +1,5 @@
 -- What the reader's outcome says of places.
-use Rattle.std.proofs.Common.{◌≡◌, ℕ, zero, suc, ◌+◌, ◌-◌, ◌<◌, ◌≤◌, Bool, true, false, List, [], ◌∷◌, length, drop, Result, Ok, Err, refl, ap, sym, ◌∙◌, subst, inl, inr, ◌⊎◌, arith, length-drop}
+use Rattle.std.proofs.Common.{◌≡◌, ℕ, suc, ◌+◌, ◌-◌, ◌<◌, ◌≤◌, true, false, List, [], ◌∷◌, length, drop, Result, Ok, Err, refl, ap, sym, ◌∙◌, subst, inl, inr, ◌⊎◌, arith, length-drop}
 use Rattle.sql_lex.specs.declared.token.Kind.{Kind}
 use Rattle.sql_lex.specs.declared.token.Token.{Token}
 use Rattle.token_grammar.specs.Grammar.{Grammar, Spells, Cut, inside, begun, Opens}
@@ -8,7 +8,7 @@ use Rattle.token_grammar.specs.declared.fault.ParseError.{ParseError}
 use Rattle.token_grammar.specs.declared.fault.ParseError.TheVariants as error
 use Rattle.token_grammar.specs.Reads.{Reads}
 use Rattle.token_grammar.specs.Exact.{IsSound, Gets, Reaches, DeepAt}
-use Rattle.token_grammar.specs.Statement.{SpellsWithin, BeginsWithin, Front, IsFurthest, IsStuck, IsTooDeep, ReadsNothing, Answers, PartAnswers, place, at_places, answered}
+use Rattle.token_grammar.specs.Statement.{SpellsWithin, BeginsWithin, IsStuck, IsTooDeep, IsOne, Answers, PartAnswers, place, at_places, answered}
 use Rattle.token_grammar.proofs.After.{After, drop_more, spells_after, inside_after, cut_after, begun_after}
 use Rattle.token_grammar.proofs.Shapes.{whole_begins}
 use Rattle.token_grammar.proofs.Sound.{sound}
@@ -88,8 +88,11 @@ module _ {R : Type 0} {Tree : R → Type 0} {A : Type 0} (rules : (r : R) → Gr
   answers : (o : Outcome A) → IsSound rules n g (drop i tokens) o → ReachesAll o → DeepAt (Opens rules g) o
       → ((x : A) (rest : List Token) → Spells (inside rules n) g x (drop i tokens) rest → Gets n n o x rest)
       → Answers rules n g tokens i (at_places tokens o)
-  answers (Ok p) s r d c = (spelled_to p.0 p.1 s, λ x j h. let w = c x (drop j tokens) h.2 in
-      let l : length p.1 ≡ length tokens - j = ap length w.1 ∙ length-drop j tokens in let hj = h.1 in (w.0, omega arith))
+  answers (Ok p) s r d c = (
+    spelled_to p.0 p.1 s,
+    λ x j h. let w = c x (drop j tokens) h.2 in
+        let l : length p.1 ≡ length tokens - j = ap length w.1 ∙ length-drop j tokens in let hj = h.1 in (w.0, omega arith),
+  )
   answers (Err (NoSpelling rest)) s r d c = (stuck rest s r, λ x j h. c x (drop j tokens) h.2)
   answers (Err (TooDeep rest)) s r d c = (too_deep rest s r d, λ x j h. let a : n < n = c x (drop j tokens) h.2 in omega arith)
 
@@ -118,6 +121,18 @@ module _ {R : Type 0} {Tree : R → Type 0} {A : Type 0} (rules : (r : R) → Gr
       (λ m end cut. reach_in rules n m (content_complete rules all n m) (content_reaches rules all n m) g d (drop i tokens) end cut)
       (deep rules n g (drop i tokens))
       (λ x rest s far. complete_far rules n n (content_complete rules all n n) g d x (drop i tokens) rest s far)
+
+-- ---- at most one tree and one end
+
+one_of : {R : Type 0} {Tree : R → Type 0} {A : Type 0} (rules : (r : R) → Grammar R Tree (Tree r)) (n : ℕ) (g : Grammar R Tree A) (tokens : List Token) (i : ℕ) (o : Outcome A)
+    → Answers rules n g tokens i (at_places tokens o) → IsOne rules n g tokens i
+one_of rules n g tokens i (Ok p) a x j y k s t = let u = a.1 x j s in let v = a.1 y k t in (sym u.0 ∙ v.0, sym u.1 ∙ v.1)
+one_of rules n g tokens i (Err (NoSpelling rest)) a x j y k s t = absurd (a.1 x j s)
+one_of rules n g tokens i (Err (TooDeep rest)) a x j y k s t = absurd (a.1 x j s)
+
+pub one_spelling : {R : Type 0} {Tree : R → Type 0} {A : Type 0} (rules : (r : R) → Grammar R Tree (Tree r)) → ((r : R) → decides rules (rules r) ≡ true)
+    → (n : ℕ) (g : Grammar R Tree A) → decides rules g ≡ true → goes_on g ≡ [] → (tokens : List Token) (i : ℕ) → i ≤ length tokens → IsOne rules n g tokens i
+one_spelling rules all n g d e tokens i li = one_of rules n g tokens i (reading rules n g (drop i tokens)) (reading_answers rules all n g d e tokens i li)
 
 -- ---- of a parser that reads as the reader does
 

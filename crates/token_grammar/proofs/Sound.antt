@@ -1,11 +1,11 @@
 -- What is read is spelled, and what is refused was begun.
-use Rattle.std.proofs.Common.{◌≡◌, ℕ, zero, suc, ◌+◌, ◌<◌, ◌≤◌, Bool, true, false, cond, List, [], ◌∷◌, ◌++◌, length, Option, Some, None, Result, Ok, Err, refl, ap, sym, ◌∙◌, subst, inl, inr, ◌⊎◌, arith}
+use Rattle.std.proofs.Common.{◌≡◌, ℕ, zero, suc, Bool, true, false, cond, List, [], ◌∷◌, length, Some, None, Ok, Err, refl, subst, inl, inr, ◌⊎◌}
 use Rattle.sql_lex.specs.Tokens.{kind_of}
 use Rattle.sql_lex.specs.declared.token.Kind.{Kind}
 use Rattle.sql_lex.specs.declared.token.Token.{Token}
 use Rattle.token_grammar.specs.declared.stage.Stage.{Stage}
-use Rattle.token_grammar.specs.Grammar.{Grammar, token, nested, both, either, optional, many, staged, map_to, Takes, Passes, Each, EachFrom, stage_after, Spells, Cut, inside, begun}
-use Rattle.token_grammar.specs.Reading.{Outcome, Fault, NoSpelling, TooDeep, first, begins, next_token, expect, enter, repeat, repeat_from, read, readers, ◌>>=◌}
+use Rattle.token_grammar.specs.Grammar.{Grammar, token, nested, both, either, optional, many, staged, map_to, Takes, Passes, Spells, Cut, inside, begun}
+use Rattle.token_grammar.specs.Reading.{Outcome, NoSpelling, TooDeep, first, begins, expect, repeat, repeat_from, read, readers, ◌>>=◌}
 use Rattle.token_grammar.specs.Exact.{IsSound}
 use Rattle.token_grammar.proofs.Ahead.{sees_is}
 use Rattle.token_grammar.proofs.Shapes.{nothing_begins, whole_begins, inside_grows, spells_grows}

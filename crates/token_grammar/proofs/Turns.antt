@@ -1,10 +1,10 @@
 -- Laws of reading that a loop of the parser needs.
-use Rattle.std.proofs.Common.{◌≡◌, ℕ, zero, suc, ◌+◌, ◌-◌, ◌<◌, ◌≤◌, Bool, true, false, not, cond, List, [], ◌∷◌, ◌++◌, length, drop, Option, Some, None, Result, Ok, Err, refl, ap, sym, ◌∙◌, subst, inl, inr, ◌⊎◌, arith, append_assoc, append-nil}
+use Rattle.std.proofs.Common.{◌≡◌, ℕ, zero, suc, ◌+◌, ◌<◌, ◌≤◌, Bool, true, false, cond, List, [], ◌∷◌, ◌++◌, length, drop, Ok, Err, refl, ap, sym, ◌∙◌, subst, arith, append_assoc, append-nil}
 use Rattle.sql_lex.specs.declared.token.Kind.{Kind}
 use Rattle.token_grammar.specs.declared.stage.Stage.{Stage}
 use Rattle.sql_lex.specs.declared.token.Token.{Token}
 use Rattle.token_grammar.specs.Grammar.{Grammar, many, both, token, staged, map_to, inside}
-use Rattle.token_grammar.specs.Reading.{Outcome, Fault, NoSpelling, TooDeep, first, nullable, begins, next_token, repeat, repeat_from, read, readers, reading, with_front, ◌>>=◌}
+use Rattle.token_grammar.specs.Reading.{Outcome, Fault, NoSpelling, TooDeep, first, nullable, begins, next_token, repeat, repeat_from, reading, with_front, ◌>>=◌}
 use Rattle.token_grammar.specs.Exact.{IsSound}
 use Rattle.token_grammar.specs.Reads.{Reads}
 use Rattle.token_grammar.specs.declared.fault.ParseError.{ParseError}
@@ -164,7 +164,7 @@ module _ {R : Type 0} {Tree : R → Type 0} (rules : (r : R) → Grammar R Tree 
       (λ p. repeat_from (λ t. first (item t)) (λ t. reading rules n (item t)) f a (f stage p.0) p.1 >>= λ ps. Ok (p.0 ∷ ps.0, ps.1))
       (λ p. repeat_from (λ t. first (item t)) (λ t. reading rules n (item t)) f b (f stage p.0) p.1 >>= λ ps. Ok (p.0 ∷ ps.0, ps.1)) refl
       (λ p e. let l = item_shorter n (item stage) (nn stage) ts p e in ap (λ z. z >>= λ ps. Ok (p.0 ∷ ps.0, ps.1))
-          (repeat_from_turns n item f nn a b (f stage p.0) p.1 (omega arith) (omega arith))))
+      (repeat_from_turns n item f nn a b (f stage p.0) p.1 (omega arith) (omega arith))))
 
   from_step : {A : Type 0} (n : ℕ) (item : Stage → Grammar R Tree A) (f : Stage → A → Stage) → ItemsShorten item
       → (len : ℕ) (stage : Stage) (ts : List Token) (x : A) (next : List Token) → length ts ≡ len → begins (first (item stage)) ts ≡ true → reading rules n (item stage) ts ≡ Ok (x, next)

@@ -1,10 +1,10 @@
 -- What an outcome of reading says of the tokens.
-use Rattle.std.specs.Prelude.{◌≡◌, ℕ, zero, suc, ◌<◌, ◌≤◌, List, [], ◌∷◌, length, Ok, Err, ◌⊎◌}
+use Rattle.std.specs.Prelude.{◌≡◌, ℕ, suc, ◌<◌, ◌≤◌, List, ◌∷◌, length, Ok, Err, ◌⊎◌}
 use Rattle.sql_lex.specs.Tokens.{kind_of}
 use Rattle.sql_lex.specs.declared.token.Kind.{Kind}
 use Rattle.sql_lex.specs.declared.token.Token.{Token}
 use Rattle.token_grammar.specs.Grammar.{Grammar, Spells, Cut, inside, begun}
-use Rattle.token_grammar.specs.Reading.{Outcome, Fault, NoSpelling, TooDeep}
+use Rattle.token_grammar.specs.Reading.{Outcome, NoSpelling, TooDeep}
 
 -- a tree that is spelled there; else a beginning, and where there was no room one that goes on by a token in more room
 abbrev pub IsSound : {R : Type 0} {Tree : R → Type 0} {A : Type 0} → ((r : R) → Grammar R Tree (Tree r)) → ℕ → Grammar R Tree A → List Token → Outcome A → Type 0

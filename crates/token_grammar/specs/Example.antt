@@ -4,7 +4,7 @@
 --     variable  := DECLARE name        cursor := DECLARE name CURSOR        handler := DECLARE EXIT sum
 --     sum       := operand {'+' operand}
 --     operand   := number | name | '(' sum ')'
-use Rattle.std.specs.Prelude.{◌≡◌, ℕ, zero, suc, ◌+◌, Bool, true, false, List, [], ◌∷◌, Option, Some, None, ℤ, pos, refl, Ok, Err, drop}
+use Rattle.std.specs.Prelude.{zero, suc, ◌≡◌, ℕ, ◌+◌, true, List, [], ◌∷◌, Option, Some, None, ℤ, pos, refl, Ok, Err, drop}
 use Rattle.sql_lex.specs.declared.token.Lexeme.{Lexeme}
 use Rattle.sql_lex.specs.declared.token.Lexeme.TheVariants as lexeme
 use Rattle.sql_lex.specs.declared.token.Token.{Token}
@@ -13,8 +13,9 @@ use Rattle.sql_lex.specs.declared.word.Word.TheVariants as w
 use Rattle.sql_lex.specs.declared.sign.Sign.TheVariants as s
 use Rattle.token_grammar.specs.declared.stage.Stage.{Stage}
 use Rattle.token_grammar.specs.declared.stage.Stage.TheVariants.{First, Second, Third}
-use Rattle.token_grammar.specs.Grammar.{Grammar, token, nested, both, either, optional, many, staged, map_to}
-use Rattle.token_grammar.specs.Notation.{word, sign, name, number, ◌~◌, ◌~>◌, ◌<~◌, ◌or◌, ◌=>◌, name_of, number_of, is_there}
+use Rattle.token_grammar.specs.Grammar.{Grammar, nested, optional, many, staged}
+use Rattle.token_grammar.specs.Notation.{word, sign, name, number, ◌~◌, ◌~>◌, ◌<~◌, ◌or◌, ◌=>◌, name_of, number_of}
+use Rattle.token_grammar.specs.Statement.{most_open}
 use Rattle.token_grammar.specs.Reading.{decides, reading, NoSpelling, TooDeep, same_kind, goes_on}
 
 -- a sum: what it adds, and the places of its numbers, names and signs
@@ -158,3 +159,19 @@ is_too_deep = refl
 pub is_deep_enough : reading rules 2 statement two_deep ≡ Ok ((None, Number 2 (pos 1)), [])
 unfolding same_kind operand sum handler variable_or_cursor cursor declaration block statement
 is_deep_enough = refl
+
+-- as many brackets round 1, and `;`
+abbrev pub times : ℕ → Lexeme → List Lexeme → List Lexeme
+times zero l ls = ls
+times (suc n) l ls = l ∷ times n l ls
+
+abbrev pub bracketed : ℕ → List Token
+bracketed n = tokens_of (times n (lexeme.Sign s.LeftParen) (one ∷ times n (lexeme.Sign s.RightParen) (lexeme.Sign s.Semicolon ∷ [])))
+
+pub is_within_limit : reading rules most_open statement (bracketed 24) ≡ Ok ((None, Number 24 (pos 1)), [])
+unfolding same_kind operand sum handler variable_or_cursor cursor declaration block statement
+is_within_limit = refl
+
+pub is_beyond_limit : reading rules most_open statement (bracketed 25) ≡ Err (TooDeep (drop 24 (bracketed 25)))
+unfolding same_kind operand sum handler variable_or_cursor cursor declaration block statement
+is_beyond_limit = refl

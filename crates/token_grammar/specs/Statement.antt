@@ -1,6 +1,6 @@
 -- What reading says of a statement, and of a part of one, by places in a list of tokens. A place is a token's number, from 0; a
 -- grammar is read from place i on, where at most n constructs may be open at once.
-use Rattle.std.specs.Prelude.{◌≡◌, ℕ, zero, suc, ◌+◌, ◌-◌, ◌≤◌, List, ◌∷◌, length, drop, Result, Ok, Err}
+use Rattle.std.specs.Prelude.{◌≡◌, ℕ, suc, ◌+◌, ◌-◌, ◌≤◌, List, ◌∷◌, length, drop, Result, Ok, Err}
 use Rattle.sql_lex.specs.Tokens.{kind_of}
 use Rattle.sql_lex.specs.declared.token.Token.{Token}
 use Rattle.token_grammar.specs.declared.fault.ParseError.{ParseError}
@@ -47,6 +47,10 @@ module _ {R : Type 0} {Tree : R → Type 0} {A : Type 0} (rules : (r : R) → Gr
   -- Nothing is read from i on.
   abbrev pub ReadsNothing : ℕ → Grammar R Tree A → List Token → ℕ → Type 0
   ReadsNothing n g tokens i = (tree : A) (j : ℕ) → SpellsWithin rules n g tokens i tree j → ⊥
+
+  -- At most one tree is spelled from i on, up to one place.
+  abbrev pub IsOne : ℕ → Grammar R Tree A → List Token → ℕ → Type 0
+  IsOne n g tokens i = (x : A) (j : ℕ) (y : A) (k : ℕ) → SpellsWithin rules n g tokens i x j → SpellsWithin rules n g tokens i y k → (x ≡ y) × (j ≡ k)
 
   -- The answer of a parser for a grammar with an end of its own, as a statement's `;`: the one tree that is spelled from i on, and the place
   -- behind it; else where the longest beginning ends, and whether for want of constructs alone.

@@ -182,3 +182,54 @@ impl<'a> Input<'a> {
         }
     }
 }
+
+#[cfg(test)]
+mod tests {
+    use super::*;
+    use crate::fault::ParseFault;
+    use sql_lex::Sign;
+
+    fn token(lexeme: Lexeme, number: usize) -> Token {
+        Token {
+            lexeme,
+            number,
+            start: number,
+            end: number,
+            line: 1,
+            column: 1,
+        }
+    }
+
+    // ( X 7
+    #[test]
+    fn reads_a_construct(rt: HostRuntime) {
+        let name = Name::folded(rt.alloc(), b"x").expect(&rt, "there");
+        let tokens = [
+            token(Lexeme::Sign(Sign::LeftParen), 0),
+            token(Lexeme::Name(name), 1),
+            token(Lexeme::Number(7), 2),
+        ];
+        let mut input = Input::from_place(&tokens, 0);
+        assert_eq!(rt;
+            input.open(0, Kind::Sign(Sign::LeftParen)),
+            Err(ParseError::TooDeep)
+        );
+        assert_eq!(rt; input.open(1, Kind::Sign(Sign::LeftParen)), Ok(0));
+        assert!(rt; !input.eat(Kind::Number));
+        let copy = name_in(input.expect(Kind::Name).expect(&rt, "there")).expect(&rt, "there");
+        assert_eq!(rt; copy.as_bytes(), b"X".as_slice());
+        assert_eq!(rt; input.place(), 2);
+        assert_eq!(rt;
+            number_in(input.expect(Kind::Number).expect(&rt, "there")),
+            7
+        );
+        assert_eq!(rt;
+            input.close(Kind::Sign(Sign::RightParen), 5),
+            Err(ParseError::NoStatement)
+        );
+        assert_eq!(rt;
+            ParseError::NoStatement.at(input.place_in(&tokens)),
+            ParseFault::NoStatement(3)
+        );
+    }
+}

@@ -4,7 +4,7 @@ ghost use Rattle.std.specs.Prelude.{◌≡◌, ℕ, ◌≤◌, List, [], length,
 ghost use Rattle.sql_lex.specs.declared.token.Token.{Token};
 ghost use Rattle.token_grammar.specs.Grammar.{Grammar};
 ghost use Rattle.token_grammar.specs.Reading.{decides, goes_on, reading};
-ghost use Rattle.token_grammar.specs.Statement.{Answers, PartAnswers, at_places};
+ghost use Rattle.token_grammar.specs.Statement.{Answers, IsOne, PartAnswers, at_places};
 
 /// A grammar with the rules that it names, which one token ahead decides. No code has a value of such a type: it stands for what
 /// contracts speak of.
@@ -41,12 +41,11 @@ pub trait Ending: Part {
 /// up to it, where there is one.
 pub fn reads_part<P: Part>()
     ensures { (n : ℕ) (tokens : List Token) (i : ℕ) → i ≤ length tokens → PartAnswers P.rules n P.part tokens i (at_places tokens (reading P.rules n P.part (drop i tokens))) }
-{
-}
+{}
 
 /// Reading a part with an end from place i on, with room for n constructs: the one tree that is spelled there, and the place behind it; else
 /// the place where the longest beginning ends, and whether one more construct would go on.
 pub fn reads_whole<E: Ending>()
-    ensures { (n : ℕ) (tokens : List Token) (i : ℕ) → i ≤ length tokens → Answers E.rules n E.part tokens i (at_places tokens (reading E.rules n E.part (drop i tokens))) }
-{
-}
+    ensures answers { (n : ℕ) (tokens : List Token) (i : ℕ) → i ≤ length tokens → Answers E.rules n E.part tokens i (at_places tokens (reading E.rules n E.part (drop i tokens))) }
+    ensures one { (n : ℕ) (tokens : List Token) (i : ℕ) → i ≤ length tokens → IsOne E.rules n E.part tokens i }
+{}

@@ -1,4 +1,4 @@
-use Rattle.std.proofs.Common.{◌≡◌, ap, sym, ◌∙◌, true, rules}
+use Rattle.std.proofs.Common.{ap, sym, ◌∙◌}
 use denote.Enum.Bare.{same_true}
 use Rattle.sql_lex.specs.contracts.word.Word.{the_type as words}
 use Rattle.sql_lex.specs.declared.token.Kind.TheVariants as kinds
