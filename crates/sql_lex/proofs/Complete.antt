@@ -39,17 +39,17 @@ digit_in_name b h = grind (arith, nat_tests)
 pub most_le : (n m : ℕ) → n ≤ m → nat_le n m ≡ true
 most_le n m h = grind (arith, nat_tests)
 
-at_letter : (b : ℕ) (bs : List ℕ) → is_letter b ≡ true → step_of (b ∷ bs) ≡ word_step (b ∷ bs)
-at_letter b bs h = let n = letter_no_blank b h in rw (n, h) refl
-
-at_digit : (b : ℕ) (bs : List ℕ) → is_digit b ≡ true → step_of (b ∷ bs) ≡ number_step (b ∷ bs)
-at_digit b bs h = let n = digit_no_blank b h in let l = digit_no_letter b h in rw (n, l, h) refl
-
 if_true : (t : Bool) (x y : Step) → t ≡ true → (if t then x else y) ≡ x
 if_true t x y h = rw h refl
 
 if_false : (t : Bool) (x y : Step) → t ≡ false → (if t then x else y) ≡ y
 if_false t x y h = rw h refl
+
+at_letter : (b : ℕ) (bs : List ℕ) → is_letter b ≡ true → step_of (b ∷ bs) ≡ word_step (b ∷ bs)
+at_letter b bs h = if_false (is_blank b) _ _ (letter_no_blank b h) ∙ if_true (is_letter b) _ _ h
+
+at_digit : (b : ℕ) (bs : List ℕ) → is_digit b ≡ true → step_of (b ∷ bs) ≡ number_step (b ∷ bs)
+at_digit b bs h = if_false (is_blank b) _ _ (digit_no_blank b h) ∙ if_false (is_letter b) _ _ (digit_no_letter b h) ∙ if_true (is_digit b) _ _ h
 
 -- words
 word_at : (bytes rest : List ℕ) → list_all is_name_part bytes ≡ true → length bytes ≤ most_characters → begins_by is_name_part rest ≡ false → word_step (bytes ++ rest) ≡ step.Token (lexeme_of (reserved (folded bytes)) (folded bytes)) (length bytes)

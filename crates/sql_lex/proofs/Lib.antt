@@ -1,5 +1,6 @@
 pub mod Complete
 pub mod Lists
+pub mod Longest
 pub mod Loop
 pub mod Scanning
 pub mod Sound
