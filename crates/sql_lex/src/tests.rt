@@ -7,12 +7,20 @@ use std::process::Abort;
 use std::test::Fail;
 
 const NAME: Kind = Kind::Name;
+
 const NUMBER: Kind = Kind::Number;
+
 const TEXT: Kind = Kind::Text;
+
 const BAD: Kind = Kind::Bad;
 
 // Asserts that the tokens of a text are of these kinds.
-fn expect_kinds(rt: &impl Abort, alloc: Global, text: &[u8], kinds: &[Kind]) -> Result<(), NoMemory> {
+fn expect_kinds(
+    rt: &impl Abort,
+    alloc: Global,
+    text: &[u8],
+    kinds: &[Kind],
+) -> Result<(), NoMemory> {
     let read = tokens(alloc, text)?;
     assert_eq!(rt; read.len(), kinds.len(), "{text:?}");
     for (token, kind) in read.as_slice().iter().zip(kinds) {
@@ -207,7 +215,15 @@ static ROWS: [(&str, &[Kind]); 31] = [
     ("\"a\"", &[BAD]),
     ("a é", &[NAME, BAD]),
     ("1-1", &[NUMBER, Kind::Sign(Sign::Minus), NUMBER]),
-    ("a<=>b", &[NAME, Kind::Sign(Sign::LessThanOrEquals), Kind::Sign(Sign::GreaterThan), NAME]),
+    (
+        "a<=>b",
+        &[
+            NAME,
+            Kind::Sign(Sign::LessThanOrEquals),
+            Kind::Sign(Sign::GreaterThan),
+            NAME,
+        ],
+    ),
     (" \t\r\n", &[]),
 ];
 
@@ -222,7 +238,13 @@ fn rows(rt: HostRuntime) -> Result<(), Fail> {
 }
 
 // Asserts what a text of so many letters is, after and before this byte.
-fn expect_long(rt: &impl Abort, alloc: Global, edge: &[u8], length: usize, kind: Kind) -> Result<(), NoMemory> {
+fn expect_long(
+    rt: &impl Abort,
+    alloc: Global,
+    edge: &[u8],
+    length: usize,
+    kind: Kind,
+) -> Result<(), NoMemory> {
     let mut text = Vec::new(alloc);
     text.extend_from_slice(edge)?;
     for _ in 0..length {
@@ -263,7 +285,10 @@ fn places(rt: HostRuntime) -> Result<(), Fail> {
 
 #[test]
 fn openings(rt: HostRuntime) -> Result<(), Fail> {
-    let read = tokens(rt.alloc(), b"if ( end if case begin loop end loop while repeat for end (")?;
+    let read = tokens(
+        rt.alloc(),
+        b"if ( end if case begin loop end loop while repeat for end (",
+    )?;
     let want = [
         true, true, false, false, true, true, true, false, false, true, true, false, false, true,
     ];
