@@ -4,6 +4,7 @@ pub mod Longest
 pub mod Loop
 pub mod Scanning
 pub mod Sound
+pub mod Spacing
 pub mod Spans
 pub mod Texts
 pub mod Words

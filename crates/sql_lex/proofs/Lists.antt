@@ -160,7 +160,7 @@ gaps (p ∷ ps) (q ∷ qs) s t is are e none nothing =
     (λ i. first.0 i ++ others.0 i, others.1)
 
 -- what a token says of its bytes
-abbrev Others : Token → List Token → ℕ → Position → List ℕ → List ℕ → Type 0
+abbrev pub Others : Token → List Token → ℕ → Position → List ℕ → List ℕ → Type 0
 Others t ts number p head rest =
     (IsLexeme t.lexeme head rest × AreTokens ts (number + 1) (past head p) rest) ⊎ ((t.lexeme ≡ lexeme.Bad) × (ts ≡ []) × (length head ≡ 1) × BeginsNothing (head ++ rest))
 
@@ -168,7 +168,7 @@ no_piece-token : (t : Token) (ts : List Token) (number : ℕ) (p : Position) (he
 no_piece-token t ts number p head rest (inl h) = no_piece-lexeme t.lexeme head rest h.0
 no_piece-token t ts number p head rest (inr h) = no_piece-bad (head ++ rest) h.3
 
-token_long : (t : Token) (ts : List Token) (number : ℕ) (p : Position) (head rest : List ℕ) → Others t ts number p head rest → 0 < length head
+pub token_long : (t : Token) (ts : List Token) (number : ℕ) (p : Position) (head rest : List ℕ) → Others t ts number p head rest → 0 < length head
 token_long t ts number p head rest (inl h) = lexeme_long t.lexeme head rest h.0
 token_long t ts number p head rest (inr h) = omega (arith, h.2)
 

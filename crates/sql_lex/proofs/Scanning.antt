@@ -168,8 +168,8 @@ no-front (Some r) = let e : r.1 ≡ 0 + r.1 = omega arith in ap (λ (n : ℕ). S
 pub unquoted-starts : (s : List ℕ) → unquoted s ≡ with_front [] 0 (unquoted s)
 unquoted-starts s = no-front (unquoted s)
 
-pub pushed : (text old read : List ℕ) (b : ℕ) → text ≡ old ++ read → text ++ b ∷ [] ≡ old ++ (read ++ b ∷ [])
-pushed text old read b e = ap (λ (l : List ℕ). l ++ b ∷ []) e ∙ append_assoc old read (b ∷ [])
+pub pushed : (new text old read : List ℕ) (b : ℕ) → new ≡ text ++ b ∷ [] → text ≡ old ++ read → new ≡ old ++ (read ++ b ∷ [])
+pushed new text old read b grown e = grown ∙ ap (λ (l : List ℕ). l ++ b ∷ []) e ∙ append_assoc old read (b ∷ [])
 
 -- how far the readings reach
 pub close_end-within : (s : List ℕ) (width : ℕ) → close_end s ≡ Some width → width ≤ length s

@@ -12,7 +12,7 @@ mod word;
 
 pub use law::{each_script_has_one_lexing, each_token_is_the_longest};
 pub use lexer::tokens;
-pub use position::Position;
+use position::Position;
 pub use sign::Sign;
 pub use token::{Kind, Lexeme, Token};
 pub use token_list::{Tokens, opens, place};

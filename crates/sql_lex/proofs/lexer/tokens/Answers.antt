@@ -5,6 +5,7 @@ use Rattle.sql_lex.specs.declared.position.Position.{Position}
 use Rattle.sql_lex.specs.Places.{origin}
 use Rattle.sql_lex.specs.Tokens.{token_at, AreTokens, Lexing}
 use Rattle.sql_lex.proofs.Loop.{Moves, gap_moves, token_moves, cut_is, gap_ahead, token_ahead, bad_ahead, gap_passed, token_passed, bad_passed, so_far_all}
+use Rattle.sql_lex.proofs.Spacing.{spans}
 use Rattle.sql_lex.proofs.lexer.tokens.Goals as goal
 
 pub slice_bounds-past-end : goal.slice_bounds-past-end
@@ -65,3 +66,8 @@ returns c =
       ap (λ (t : Lexing). t.end_line) is ∙ ap (λ (p : Position). p.line) h.0,
       ap (λ (t : Lexing). t.end_column) is ∙ ap (λ (p : Position). p.column) h.0,
     )
+
+pub of-requires : goal.of-requires
+of-requires c =
+    let h = so_far_all c.args.bytes.now _ _ c.loop-position.invariant c.loop-position-test.false in
+    spans _ 0 origin c.args.bytes.now h.1
