@@ -1,9 +1,9 @@
 -- A token or a piece that stands at the head of some bytes is what is read there.
-use Rattle.std.proofs.Common.{ℕ, zero, suc, ◌≡◌, ◌+◌, ◌*◌, ◌-◌, ◌^◌, ◌<◌, ◌≤◌, Bool, true, false, not, ◌&&◌, ◌||◌, List, [], ◌∷◌, ◌++◌, length, take, drop, get_or, refl, sym, ap, ◌∙◌, subst, arith, append_assoc, nat_eq, nat_le, one-add, length-append, pos}
-use Rattle.std.specs.Prelude.{Option, Some, None, if◌then◌else◌, ◌⊎◌}
+use Rattle.std.proofs.Common.{ℕ, ◌≡◌, ◌+◌, ◌<◌, ◌≤◌, Bool, true, false, not, ◌&&◌, ◌||◌, List, [], ◌∷◌, ◌++◌, length, take, drop, refl, sym, ap, ◌∙◌, arith, append_assoc, nat_eq, nat_le, length-append, pos}
+use Rattle.std.specs.Prelude.{Option, Some, None, if◌then◌else◌}
 use Rattle.std.proofs.Common.{inl, inr}
-use Rattle.std.specs.List.{list_all, prefix_len}
-use Rattle.std.specs.Str.{is_utf8, chars, encode_utf8_all, all_scalars}
+use Rattle.std.specs.List.{list_all}
+use Rattle.std.specs.Str.{chars, encode_utf8_all, all_scalars}
 use Rattle.std.proofs.lemmas.List.{take_at, drop_at}
 use Rattle.std.proofs.lemmas.Bool.Decides.{nat_tests}
 use Rattle.std.proofs.lemmas.Str.{chars-encodes, is_utf8-from_IsUtf8}
@@ -12,15 +12,13 @@ use Rattle.sql_lex.specs.declared.token.Lexeme.{Lexeme}
 use Rattle.sql_lex.specs.declared.token.Lexeme.TheVariants as lexeme
 use Rattle.sql_lex.specs.declared.step.Step.{Step}
 use Rattle.sql_lex.specs.declared.step.Step.TheVariants as step
-use Rattle.sql_lex.specs.declared.word.Word.{Word}
 use Rattle.sql_lex.specs.declared.sign.Sign.{Sign}
 use Rattle.sql_lex.specs.declared.sign.Sign.TheVariants as sign
-use Rattle.sql_lex.specs.Words.{spelling}
 use Rattle.sql_lex.specs.Signs.{sign_spelling, sign_goes_on}
-use Rattle.sql_lex.specs.Tokens.{is_blank, is_quote, is_line_feed, digits_value, doubled, most_number, most_text, has_close, Spells, goes_on, IsLexeme, IsBlank, IsLineComment, IsBlockComment, IsPiece}
-use Rattle.sql_lex.specs.Scan.{step_of, word_step, number_step, number_of, number_token, text_step, text_token, quoted_token, text_of, unquoted, lexeme_of, reserved, block_step, gap_of, plus, close_end, line_step, sign_step, long_sign, short_sign, sign_token}
+use Rattle.sql_lex.specs.Tokens.{is_blank, is_quote, is_line_feed, digits_value, doubled, most_number, most_text, has_close, IsLexeme, IsPiece}
+use Rattle.sql_lex.specs.Scan.{step_of, word_step, number_step, number_of, number_token, text_token, quoted_token, text_of, unquoted, lexeme_of, reserved, gap_of, plus, close_end}
 use Rattle.sql_lex.proofs.Words.{reserved-of, reserved-none}
-use Rattle.sql_lex.proofs.Spans.{both, both_left, both_right, prefix_len-whole, begins_by-weaker}
+use Rattle.sql_lex.proofs.Spans.{both_left, both_right, prefix_len-whole, begins_by-weaker}
 use Rattle.sql_lex.proofs.Texts.{unquoted-doubled, close_end-first}
 
 -- kinds of bytes exclude each other
@@ -39,17 +37,17 @@ digit_in_name b h = grind (arith, nat_tests)
 pub most_le : (n m : ℕ) → n ≤ m → nat_le n m ≡ true
 most_le n m h = grind (arith, nat_tests)
 
-at_letter : (b : ℕ) (bs : List ℕ) → is_letter b ≡ true → step_of (b ∷ bs) ≡ word_step (b ∷ bs)
-at_letter b bs h = let n = letter_no_blank b h in rw (n, h) refl
-
-at_digit : (b : ℕ) (bs : List ℕ) → is_digit b ≡ true → step_of (b ∷ bs) ≡ number_step (b ∷ bs)
-at_digit b bs h = let n = digit_no_blank b h in let l = digit_no_letter b h in rw (n, l, h) refl
-
 if_true : (t : Bool) (x y : Step) → t ≡ true → (if t then x else y) ≡ x
 if_true t x y h = rw h refl
 
 if_false : (t : Bool) (x y : Step) → t ≡ false → (if t then x else y) ≡ y
 if_false t x y h = rw h refl
+
+at_letter : (b : ℕ) (bs : List ℕ) → is_letter b ≡ true → step_of (b ∷ bs) ≡ word_step (b ∷ bs)
+at_letter b bs h = if_false (is_blank b) _ _ (letter_no_blank b h) ∙ if_true (is_letter b) _ _ h
+
+at_digit : (b : ℕ) (bs : List ℕ) → is_digit b ≡ true → step_of (b ∷ bs) ≡ number_step (b ∷ bs)
+at_digit b bs h = if_false (is_blank b) _ _ (digit_no_blank b h) ∙ if_false (is_letter b) _ _ (digit_no_letter b h) ∙ if_true (is_digit b) _ _ h
 
 -- words
 word_at : (bytes rest : List ℕ) → list_all is_name_part bytes ≡ true → length bytes ≤ most_characters → begins_by is_name_part rest ≡ false → word_step (bytes ++ rest) ≡ step.Token (lexeme_of (reserved (folded bytes)) (folded bytes)) (length bytes)

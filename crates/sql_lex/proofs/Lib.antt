@@ -1,8 +1,10 @@
 pub mod Complete
 pub mod Lists
+pub mod Longest
 pub mod Loop
 pub mod Scanning
 pub mod Sound
+pub mod Spacing
 pub mod Spans
 pub mod Texts
 pub mod Words

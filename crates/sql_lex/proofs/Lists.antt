@@ -1,22 +1,21 @@
 -- Lists of tokens: what one step adds, that each script has one list, and no other.
-use Rattle.std.proofs.Common.{ℕ, zero, suc, ◌≡◌, ◌+◌, ◌-◌, ◌<◌, ◌≤◌, Bool, true, false, List, [], ◌∷◌, ◌++◌, length, take, drop, refl, sym, ap, ◌∙◌, subst, arith, append_assoc, append-nil, length-append, length-drop, inl, inr}
+use Rattle.std.proofs.Common.{ℕ, zero, suc, ◌≡◌, ◌+◌, ◌<◌, ◌≤◌, List, [], ◌∷◌, ◌++◌, length, take, drop, refl, sym, ap, ◌∙◌, subst, arith, append_assoc, append-nil, length-append, inl, inr}
 use Rattle.std.specs.Prelude.{◌⊎◌}
 use Rattle.std.specs.List.{concat}
-use Rattle.std.proofs.lemmas.List.{take_at, drop_at, take-append-drop, drop-drop, drop_all}
+use Rattle.std.proofs.lemmas.List.{take_at, drop_at}
 use Rattle.sql_lex.specs.declared.token.Lexeme.{Lexeme}
 use Rattle.sql_lex.specs.declared.token.Lexeme.TheVariants as lexeme
 use Rattle.sql_lex.specs.declared.token.Token.{Token}
-use Rattle.sql_lex.specs.declared.step.Step.{Step}
 use Rattle.sql_lex.specs.declared.step.Step.TheVariants as step
 use Rattle.sql_lex.specs.declared.sign.Sign.{Sign}
 use Rattle.sql_lex.specs.declared.sign.Sign.TheVariants as sign
 use Rattle.sql_lex.specs.declared.position.Position.{Position}
 use Rattle.sql_lex.specs.Places.{origin, past, behind}
 use Rattle.sql_lex.specs.Signs.{sign_spelling}
-use Rattle.sql_lex.specs.Tokens.{IsLexeme, IsPiece, ArePieces, IsGap, BeginsNothing, token_at, AreTokens, Lexing, IsTokens}
+use Rattle.sql_lex.specs.Tokens.{IsLexeme, IsPiece, ArePieces, BeginsNothing, token_at, AreTokens, Lexing, IsTokens}
 use Rattle.sql_lex.specs.Scan.{step_of}
 use Rattle.sql_lex.proofs.Complete.{piece_is_read, lexeme_is_read}
-use Rattle.sql_lex.proofs.Sound.{HasPiece, HasLexeme, Stands, step_stands}
+use Rattle.sql_lex.proofs.Sound.{Stands, step_stands}
 
 pub past-append : (a b : List ℕ) (p : Position) → past (a ++ b) p ≡ past b (past a p)
 past-append [] b p = refl
@@ -68,7 +67,7 @@ nothing_begins s bad head rest parts = (
 bad_is_read : (s : List ℕ) → BeginsNothing s → step_of s ≡ step.Bad
 bad_is_read s none =
     elim (step_of s) as (λ x. Stands x s → x ≡ step.Bad) [
-      step.Gap w ↦ λ q. absurd ((none q.bytes q.rest q.parts).0 q.piece)
+      | step.Gap w ↦ λ q. absurd ((none q.bytes q.rest q.parts).0 q.piece)
       | step.Token l w ↦ λ q. absurd ((none q.bytes q.rest q.parts).1 l q.lexeme)
       | step.Bad ↦ λ _. refl
     ] (step_stands s)
@@ -81,8 +80,7 @@ after_piece [] number p bytes rest piece (parts, is, are) =
 after_piece (t ∷ ts) number p bytes rest piece (gap, head, more, is, (parts, joined, are), token, others) =
     let place = sym (past-append bytes gap p) in
     let before : rest ≡ concat parts ++ (head ++ more) = is ∙ ap (λ (l : List ℕ). l ++ (head ++ more)) joined in
-    let Others : Position → Type 0 = λ q. (IsLexeme t.lexeme head more × AreTokens ts (number + 1) (past head q) more) ⊎ ((t.lexeme ≡ lexeme.Bad) × (ts ≡ []) × (length head ≡ 1) × BeginsNothing (head ++ more)) in
-    (
+    let Others : Position → Type 0 = λ q. (IsLexeme t.lexeme head more × AreTokens ts (number + 1) (past head q) more) ⊎ ((t.lexeme ≡ lexeme.Bad) × (ts ≡ []) × (length head ≡ 1) × BeginsNothing (head ++ more)) in (
       bytes ++ gap,
       head,
       more,
@@ -108,7 +106,7 @@ tokens_of zero (b ∷ bs) number p h = absurd (omega arith)
 tokens_of (suc fuel) (b ∷ bs) number p h =
     let s : List ℕ = b ∷ bs in
     elim (step_of s) as (λ x. step_of s ≡ x → Stands x s → (ts : List Token) × AreTokens ts number p s) [
-      step.Gap w ↦ λ _ q.
+      | step.Gap w ↦ λ _ q.
           let shorter : length q.rest ≤ fuel = omega (arith, ap length q.parts, length-append q.bytes q.rest, piece_long q.bytes q.rest q.piece) in
           let others = tokens_of fuel q.rest number (past q.bytes p) shorter in
           (others.0, subst (AreTokens others.0 number p) (sym q.parts) (after_piece others.0 number p q.bytes q.rest q.piece others.1))
@@ -162,7 +160,7 @@ gaps (p ∷ ps) (q ∷ qs) s t is are e none nothing =
     (λ i. first.0 i ++ others.0 i, others.1)
 
 -- what a token says of its bytes
-abbrev Others : Token → List Token → ℕ → Position → List ℕ → List ℕ → Type 0
+abbrev pub Others : Token → List Token → ℕ → Position → List ℕ → List ℕ → Type 0
 Others t ts number p head rest =
     (IsLexeme t.lexeme head rest × AreTokens ts (number + 1) (past head p) rest) ⊎ ((t.lexeme ≡ lexeme.Bad) × (ts ≡ []) × (length head ≡ 1) × BeginsNothing (head ++ rest))
 
@@ -170,7 +168,7 @@ no_piece-token : (t : Token) (ts : List Token) (number : ℕ) (p : Position) (he
 no_piece-token t ts number p head rest (inl h) = no_piece-lexeme t.lexeme head rest h.0
 no_piece-token t ts number p head rest (inr h) = no_piece-bad (head ++ rest) h.3
 
-token_long : (t : Token) (ts : List Token) (number : ℕ) (p : Position) (head rest : List ℕ) → Others t ts number p head rest → 0 < length head
+pub token_long : (t : Token) (ts : List Token) (number : ℕ) (p : Position) (head rest : List ℕ) → Others t ts number p head rest → 0 < length head
 token_long t ts number p head rest (inl h) = lexeme_long t.lexeme head rest h.0
 token_long t ts number p head rest (inr h) = omega (arith, h.2)
 
@@ -212,7 +210,7 @@ one_list (t ∷ ts) [] number p s (gap1, head1, rest1, is1, (parts1, joined1, ar
     absurd (omega (arith, ap length same.1, length-append head1 rest1))
 one_list (t ∷ ts) (u ∷ us) number p s (gap1, head1, rest1, is1, (parts1, joined1, are1), token1, others1) (gap2, head2, rest2, is2, (parts2, joined2, are2), token2, others2) =
     let whole : concat parts1 ++ (head1 ++ rest1) ≡ concat parts2 ++ (head2 ++ rest2) =
-        sym (ap (λ (l : List ℕ). l ++ (head1 ++ rest1)) joined1) ∙ sym is1 ∙ is2 ∙ ap (λ (l : List ℕ). l ++ (head2 ++ rest2)) joined2 in
+    sym (ap (λ (l : List ℕ). l ++ (head1 ++ rest1)) joined1) ∙ sym is1 ∙ is2 ∙ ap (λ (l : List ℕ). l ++ (head2 ++ rest2)) joined2 in
     let same = gaps parts1 parts2 (head1 ++ rest1) (head2 ++ rest2) are1 are2 whole (no_piece-token t ts number (past gap1 p) head1 rest1 others1) (no_piece-token u us number (past gap2 p) head2 rest2 others2) in
     let gap_is : gap2 ≡ gap1 = joined2 ∙ sym same.0 ∙ sym joined1 in
     let Moved : List ℕ → Type 0 = λ g. Others u us number (past g p) head2 rest2 in

@@ -1,5 +1,5 @@
 -- The loop of `tokens`: what holds of the tokens so far, and what each step keeps of it.
-use Rattle.std.proofs.Common.{ℕ, zero, suc, ◌≡◌, ◌+◌, ◌-◌, ◌<◌, ◌≤◌, List, [], ◌∷◌, ◌++◌, length, take, drop, refl, sym, ap, ◌∙◌, subst, arith, append_assoc, append-nil, length-append, length-drop, add-one}
+use Rattle.std.proofs.Common.{ℕ, ◌≡◌, ◌+◌, ◌-◌, ◌<◌, ◌≤◌, List, [], ◌∷◌, ◌++◌, length, take, drop, refl, sym, ap, ◌∙◌, subst, arith, append_assoc, append-nil, length-append, length-drop}
 use Rattle.std.proofs.lemmas.List.{take_at, drop_at, take-append-drop, drop-drop, drop_all, length-take-le}
 use Rattle.sql_lex.specs.declared.token.Lexeme.{Lexeme}
 use Rattle.sql_lex.specs.declared.token.Lexeme.TheVariants as lexeme
@@ -8,7 +8,7 @@ use Rattle.sql_lex.specs.declared.step.Step.{Step}
 use Rattle.sql_lex.specs.declared.step.Step.TheVariants as step
 use Rattle.sql_lex.specs.declared.position.Position.{Position}
 use Rattle.sql_lex.specs.Places.{origin, past}
-use Rattle.sql_lex.specs.Tokens.{IsLexeme, IsPiece, token_at, AreTokens}
+use Rattle.sql_lex.specs.Tokens.{token_at, AreTokens}
 use Rattle.sql_lex.specs.Scan.{step_of}
 use Rattle.sql_lex.proofs.Scanning.{rest_of}
 use Rattle.sql_lex.proofs.Sound.{HasPiece, HasLexeme, Stands, step_stands}
@@ -91,7 +91,7 @@ module _ (bytes : List ℕ) (list : List Token) (p q : Position) (w : ℕ) (so_f
             let At : ℕ → Position → List ℕ → Type 0 = λ number place rest. AreTokens others number place rest in
             let count : length (list ++ t ∷ []) ≡ length list + 1 = length-append list (t ∷ []) in
             let moved : At (length list + 1) (past h.bytes p) h.rest =
-                subst (λ rest. At (length list + 1) (past h.bytes p) rest) (sym rest_is ∙ back) (subst (λ place. At (length list + 1) place (drop q.at bytes)) (q_is ∙ ap (λ (l : List ℕ). past l p) front) (subst (λ number. At number q (drop q.at bytes)) count k)) in
+            subst (λ rest. At (length list + 1) (past h.bytes p) rest) (sym rest_is ∙ back) (subst (λ place. At (length list + 1) place (drop q.at bytes)) (q_is ∙ ap (λ (l : List ℕ). past l p) front) (subst (λ number. At number q (drop q.at bytes)) count k)) in
             let joined = after_lexeme l others (length list) p h.bytes h.rest h.lexeme moved in
             let here : AreTokens (t ∷ others) (length list) p s = subst (λ width. AreTokens (token_at l (length list) p width ∷ others) (length list) p s) (sym h.width_is) (subst (AreTokens (token_at l (length list) p (length h.bytes) ∷ others) (length list) p) (sym h.parts) joined) in
             let Whole : List Token → Type 0 = λ ts. AreTokens ts 0 origin bytes in
@@ -119,8 +119,7 @@ so_far_bad bytes list p q so_far inside q_is q_at q_line q_column e =
 pub so_far_all : (bytes : List ℕ) (list : List Token) (p : Position) → SoFar bytes list p → length bytes ≤ p.at → (p ≡ past bytes origin) × AreTokens list 0 origin bytes
 so_far_all bytes list p so_far end =
     let none : drop p.at bytes ≡ [] = drop_all p.at bytes end in
-    let Whole : List Token → Type 0 = λ ts. AreTokens ts 0 origin bytes in
-    (
+    let Whole : List Token → Type 0 = λ ts. AreTokens ts 0 origin bytes in (
       sym (ap (λ (l : List ℕ). past l p) none) ∙ so_far.leads,
       subst Whole (append-nil list) (so_far.tokens [] ([], none, tt)),
     )

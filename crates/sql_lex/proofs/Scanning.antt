@@ -16,7 +16,7 @@ use Rattle.std.proofs.lemmas.Str.{IsUtf8-from_is_utf8, is_utf8-from_IsUtf8}
 use Rattle.sql_lex.proofs.Complete.{most_le}
 use Rattle.sql_lex.proofs.Sound.{front_is_word}
 use Rattle.sql_lex.proofs.Spans.{both_left, both_right, list_all-prefix}
-use Rattle.sql_lex.proofs.Texts.{IsClosed, IsClosed-close_end, IsQuoted, IsQuoted-unquoted}
+use Rattle.sql_lex.proofs.Texts.{IsClosed-close_end, IsQuoted-unquoted}
 
 -- what is left from a place on
 pub rest_of : (s : List ℕ) (i : ℕ) → take (length s - i) (drop i s) ≡ drop i s
@@ -123,7 +123,7 @@ closes (b ∷ []) h e =
     elim (is_quote b) as (λ q. (if not q then one else nothing) ≡ nothing → (if q then closed else unread) ≡ closed) [ true ↦ λ e. refl | false ↦ λ e. cc ] e
 closes (b ∷ (c ∷ cs)) h e =
     elim (is_quote b) as (λ q. (if not q then one else if q && is_quote c then two else nothing) ≡ nothing → (if q then (if is_quote c then with_front (b ∷ []) 2 (unquoted cs) else closed) else with_front (b ∷ []) 1 (unquoted (c ∷ cs))) ≡ closed) [
-      true ↦ elim (is_quote c) as (λ r. (if r then two else nothing) ≡ nothing → (if r then with_front (b ∷ []) 2 (unquoted cs) else closed) ≡ closed) [ true ↦ λ e. cc | false ↦ λ e. refl ]
+      | true ↦ elim (is_quote c) as (λ r. (if r then two else nothing) ≡ nothing → (if r then with_front (b ∷ []) 2 (unquoted cs) else closed) ≡ closed) [ true ↦ λ e. cc | false ↦ λ e. refl ]
       | false ↦ λ e. cc
     ] e
 
@@ -131,13 +131,13 @@ goes_on : (s : List ℕ) (w : ℕ) → 0 < length s → width_in_text s ≡ Some
 goes_on [] w h e = absurd (omega arith)
 goes_on (b ∷ []) w h e =
     elim (is_quote b) as (λ q. (if not q then one else nothing) ≡ Some w → (if q then closed else unread) ≡ with_front (b ∷ []) w (unquoted (drop w (b ∷ [])))) [
-      true ↦ λ e. cc
+      | true ↦ λ e. cc
       | false ↦ λ e. let k : 1 ≡ w = cc in subst (λ (n : ℕ). unread ≡ with_front (b ∷ []) n (unquoted (drop n (b ∷ [])))) k refl
     ] e
 goes_on (b ∷ (c ∷ cs)) w h e =
     elim (is_quote b) as (λ q. (if not q then one else if q && is_quote c then two else nothing) ≡ Some w → (if q then (if is_quote c then with_front (b ∷ []) 2 (unquoted cs) else closed) else with_front (b ∷ []) 1 (unquoted (c ∷ cs))) ≡ with_front (b ∷ []) w (unquoted (drop w (b ∷ (c ∷ cs))))) [
-      true ↦ elim (is_quote c) as (λ r. (if r then two else nothing) ≡ Some w → (if r then with_front (b ∷ []) 2 (unquoted cs) else closed) ≡ with_front (b ∷ []) w (unquoted (drop w (b ∷ (c ∷ cs))))) [
-        true ↦ λ e. let k : 2 ≡ w = cc in subst (λ (n : ℕ). with_front (b ∷ []) 2 (unquoted cs) ≡ with_front (b ∷ []) n (unquoted (drop n (b ∷ (c ∷ cs))))) k refl
+      | true ↦ elim (is_quote c) as (λ r. (if r then two else nothing) ≡ Some w → (if r then with_front (b ∷ []) 2 (unquoted cs) else closed) ≡ with_front (b ∷ []) w (unquoted (drop w (b ∷ (c ∷ cs))))) [
+        | true ↦ λ e. let k : 2 ≡ w = cc in subst (λ (n : ℕ). with_front (b ∷ []) 2 (unquoted cs) ≡ with_front (b ∷ []) n (unquoted (drop n (b ∷ (c ∷ cs))))) k refl
         | false ↦ λ e. cc
       ]
       | false ↦ λ e. let k : 1 ≡ w = cc in subst (λ (n : ℕ). with_front (b ∷ []) 1 (unquoted (c ∷ cs)) ≡ with_front (b ∷ []) n (unquoted (drop n (b ∷ (c ∷ cs))))) k refl
@@ -168,8 +168,8 @@ no-front (Some r) = let e : r.1 ≡ 0 + r.1 = omega arith in ap (λ (n : ℕ). S
 pub unquoted-starts : (s : List ℕ) → unquoted s ≡ with_front [] 0 (unquoted s)
 unquoted-starts s = no-front (unquoted s)
 
-pub pushed : (text old read : List ℕ) (b : ℕ) → text ≡ old ++ read → text ++ b ∷ [] ≡ old ++ (read ++ b ∷ [])
-pushed text old read b e = ap (λ (l : List ℕ). l ++ b ∷ []) e ∙ append_assoc old read (b ∷ [])
+pub pushed : (new text old read : List ℕ) (b : ℕ) → new ≡ text ++ b ∷ [] → text ≡ old ++ read → new ≡ old ++ (read ++ b ∷ [])
+pushed new text old read b grown e = grown ∙ ap (λ (l : List ℕ). l ++ b ∷ []) e ∙ append_assoc old read (b ∷ [])
 
 -- how far the readings reach
 pub close_end-within : (s : List ℕ) (width : ℕ) → close_end s ≡ Some width → width ≤ length s

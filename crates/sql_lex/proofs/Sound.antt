@@ -1,5 +1,5 @@
 -- What is read at the head of some bytes stands there.
-use Rattle.std.proofs.Common.{ℕ, zero, suc, ◌≡◌, ◌+◌, ◌<◌, ◌≤◌, Bool, true, false, not, ◌&&◌, ◌||◌, List, [], ◌∷◌, ◌++◌, length, take, drop, refl, sym, ap, ◌∙◌, subst, arith, append_assoc, nat_eq, nat_le, length-append, pos, ℤ, inl, inr, eqb-true}
+use Rattle.std.proofs.Common.{ℕ, ◌≡◌, ◌+◌, ◌<◌, Bool, true, false, not, ◌&&◌, ◌||◌, List, [], ◌∷◌, ◌++◌, length, take, drop, refl, sym, ap, ◌∙◌, subst, arith, append_assoc, nat_eq, nat_le, length-append, inl, inr, eqb-true}
 use Rattle.std.specs.Prelude.{Option, Some, None, if◌then◌else◌}
 use Rattle.std.specs.List.{list_all, prefix_len}
 use Rattle.std.specs.Str.{is_utf8, chars, encode_utf8_all, all_scalars}
@@ -14,11 +14,11 @@ use Rattle.sql_lex.specs.declared.step.Step.TheVariants as step
 use Rattle.sql_lex.specs.declared.sign.Sign.{Sign}
 use Rattle.sql_lex.specs.declared.sign.Sign.TheVariants as sign
 use Rattle.sql_lex.specs.Signs.{sign_spelling, sign_goes_on}
-use Rattle.sql_lex.specs.Tokens.{is_blank, is_quote, is_line_feed, digits_value, doubled, most_number, most_text, has_close, Spells, goes_on, IsLexeme, IsPiece}
-use Rattle.sql_lex.specs.Scan.{step_of, word_step, number_step, number_of, number_token, text_step, text_token, quoted_token, text_of, unquoted, lexeme_of, reserved, begins_with, block_step, gap_of, plus, close_end, line_step, sign_step, long_sign, short_sign, sign_token}
+use Rattle.sql_lex.specs.Tokens.{is_blank, is_quote, is_line_feed, digits_value, doubled, most_number, most_text, IsLexeme, IsPiece}
+use Rattle.sql_lex.specs.Scan.{step_of, word_step, number_step, number_token, text_step, text_token, quoted_token, text_of, unquoted, lexeme_of, reserved, begins_with, block_step, gap_of, plus, close_end, line_step, sign_step, long_sign, short_sign, sign_token}
 use Rattle.sql_lex.proofs.Words.{not_reserved, spelling-reserved}
 use Rattle.sql_lex.proofs.Spans.{both, both_left, both_right, list_all-prefix, begins_by-prefix, length-prefix, prefix_len-pos, begins_by-front}
-use Rattle.sql_lex.proofs.Texts.{IsQuoted, IsQuoted-unquoted, IsClosed, IsClosed-close_end}
+use Rattle.sql_lex.proofs.Texts.{IsQuoted, IsQuoted-unquoted, IsClosed-close_end}
 use Rattle.sql_lex.proofs.Complete.{le_most}
 
 -- what a step says of the bytes
@@ -66,14 +66,14 @@ word_stands b bs letter =
     let capitals : List ℕ = folded (take n s) in
     choose (λ x. Stands x s) (nat_le n most_characters) _ _
     (λ short.
-        let like = front_is_word b bs letter short in
-        let parts = sym (take-append-drop n s) in
-        let width = sym (length-prefix is_name_part s) in
-        let ends = begins_by-prefix is_name_part s in
-        elim (reserved capitals) as (λ o. reserved capitals ≡ o → Stands (step.Token (lexeme_of o capitals) n) s) [
-          None ↦ λ e. record { bytes = take n s; rest = drop n s; parts = parts; width_is = width; lexeme = ((like, refl, not_reserved capitals e), ends) }
-          | Some w ↦ λ e. record { bytes = take n s; rest = drop n s; parts = parts; width_is = width; lexeme = ((like, spelling-reserved capitals w e), ends) }
-        ] refl)
+    let like = front_is_word b bs letter short in
+    let parts = sym (take-append-drop n s) in
+    let width = sym (length-prefix is_name_part s) in
+    let ends = begins_by-prefix is_name_part s in
+    elim (reserved capitals) as (λ o. reserved capitals ≡ o → Stands (step.Token (lexeme_of o capitals) n) s) [
+      | None ↦ λ e. record { bytes = take n s; rest = drop n s; parts = parts; width_is = width; lexeme = ((like, refl, not_reserved capitals e), ends) }
+      | Some w ↦ λ e. record { bytes = take n s; rest = drop n s; parts = parts; width_is = width; lexeme = ((like, spelling-reserved capitals w e), ends) }
+    ] refl)
     (λ _. tt)
 
 -- numbers
@@ -83,17 +83,17 @@ number_stands b bs digit =
     let n : ℕ = prefix_len is_digit s in
     choose (λ x. Stands x s) (begins_by is_name_part (drop n s)) _ _ (λ _. tt)
     (λ ends.
-        choose (λ o. Stands (number_token o n) s) (nat_le (digits_value (take n s)) most_number) _ _
-        (λ small.
-            let long : 0 < length (take n s) = omega (arith, length-prefix is_digit s, prefix_len-pos is_digit b bs digit) in
-            record {
-              bytes = take n s;
-              rest = drop n s;
-              parts = sym (take-append-drop n s);
-              width_is = sym (length-prefix is_digit s);
-              lexeme = ((long, list_all-prefix is_digit s, le_most (digits_value (take n s)) most_number small, refl), ends);
-            })
-        (λ _. tt))
+    choose (λ o. Stands (number_token o n) s) (nat_le (digits_value (take n s)) most_number) _ _
+    (λ small.
+    let long : 0 < length (take n s) = omega (arith, length-prefix is_digit s, prefix_len-pos is_digit b bs digit) in
+    record {
+      bytes = take n s;
+      rest = drop n s;
+      parts = sym (take-append-drop n s);
+      width_is = sym (length-prefix is_digit s);
+      lexeme = ((long, list_all-prefix is_digit s, le_most (digits_value (take n s)) most_number small, refl), ends);
+    })
+    (λ _. tt))
 
 -- texts
 text_of_stands : (s raw : List ℕ) (width : ℕ) → IsQuoted s raw width → Stands (text_token (text_of raw) (1 + width)) (39 ∷ s)
@@ -101,25 +101,25 @@ text_of_stands s raw width q =
     let P : Option (List ℕ) → Type 0 = λ o. Stands (text_token o (1 + width)) (39 ∷ s) in
     choose P (is_utf8 raw) _ _
     (λ test. choose P (nat_le (length (chars raw)) most_text) _ _ (λ small.
-        let utf8 = IsUtf8-from_is_utf8 raw test in
-        let short = le_most (length (chars raw)) most_text small in
-        let same : chars raw ≡ utf8.0 = ap chars (sym utf8.1.1) ∙ chars-encodes utf8.0 utf8.1.0 in
-        let scalar : all_scalars (chars raw) ≡ true = ap all_scalars same ∙ utf8.1.0 in
-        let back : encode_utf8_all (chars raw) ≡ raw = ap encode_utf8_all same ∙ utf8.1.1 in
-        record {
-          bytes = 39 ∷ (doubled raw ++ 39 ∷ []);
-          rest = q.rest;
-          parts = ap (λ (l : List ℕ). 39 ∷ l) (q.parts ∙ sym (append_assoc (doubled raw) (39 ∷ []) q.rest));
-          width_is = omega (arith, q.width_is, length-append (doubled raw) (39 ∷ []));
-          lexeme = ((scalar, short, ap (λ (l : List ℕ). 39 ∷ (doubled l ++ 39 ∷ [])) (sym back)), q.ends);
-        })
+    let utf8 = IsUtf8-from_is_utf8 raw test in
+    let short = le_most (length (chars raw)) most_text small in
+    let same : chars raw ≡ utf8.0 = ap chars (sym utf8.1.1) ∙ chars-encodes utf8.0 utf8.1.0 in
+    let scalar : all_scalars (chars raw) ≡ true = ap all_scalars same ∙ utf8.1.0 in
+    let back : encode_utf8_all (chars raw) ≡ raw = ap encode_utf8_all same ∙ utf8.1.1 in
+    record {
+      bytes = 39 ∷ (doubled raw ++ 39 ∷ []);
+      rest = q.rest;
+      parts = ap (λ (l : List ℕ). 39 ∷ l) (q.parts ∙ sym (append_assoc (doubled raw) (39 ∷ []) q.rest));
+      width_is = omega (arith, q.width_is, length-append (doubled raw) (39 ∷ []));
+      lexeme = ((scalar, short, ap (λ (l : List ℕ). 39 ∷ (doubled l ++ 39 ∷ [])) (sym back)), q.ends);
+    })
     (λ _. tt))
     (λ _. tt)
 
 text_stands : (s : List ℕ) → Stands (text_step (39 ∷ s)) (39 ∷ s)
 text_stands s =
     elim (unquoted s) as (λ o. unquoted s ≡ o → Stands (quoted_token o) (39 ∷ s)) [
-      None ↦ λ _. tt
+      | None ↦ λ _. tt
       | Some r ↦ λ e. text_of_stands s r.0 r.1 (IsQuoted-unquoted s r.0 r.1 e)
     ] refl
 
@@ -139,7 +139,7 @@ line_stands s =
 block_stands : (s : List ℕ) → Stands (block_step (47 ∷ (42 ∷ s))) (47 ∷ (42 ∷ s))
 block_stands s =
     elim (close_end s) as (λ o. close_end s ≡ o → Stands (gap_of (plus 2 o)) (47 ∷ (42 ∷ s))) [
-      None ↦ λ _. tt
+      | None ↦ λ _. tt
       | Some k ↦ λ e.
           let q = IsClosed-close_end s k e in
           record {
@@ -179,19 +179,19 @@ short_stands : (b : ℕ) (rest : List ℕ) → (nat_eq b 60 ≡ true → begins_
 short_stands b rest less greater minus solidus =
     let P : Option Sign → Type 0 = λ o. Stands (sign_token o 1 step.Bad) (b ∷ rest) in
     choose P (nat_eq b 40) _ _ (λ e. one_sign sign.LeftParen 40 b rest refl e (never rest))
-    (λ _.     choose P (nat_eq b 41) _ _ (λ e. one_sign sign.RightParen 41 b rest refl e (never rest))
-    (λ _.     choose P (nat_eq b 44) _ _ (λ e. one_sign sign.Comma 44 b rest refl e (never rest))
-    (λ _.     choose P (nat_eq b 59) _ _ (λ e. one_sign sign.Semicolon 59 b rest refl e (never rest))
-    (λ _.     choose P (nat_eq b 58) _ _ (λ e. one_sign sign.Colon 58 b rest refl e (never rest))
-    (λ _.     choose P (nat_eq b 46) _ _ (λ e. one_sign sign.Period 46 b rest refl e (never rest))
-    (λ _.     choose P (nat_eq b 63) _ _ (λ e. one_sign sign.QuestionMark 63 b rest refl e (never rest))
-    (λ _.     choose P (nat_eq b 61) _ _ (λ e. one_sign sign.Equals 61 b rest refl e (never rest))
-    (λ _.     choose P (nat_eq b 60) _ _ (λ e. one_sign sign.LessThan 60 b rest refl e (less e))
-    (λ _.     choose P (nat_eq b 62) _ _ (λ e. one_sign sign.GreaterThan 62 b rest refl e (greater e))
-    (λ _.     choose P (nat_eq b 43) _ _ (λ e. one_sign sign.Plus 43 b rest refl e (never rest))
-    (λ _.     choose P (nat_eq b 45) _ _ (λ e. one_sign sign.Minus 45 b rest refl e (minus e))
-    (λ _.     choose P (nat_eq b 42) _ _ (λ e. one_sign sign.Asterisk 42 b rest refl e (never rest))
-    (λ _.     choose P (nat_eq b 47) _ _ (λ e. one_sign sign.Solidus 47 b rest refl e (solidus e))
+    (λ _. choose P (nat_eq b 41) _ _ (λ e. one_sign sign.RightParen 41 b rest refl e (never rest))
+    (λ _. choose P (nat_eq b 44) _ _ (λ e. one_sign sign.Comma 44 b rest refl e (never rest))
+    (λ _. choose P (nat_eq b 59) _ _ (λ e. one_sign sign.Semicolon 59 b rest refl e (never rest))
+    (λ _. choose P (nat_eq b 58) _ _ (λ e. one_sign sign.Colon 58 b rest refl e (never rest))
+    (λ _. choose P (nat_eq b 46) _ _ (λ e. one_sign sign.Period 46 b rest refl e (never rest))
+    (λ _. choose P (nat_eq b 63) _ _ (λ e. one_sign sign.QuestionMark 63 b rest refl e (never rest))
+    (λ _. choose P (nat_eq b 61) _ _ (λ e. one_sign sign.Equals 61 b rest refl e (never rest))
+    (λ _. choose P (nat_eq b 60) _ _ (λ e. one_sign sign.LessThan 60 b rest refl e (less e))
+    (λ _. choose P (nat_eq b 62) _ _ (λ e. one_sign sign.GreaterThan 62 b rest refl e (greater e))
+    (λ _. choose P (nat_eq b 43) _ _ (λ e. one_sign sign.Plus 43 b rest refl e (never rest))
+    (λ _. choose P (nat_eq b 45) _ _ (λ e. one_sign sign.Minus 45 b rest refl e (minus e))
+    (λ _. choose P (nat_eq b 42) _ _ (λ e. one_sign sign.Asterisk 42 b rest refl e (never rest))
+    (λ _. choose P (nat_eq b 47) _ _ (λ e. one_sign sign.Solidus 47 b rest refl e (solidus e))
     (λ _. tt))))))))))))))
 
 second_is_not : (t u : Bool) → (t && u) ≡ false → t ≡ true → u ≡ false
@@ -220,11 +220,11 @@ sign_stands (b ∷ (c ∷ cs)) h k =
     (λ no_le. choose P (nat_eq b 62 && nat_eq c 61) _ _ (λ e. two_sign sign.GreaterThanOrEquals 62 61 b c cs refl e (never cs))
     (λ no_ge. choose P (nat_eq b 124 && nat_eq c 124) _ _ (λ e. two_sign sign.Concatenation 124 124 b c cs refl e (never cs))
     (λ _.
-        short_stands b (c ∷ cs)
-        (λ e. neither (nat_eq c 61) (nat_eq c 62) (second_is_not _ _ no_le e) (second_is_not _ _ no_ne e))
-        (λ e. second_is_not _ _ no_ge e)
-        (λ e. second_is_not _ _ h e)
-        (λ e. second_is_not _ _ k e)))))
+    short_stands b (c ∷ cs)
+    (λ e. neither (nat_eq c 61) (nat_eq c 62) (second_is_not _ _ no_le e) (second_is_not _ _ no_ne e))
+    (λ e. second_is_not _ _ no_ge e)
+    (λ e. second_is_not _ _ h e)
+    (λ e. second_is_not _ _ k e)))))
 
 -- whatever is read stands there
 pub step_stands : (s : List ℕ) → Stands (step_of s) s

@@ -1,7 +1,7 @@
 -- The longest front of some bytes whose bytes pass a test.
-use Rattle.std.proofs.Common.{ℕ, zero, suc, ◌≡◌, ◌+◌, ◌<◌, ◌≤◌, Bool, true, false, ◌&&◌, ◌||◌, cond, List, [], ◌∷◌, ◌++◌, length, take, drop, refl, sym, ap, ◌∙◌, subst, arith, one-add, append-nil}
+use Rattle.std.proofs.Common.{ℕ, zero, suc, ◌≡◌, ◌<◌, Bool, true, false, ◌&&◌, List, [], ◌∷◌, ◌++◌, length, take, drop, refl, sym, ap, ◌∙◌, subst, arith, one-add}
 use Rattle.std.specs.List.{list_all, prefix_len}
-use Rattle.std.proofs.lemmas.List.{take-append-drop, take_at, drop_at, length-take-le}
+use Rattle.std.proofs.lemmas.List.{length-take-le}
 use Rattle.std.proofs.lemmas.List.Sums.{prefix_len-le-length}
 use Rattle.sql_values.specs.Names.{begins_by}
 
@@ -36,7 +36,7 @@ module _ (p : ℕ → Bool) where
   list_all-prefix (b ∷ bs) =
       let Goal : ℕ → Type 0 = λ n. list_all p (take n (b ∷ bs)) ≡ true in
       elim (p b) as (λ t. p b ≡ t → Goal (prefix_len p (b ∷ bs))) [
-        true ↦ λ e. subst Goal (sym (prefix_yes b bs e)) (both (p b) (list_all p (take (prefix_len p bs) bs)) e (list_all-prefix bs))
+        | true ↦ λ e. subst Goal (sym (prefix_yes b bs e)) (both (p b) (list_all p (take (prefix_len p bs) bs)) e (list_all-prefix bs))
         | false ↦ λ e. subst Goal (sym (prefix_no b bs e)) refl
       ] refl
 
@@ -45,7 +45,7 @@ module _ (p : ℕ → Bool) where
   begins_by-prefix (b ∷ bs) =
       let Goal : ℕ → Type 0 = λ n. begins_by p (drop n (b ∷ bs)) ≡ false in
       elim (p b) as (λ t. p b ≡ t → Goal (prefix_len p (b ∷ bs))) [
-        true ↦ λ e. subst Goal (sym (prefix_yes b bs e)) (begins_by-prefix bs)
+        | true ↦ λ e. subst Goal (sym (prefix_yes b bs e)) (begins_by-prefix bs)
         | false ↦ λ e. subst Goal (sym (prefix_no b bs e)) e
       ] refl
 

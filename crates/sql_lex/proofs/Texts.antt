@@ -1,6 +1,6 @@
 -- Texts in quotes, and comments from `/*` to `*/`.
-use Rattle.std.proofs.Common.{ℕ, zero, suc, ◌≡◌, ◌+◌, ◌<◌, ◌≤◌, Bool, true, false, ◌&&◌, ◌||◌, List, [], ◌∷◌, ◌++◌, length, refl, sym, ap, ◌∙◌, subst, arith, append_assoc, nat_eq, eqb-true}
-use Rattle.std.specs.Prelude.{Option, Some, None, if◌then◌else◌}
+use Rattle.std.proofs.Common.{ℕ, ◌≡◌, ◌+◌, Bool, true, false, ◌&&◌, ◌||◌, List, [], ◌∷◌, ◌++◌, length, refl, sym, ap, ◌∙◌, subst, arith, nat_eq, eqb-true}
+use Rattle.std.specs.Prelude.{Option, Some, None}
 use Rattle.sql_values.specs.Names.{begins_by}
 use Rattle.sql_lex.specs.Tokens.{is_quote, doubled, has_close}
 use Rattle.sql_lex.specs.Scan.{unquoted, with_front, close_end, plus, begins_with}
@@ -34,7 +34,7 @@ unquoted-doubled (b ∷ bs) rest h =
     let again = unquoted-doubled bs rest h in
     let Goal : List ℕ → Type 0 = λ d. unquoted (d ++ (39 ∷ rest)) ≡ Some (b ∷ bs, length d + 1) in
     elim (is_quote b) as (λ t. is_quote b ≡ t → Goal (doubled (b ∷ bs))) [
-      true ↦ λ e.
+      | true ↦ λ e.
           let n : 2 + (length (doubled bs) + 1) ≡ length (b ∷ (b ∷ doubled bs)) + 1 = omega arith in
           subst Goal (sym (doubled_quote b bs e)) (twice b b (doubled bs ++ (39 ∷ rest)) e e ∙ ap (with_front (b ∷ []) 2) again ∙ ap (λ (n : ℕ). Some (b ∷ bs, n)) n)
       | false ↦ λ e.
@@ -63,7 +63,7 @@ at_quote b rest text width e k h =
 more : (s tail : List ℕ) (b n : ℕ) → unquoted s ≡ with_front (b ∷ []) n (unquoted tail) → ((t : List ℕ) (w : ℕ) → unquoted tail ≡ Some (t, w) → IsQuoted s (b ∷ t) (n + w)) → (text : List ℕ) (width : ℕ) → unquoted s ≡ Some (text, width) → IsQuoted s text width
 more s tail b n e quoted text width h =
     elim (unquoted tail) as (λ o. unquoted tail ≡ o → with_front (b ∷ []) n o ≡ Some (text, width) → IsQuoted s text width) [
-      None ↦ λ _ k. cc
+      | None ↦ λ _ k. cc
       | Some r ↦ λ f k.
           let same : (b ∷ r.0, n + r.1) ≡ (text, width) = cc in
           let P : List ℕ × ℕ → Type 0 = λ r. IsQuoted s r.0 r.1 in
@@ -97,13 +97,13 @@ pub IsQuoted-unquoted : (s text : List ℕ) (width : ℕ) → unquoted s ≡ Som
 IsQuoted-unquoted [] text width h = cc
 IsQuoted-unquoted (b ∷ []) text width h =
     elim (is_quote b) as (λ t. is_quote b ≡ t → IsQuoted (b ∷ []) text width) [
-      true ↦ λ e. at_quote b [] text width e refl h
+      | true ↦ λ e. at_quote b [] text width e refl h
       | false ↦ λ e. let none = plain b [] e in cc
     ] refl
 IsQuoted-unquoted (b ∷ (c ∷ cs)) text width h =
     elim (is_quote b) as (λ t. is_quote b ≡ t → IsQuoted (b ∷ (c ∷ cs)) text width) [
-      true ↦ λ e. elim (is_quote c) as (λ t. is_quote c ≡ t → IsQuoted (b ∷ (c ∷ cs)) text width) [
-        true ↦ λ f. more (b ∷ (c ∷ cs)) cs b 2 (twice b c cs e f) (λ t w k. more_twice b c cs t w e f (IsQuoted-unquoted cs t w k)) text width h
+      | true ↦ λ e. elim (is_quote c) as (λ t. is_quote c ≡ t → IsQuoted (b ∷ (c ∷ cs)) text width) [
+        | true ↦ λ f. more (b ∷ (c ∷ cs)) cs b 2 (twice b c cs e f) (λ t w k. more_twice b c cs t w e f (IsQuoted-unquoted cs t w k)) text width h
         | false ↦ λ f. at_quote b (c ∷ cs) text width e f h
       ] refl
       | false ↦ λ e. more (b ∷ (c ∷ cs)) (c ∷ cs) b 1 (plain b (c ∷ cs) e) (λ t w k. more_plain b (c ∷ cs) t w e (IsQuoted-unquoted (c ∷ cs) t w k)) text width h
@@ -165,7 +165,7 @@ closed_here b (c ∷ cs) h =
 closed_later : (b : ℕ) (bs : List ℕ) (n : ℕ) → begins_with 42 47 (b ∷ bs) ≡ false → IsClosed bs n → IsClosed (b ∷ bs) (1 + n)
 closed_later b bs n h q =
     let unlike : (nat_eq b 42 && begins_by is_solidus (q.body ++ 42 ∷ [])) ≡ false =
-        ap (λ t. nat_eq b 42 && t) (sym (begins_by-front is_solidus q.body 42 (47 ∷ q.rest))) ∙ ap (λ (l : List ℕ). nat_eq b 42 && begins_by is_solidus l) (sym q.parts) ∙ sym (close_here b bs) ∙ h in
+    ap (λ t. nat_eq b 42 && t) (sym (begins_by-front is_solidus q.body 42 (47 ∷ q.rest))) ∙ ap (λ (l : List ℕ). nat_eq b 42 && begins_by is_solidus l) (sym q.parts) ∙ sym (close_here b bs) ∙ h in
     record {
       body = b ∷ q.body;
       rest = q.rest;
@@ -178,10 +178,10 @@ pub IsClosed-close_end : (s : List ℕ) (width : ℕ) → close_end s ≡ Some w
 IsClosed-close_end [] width h = cc
 IsClosed-close_end (b ∷ bs) width h =
     elim (begins_with 42 47 (b ∷ bs)) as (λ t. begins_with 42 47 (b ∷ bs) ≡ t → IsClosed (b ∷ bs) width) [
-      true ↦ λ e. let read = close_found b bs e in let same : 2 ≡ width = cc in subst (IsClosed (b ∷ bs)) same (closed_here b bs e)
+      | true ↦ λ e. let read = close_found b bs e in let same : 2 ≡ width = cc in subst (IsClosed (b ∷ bs)) same (closed_here b bs e)
       | false ↦ λ e.
           elim (close_end bs) as (λ o. close_end bs ≡ o → plus 1 o ≡ Some width → IsClosed (b ∷ bs) width) [
-            None ↦ λ _ k. cc
+            | None ↦ λ _ k. cc
             | Some n ↦ λ f k. let same : 1 + n ≡ width = cc in subst (IsClosed (b ∷ bs)) same (closed_later b bs n e (IsClosed-close_end bs n f))
           ] refl (sym (close_later b bs e) ∙ h)
     ] refl

@@ -1,13 +1,13 @@
 -- The reserved word that capitals spell, and no other.
-use Rattle.std.proofs.Common.{ℕ, ◌≡◌, Bool, true, false, cond, List, [], ◌∷◌, refl, sym, ap, ◌∙◌, subst}
-use Rattle.std.specs.Prelude.{Option, Some, None}
+use Rattle.std.proofs.Common.{ℕ, ◌≡◌, true, false, cond, List, [], ◌∷◌, refl, sym, ap, ◌∙◌}
+use Rattle.std.specs.Prelude.{Some, None}
 use Rattle.std.specs.List.{find}
 use Rattle.std.specs.Str.{bytes_eq}
 use Rattle.std.proofs.lemmas.Slice.Eq.{bytes_eq-Decides}
 use Rattle.sql_lex.specs.declared.word.Word.{Word}
 use Rattle.sql_lex.specs.declared.word.Word.TheVariants as word
 use Rattle.sql_lex.specs.Words.{spelling}
-use Rattle.sql_lex.specs.Scan.{reserved, words_of}
+use Rattle.sql_lex.specs.Scan.{reserved}
 
 pub reserved-spelling : (w : Word) → reserved (spelling w) ≡ Some w
 reserved-spelling word.And = refl
@@ -17,7 +17,7 @@ find_spelled : (capitals : List ℕ) (ws : List Word) (w : Word) → find (λ v.
 find_spelled capitals [] w h = cc
 find_spelled capitals (v ∷ ws) w h =
     elim (bytes_eq (spelling v) capitals) as (λ t. bytes_eq (spelling v) capitals ≡ t → cond t (Some v) (find (λ v. bytes_eq (spelling v) capitals) ws) ≡ Some w → spelling w ≡ capitals) [
-      true ↦ λ e k. let same : v ≡ w = cc in ap spelling (sym same) ∙ (bytes_eq-Decides (spelling v) capitals).0 e
+      | true ↦ λ e k. let same : v ≡ w = cc in ap spelling (sym same) ∙ (bytes_eq-Decides (spelling v) capitals).0 e
       | false ↦ λ e k. find_spelled capitals ws w k
     ] refl h
 

@@ -1,6 +1,6 @@
 -- What stands at the head of some bytes, as one function of them: what the scanning functions give. What tokens are is said
 -- in Tokens, and proofs/ shows that both agree.
-use Rattle.std.specs.Prelude.{ℕ, ◌≡◌, ◌+◌, nat_eq, nat_le, pos, ℤ, not, ◌||◌, ◌&&◌, Bool, true, false, if◌then◌else◌, Option, Some, None, List, [], ◌∷◌, ◌++◌, length, take, drop, slice_index}
+use Rattle.std.specs.Prelude.{ℕ, ◌≡◌, ◌+◌, nat_eq, nat_le, pos, ℤ, not, ◌&&◌, Bool, false, if◌then◌else◌, Option, Some, None, List, [], ◌∷◌, ◌++◌, length, take, drop, slice_index}
 use Rattle.std.specs.List.{prefix_len, find}
 use Rattle.std.specs.Str.{bytes_eq, is_utf8, chars}
 use Rattle.sql_values.specs.Names.{is_letter, is_digit, is_name_part, begins_by, folded, most_characters}

@@ -116,6 +116,13 @@ AreTokens (token ∷ tokens) number p bytes =
     (gap head rest : List ℕ) × (bytes ≡ gap ++ (head ++ rest)) × IsGap gap (head ++ rest) × (token ≡ token_at token.lexeme number (past gap p) (length head))
     × ((IsLexeme token.lexeme head rest × AreTokens tokens (number + 1) (past head (past gap p)) rest) ⊎ ((token.lexeme ≡ lexeme.Bad) × (tokens ≡ []) × (length head ≡ 1) × BeginsNothing (head ++ rest)))
 
+-- the tokens count up from a number, each stands where the one before ends or later, the first at a byte or later, none is
+-- empty, and only the last may be Bad
+abbrev pub AreSpans : ℕ → ℕ → List Token → Type 0
+AreSpans number at [] = Unit {0}
+AreSpans number at (token ∷ tokens) =
+    (token.number ≡ number) × (at ≤ token.start) × (token.start < token.end) × (token.lexeme ≡ lexeme.Bad → tokens ≡ []) × AreSpans (number + 1) token.end tokens
+
 -- a script's tokens, and the place of its end
 pub record Lexing : Type 0 where
   pub tokens : List Token

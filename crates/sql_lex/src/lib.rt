@@ -10,10 +10,13 @@ mod token;
 mod token_list;
 mod word;
 
-pub use law::each_script_has_one_lexing;
+pub use law::{each_script_has_one_lexing, each_token_is_the_longest};
 pub use lexer::tokens;
-pub use position::Position;
+use position::Position;
 pub use sign::Sign;
 pub use token::{Kind, Lexeme, Token};
 pub use token_list::{Tokens, opens, place};
 pub use word::Word;
+
+#[cfg(test)]
+mod tests;

@@ -12,6 +12,12 @@ use crate::{Lexeme, Sign};
 use sql_values::{Name, NoMemory, Text};
 use std::alloc::Global;
 
+// The most characters of a name.
+const MOST_NAME: usize = 128;
+
+// The most characters of a text.
+const MOST_TEXT: usize = 4096;
+
 // The greatest number that a script may write.
 const MOST_NUMBER: u64 = 0x7fff_ffff_ffff_ffff;
 
@@ -68,7 +74,7 @@ fn word(alloc: Global, bytes: &[u8]) -> Result<Step, NoMemory>
     ensures { IfOk result (λ s. s ≡ word_step bytes.now) }
 {
     let width = name_width(bytes);
-    if width > 128 {
+    if width > MOST_NAME {
         return Ok(Step::Bad);
     }
     let name = Name::folded(alloc, &bytes[..width])?;
@@ -157,7 +163,7 @@ fn characters_in(text: &str) -> usize
 fn text_within(characters: String) -> Option<Text>
     ensures { result ≡ text_within_limit (chars (string_bytes characters)) }
 {
-    if characters_in(&characters) > 4096 {
+    if characters_in(&characters) > MOST_TEXT {
         None
     } else {
         Some(Text::of(characters))

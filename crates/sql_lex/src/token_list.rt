@@ -1,6 +1,7 @@
 //! A script's tokens as one value.
 
 ghost use Rattle.std.specs.Prelude.{◌≡◌, ◌≤◌, ◌<◌, ◌==◌, length};
+ghost use Rattle.sql_lex.specs.Tokens.{AreSpans};
 ghost use Rattle.sql_lex.specs.Openings.{opens_at, place_at, is_opening_word, follows_end as follows_end_at};
 
 use crate::{Kind, Position, Sign, Token, Word};
@@ -15,16 +16,19 @@ pub struct Tokens {
 }
 
 impl Model for Tokens {
-    ghost use Rattle.sql_lex.specs.Tokens.{Lexing};
+    ghost use Rattle.sql_lex.specs.Tokens.{AreSpans, Lexing};
 
     ghost Value = { Lexing };
 
     ghost view = { λ t. record { tokens = t.list.items; end_line = t.end_line; end_column = t.end_column } };
+
+    ghost invariant = { λ t. AreSpans 0 0 t.list.items };
 }
 
 impl Tokens {
     /// These tokens, and the place of the end.
     pub(crate) fn of(list: Vec<Token>, end: Position) -> Tokens
+        requires { AreSpans 0 0 list.items }
         ensures { result ≡ record { tokens = list.items; end_line = end.line; end_column = end.column } }
     {
         Tokens {
@@ -32,6 +36,14 @@ impl Tokens {
             end_line: end.line,
             end_column: end.column,
         }
+    }
+
+    /// A law of every such value: the tokens count up from 0, their spans are in order and not empty, and only the last may
+    /// be Bad.
+    pub fn spans_are_in_order(&self)
+        ensures { AreSpans 0 0 self.now.tokens }
+    {
+        let _ = &self.list;
     }
 
     /// How many tokens there are.

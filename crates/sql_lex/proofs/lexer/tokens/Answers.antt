@@ -1,12 +1,11 @@
-use Rattle.std.proofs.Common.{◌≡◌, ◌∙◌, ◌+◌, ◌++◌, ◌∷◌, [], List, length, sym, ap, refl, arith, length-drop, drop, subst, rules}
-use Rattle.sql_lex.specs.declared.step.Step.TheVariants as step
+use Rattle.std.proofs.Common.{◌≡◌, ◌∙◌, ◌++◌, ◌∷◌, [], List, length, sym, ap, arith, length-drop, drop, subst, rules}
 use Rattle.sql_lex.specs.declared.token.Token.{Token}
 use Rattle.sql_lex.specs.declared.token.Lexeme.TheVariants as lexeme
 use Rattle.sql_lex.specs.declared.position.Position.{Position}
 use Rattle.sql_lex.specs.Places.{origin}
 use Rattle.sql_lex.specs.Tokens.{token_at, AreTokens, Lexing}
-use Rattle.sql_lex.specs.Scan.{step_of}
 use Rattle.sql_lex.proofs.Loop.{Moves, gap_moves, token_moves, cut_is, gap_ahead, token_ahead, bad_ahead, gap_passed, token_passed, bad_passed, so_far_all}
+use Rattle.sql_lex.proofs.Spacing.{spans}
 use Rattle.sql_lex.proofs.lexer.tokens.Goals as goal
 
 pub slice_bounds-past-end : goal.slice_bounds-past-end
@@ -62,9 +61,13 @@ pub returns : goal.returns
 returns c =
     let h = so_far_all c.args.bytes.now _ _ c.loop-position.invariant c.loop-position-test.false in
     let is = c.of.ensures in
-    let Whole : List Token → Type 0 = λ ts. AreTokens ts 0 origin c.args.bytes.now in
-    (
+    let Whole : List Token → Type 0 = λ ts. AreTokens ts 0 origin c.args.bytes.now in (
       subst Whole (sym (ap (λ (t : Lexing). t.tokens) is)) h.1,
       ap (λ (t : Lexing). t.end_line) is ∙ ap (λ (p : Position). p.line) h.0,
       ap (λ (t : Lexing). t.end_column) is ∙ ap (λ (p : Position). p.column) h.0,
     )
+
+pub of-requires : goal.of-requires
+of-requires c =
+    let h = so_far_all c.args.bytes.now _ _ c.loop-position.invariant c.loop-position-test.false in
+    spans _ 0 origin c.args.bytes.now h.1

@@ -1,5 +1,5 @@
 use Rattle.std.proofs.Common.{sym, ◌∙◌}
-use Rattle.sql_lex.proofs.Scanning.{close_end-goes, close_end-found, close_end-ends}
+use Rattle.sql_lex.proofs.Scanning.{close_end-goes}
 use Rattle.sql_lex.proofs.step.close_end.Goals as goal
 
 pub loop-at-preserved : goal.loop-at-preserved

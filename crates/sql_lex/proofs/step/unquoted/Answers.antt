@@ -13,4 +13,4 @@ returns-in_default c =
 pub loop-at-preserved : goal.loop-at-preserved
 loop-at-preserved c =
     let i = c.loop-at.invariant in
-    (i.0 ++ get_or c.args.bytes.now c.loop-at.at 0 ∷ [], c.in_ok-push.ensures.items ∙ pushed _ _ _ _ i.1, unquoted-goes _ _ _ _ c.loop-at-test.true (sym c.width_in_text.ensures ∙ c.in-Some.is) i.2)
+    (i.0 ++ get_or c.args.bytes.now c.loop-at.at 0 ∷ [], pushed _ _ _ _ _ c.in_ok-push.ensures.items i.1, unquoted-goes _ _ _ _ c.loop-at-test.true (sym c.width_in_text.ensures ∙ c.in-Some.is) i.2)
