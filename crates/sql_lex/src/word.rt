@@ -1,5 +1,9 @@
 //! The reserved words.
 
+ghost use Rattle.std.specs.Prelude.{◌≡◌};
+ghost use Rattle.sql_lex.specs.Words.{spelling};
+ghost use Rattle.sql_lex.specs.Scan.{reserved as reserved_word, words_of};
+
 /// A reserved word. It is written in any case of letters.
 #[derive(Clone, Copy, Debug, PartialEq, Eq)]
 pub enum Word {
@@ -119,4 +123,175 @@ pub enum Word {
     When,
     Where,
     While,
+}
+
+impl Word {
+    /// How it is spelled, in capitals.
+    pub fn spelling(self) -> &'static [u8]
+        ensures { result.now ≡ spelling self }
+    {
+        match self {
+            Word::And => b"AND",
+            Word::As => b"AS",
+            Word::Asc => b"ASC",
+            Word::Atomic => b"ATOMIC",
+            Word::Avg => b"AVG",
+            Word::Begin => b"BEGIN",
+            Word::Boolean => b"BOOLEAN",
+            Word::By => b"BY",
+            Word::Call => b"CALL",
+            Word::Called => b"CALLED",
+            Word::Case => b"CASE",
+            Word::Cast => b"CAST",
+            Word::Certificate => b"CERTIFICATE",
+            Word::CharLength => b"CHAR_LENGTH",
+            Word::Close => b"CLOSE",
+            Word::Coalesce => b"COALESCE",
+            Word::Condition => b"CONDITION",
+            Word::Contains => b"CONTAINS",
+            Word::Continue => b"CONTINUE",
+            Word::Count => b"COUNT",
+            Word::Create => b"CREATE",
+            Word::Cross => b"CROSS",
+            Word::Current => b"CURRENT",
+            Word::Cursor => b"CURSOR",
+            Word::Data => b"DATA",
+            Word::Decimal => b"DECIMAL",
+            Word::Declare => b"DECLARE",
+            Word::Default => b"DEFAULT",
+            Word::Delete => b"DELETE",
+            Word::Desc => b"DESC",
+            Word::Deterministic => b"DETERMINISTIC",
+            Word::Diagnostics => b"DIAGNOSTICS",
+            Word::Do => b"DO",
+            Word::Drop => b"DROP",
+            Word::Else => b"ELSE",
+            Word::Elseif => b"ELSEIF",
+            Word::End => b"END",
+            Word::Exists => b"EXISTS",
+            Word::Exit => b"EXIT",
+            Word::Explain => b"EXPLAIN",
+            Word::False => b"FALSE",
+            Word::Fetch => b"FETCH",
+            Word::For => b"FOR",
+            Word::Found => b"FOUND",
+            Word::From => b"FROM",
+            Word::Function => b"FUNCTION",
+            Word::Get => b"GET",
+            Word::Group => b"GROUP",
+            Word::Handler => b"HANDLER",
+            Word::Having => b"HAVING",
+            Word::If => b"IF",
+            Word::In => b"IN",
+            Word::Inner => b"INNER",
+            Word::Inout => b"INOUT",
+            Word::Input => b"INPUT",
+            Word::Insert => b"INSERT",
+            Word::Int => b"INT",
+            Word::Integer => b"INTEGER",
+            Word::Into => b"INTO",
+            Word::Is => b"IS",
+            Word::Iterate => b"ITERATE",
+            Word::Join => b"JOIN",
+            Word::Key => b"KEY",
+            Word::Language => b"LANGUAGE",
+            Word::Lateral => b"LATERAL",
+            Word::Leave => b"LEAVE",
+            Word::Left => b"LEFT",
+            Word::Loop => b"LOOP",
+            Word::Max => b"MAX",
+            Word::MessageText => b"MESSAGE_TEXT",
+            Word::Min => b"MIN",
+            Word::Mod => b"MOD",
+            Word::Modifies => b"MODIFIES",
+            Word::Next => b"NEXT",
+            Word::Not => b"NOT",
+            Word::Null => b"NULL",
+            Word::Number => b"NUMBER",
+            Word::On => b"ON",
+            Word::Open => b"OPEN",
+            Word::Or => b"OR",
+            Word::Order => b"ORDER",
+            Word::Out => b"OUT",
+            Word::Outer => b"OUTER",
+            Word::Primary => b"PRIMARY",
+            Word::Procedure => b"PROCEDURE",
+            Word::Reads => b"READS",
+            Word::Repeat => b"REPEAT",
+            Word::Resignal => b"RESIGNAL",
+            Word::Restrict => b"RESTRICT",
+            Word::Return => b"RETURN",
+            Word::ReturnedSqlstate => b"RETURNED_SQLSTATE",
+            Word::Returns => b"RETURNS",
+            Word::RowCount => b"ROW_COUNT",
+            Word::Select => b"SELECT",
+            Word::Set => b"SET",
+            Word::Signal => b"SIGNAL",
+            Word::Sql => b"SQL",
+            Word::Sqlexception => b"SQLEXCEPTION",
+            Word::Sqlstate => b"SQLSTATE",
+            Word::Sqlwarning => b"SQLWARNING",
+            Word::Stacked => b"STACKED",
+            Word::Substring => b"SUBSTRING",
+            Word::Sum => b"SUM",
+            Word::Table => b"TABLE",
+            Word::Then => b"THEN",
+            Word::True => b"TRUE",
+            Word::Undo => b"UNDO",
+            Word::Unknown => b"UNKNOWN",
+            Word::Until => b"UNTIL",
+            Word::Update => b"UPDATE",
+            Word::Value => b"VALUE",
+            Word::Values => b"VALUES",
+            Word::Varchar => b"VARCHAR",
+            Word::When => b"WHEN",
+            Word::Where => b"WHERE",
+            Word::While => b"WHILE",
+        }
+    }
+}
+
+// The reserved words that begin with a capital.
+fn words_of(capital: u8) -> &'static [Word]
+    ensures { result.now ≡ words_of capital }
+{
+    match capital {
+        b'A' => &[Word::And, Word::As, Word::Asc, Word::Atomic, Word::Avg],
+        b'B' => &[Word::Begin, Word::Boolean, Word::By],
+        b'C' => &[Word::Call, Word::Called, Word::Case, Word::Cast, Word::Certificate, Word::CharLength, Word::Close, Word::Coalesce, Word::Condition, Word::Contains, Word::Continue, Word::Count, Word::Create, Word::Cross, Word::Current, Word::Cursor],
+        b'D' => &[Word::Data, Word::Decimal, Word::Declare, Word::Default, Word::Delete, Word::Desc, Word::Deterministic, Word::Diagnostics, Word::Do, Word::Drop],
+        b'E' => &[Word::Else, Word::Elseif, Word::End, Word::Exists, Word::Exit, Word::Explain],
+        b'F' => &[Word::False, Word::Fetch, Word::For, Word::Found, Word::From, Word::Function],
+        b'G' => &[Word::Get, Word::Group],
+        b'H' => &[Word::Handler, Word::Having],
+        b'I' => &[Word::If, Word::In, Word::Inner, Word::Inout, Word::Input, Word::Insert, Word::Int, Word::Integer, Word::Into, Word::Is, Word::Iterate],
+        b'J' => &[Word::Join],
+        b'K' => &[Word::Key],
+        b'L' => &[Word::Language, Word::Lateral, Word::Leave, Word::Left, Word::Loop],
+        b'M' => &[Word::Max, Word::MessageText, Word::Min, Word::Mod, Word::Modifies],
+        b'N' => &[Word::Next, Word::Not, Word::Null, Word::Number],
+        b'O' => &[Word::On, Word::Open, Word::Or, Word::Order, Word::Out, Word::Outer],
+        b'P' => &[Word::Primary, Word::Procedure],
+        b'R' => &[Word::Reads, Word::Repeat, Word::Resignal, Word::Restrict, Word::Return, Word::ReturnedSqlstate, Word::Returns, Word::RowCount],
+        b'S' => &[Word::Select, Word::Set, Word::Signal, Word::Sql, Word::Sqlexception, Word::Sqlstate, Word::Sqlwarning, Word::Stacked, Word::Substring, Word::Sum],
+        b'T' => &[Word::Table, Word::Then, Word::True],
+        b'U' => &[Word::Undo, Word::Unknown, Word::Until, Word::Update],
+        b'V' => &[Word::Value, Word::Values, Word::Varchar],
+        b'W' => &[Word::When, Word::Where, Word::While],
+        _ => &[],
+    }
+}
+
+/// The reserved word that capitals spell, if they spell one.
+pub(crate) fn reserved(capitals: &[u8]) -> Option<Word>
+    ensures { result ≡ reserved_word capitals.now }
+{
+    let first = *capitals.first()?;
+    let words = words_of(first);
+    for word in words {
+        if word.spelling() == capitals {
+            return Some(*word);
+        }
+    }
+    None
 }

@@ -1,9 +1,9 @@
 -- A word's letters, folded.
-use Rattle.std.proofs.Common.{ℕ, ◌≡◌, ◌≤◌, ◌<◌, Bool, true, false, ◌&&◌, List, [], ◌∷◌, length, map, refl, ap, ◌∙◌, sym, arith, subst}
-use Rattle.std.specs.Prelude.{IsTrue, nat_le}
+use Rattle.std.proofs.Common.{ℕ, ◌≡◌, Bool, true, false, ◌&&◌, List, [], ◌∷◌, length, refl, sym, arith, subst}
+use Rattle.std.specs.Prelude.{nat_le}
 use Rattle.std.specs.List.{list_all}
 use Rattle.std.specs.Char.{to_ascii_uppercase}
-use Rattle.sql_values.specs.Names.{is_capital, is_small, is_letter, is_digit, is_name_part, begins_by, is_word_like, folded, IsWordLike, IsName, most_characters}
+use Rattle.sql_values.specs.Names.{is_letter, is_name_part, begins_by, is_word_like, folded, IsWordLike, IsName, most_characters}
 use Rattle.std.proofs.lemmas.Bool.Decides.{nat_tests}
 
 part_folded : (b : ℕ) → is_name_part b ≡ true → is_name_part (to_ascii_uppercase b) ≡ true

@@ -1,5 +1,5 @@
 -- Names: regular identifiers of ISO/IEC 9075-2, 5.2, of ASCII letters, folded to capitals.
-use Rattle.std.specs.Prelude.{ℕ, ◌≤◌, ◌≡◌, ◌&&◌, ◌||◌, nat_le, nat_eq, Bool, true, false, List, [], ◌∷◌, length, map, IsTrue}
+use Rattle.std.specs.Prelude.{ℕ, ◌≡◌, ◌&&◌, ◌||◌, nat_le, nat_eq, Bool, false, List, [], ◌∷◌, length, map, IsTrue}
 use Rattle.std.specs.List.{list_all}
 use Rattle.std.specs.Char.{to_ascii_uppercase}
 

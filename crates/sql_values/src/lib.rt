@@ -4,11 +4,15 @@
 mod arithmetic;
 mod memory;
 mod name;
+mod operators;
 mod text;
+#[cfg(test)]
+mod tests;
 mod value;
 
 pub use arithmetic::{add, cmp, div, mul, neg, sub};
 pub use memory::NoMemory;
 pub use name::Name;
+pub use operators::{Comparison, Operator};
 pub use text::Text;
 pub use value::{SqlType, Value, ValueFault};

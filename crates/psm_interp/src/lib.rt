@@ -1,0 +1,2 @@
+//! The interpreter: what expressions, queries and INSERT do, run.
+#![tactic(auto)]

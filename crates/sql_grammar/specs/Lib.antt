@@ -1,0 +1,2 @@
+pub mod Sql
+pub mod Decides

@@ -1,0 +1,33 @@
+//! The grammar of statements, as a value that one token ahead decides.
+#![tactic(auto)]
+
+use token_grammar::{Ending, Part};
+
+/// The statements of a script, each with its `;`. It stands for their grammar in contracts; no code has a value of it.
+pub struct Statements;
+
+impl Part for Statements {
+    ghost use Rattle.sql_grammar.specs.Sql as g;
+    ghost use Rattle.sql_grammar.specs.Decides.{all_decide, statement_decides};
+    ghost use Rattle.syntax_trees.specs.declared.statement.Stmt.{Stmt};
+
+    ghost Rule = { g.Rule };
+
+    ghost Tree = { g.Tree };
+
+    ghost rules = { g.rules };
+
+    ghost rules_decide = { all_decide };
+
+    ghost Whole = { Stmt };
+
+    ghost part = { g.statement };
+
+    ghost part_decides = { statement_decides };
+}
+
+impl Ending for Statements {
+    ghost use Rattle.sql_grammar.specs.Decides.{statement_ends};
+
+    ghost ends = { statement_ends };
+}

@@ -1,0 +1,4 @@
+pub mod Sight
+pub mod Names
+pub mod Binds
+pub mod Statements

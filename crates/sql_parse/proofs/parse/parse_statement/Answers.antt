@@ -1,0 +1,15 @@
+-- The parser reads as the grammar's reader does, and so its answer is the reader's at places.
+use Rattle.std.proofs.Common.{subst, sym, ap, ◌∙◌, drop}
+use Rattle.sql_grammar.specs.Sql as g
+use Rattle.sql_grammar.specs.Decides.{all_decide, statement_decides, statement_ends}
+use Rattle.token_grammar.specs.Statement.{Answers, most_open, place}
+use Rattle.token_grammar.proofs.Places.{parsed}
+use Rattle.sql_parse.proofs.parse.parse_statement.Goals as goal
+
+pub returns : goal.returns
+returns c =
+    subst (λ z. Answers g.rules most_open g.statement c.args.tokens.now.tokens c.args.at z) (sym c.answered.ensures)
+    (parsed g.rules all_decide most_open g.statement statement_decides statement_ends c.args.tokens.now.tokens c.args.at c.requires
+        c.from_place-input.result.rest.now (c.from_place-input.ensures ∙ ap (drop c.args.at) c.as_slice-all.ensures)
+        c.statement-read.result c.statement-read.new.input.rest.now c.statement-read.ensures
+        c.place_in-place.result (c.place_in-place.ensures ∙ ap (λ z. place z c.statement-read.new.input.rest.now) c.as_slice-all.ensures))

@@ -1,0 +1,229 @@
+//! Expressions. `room` is the number of constructs that may still be opened.
+
+ghost use Rattle.std.specs.Prelude.{◌≡◌, ◌∷◌, IfOk};
+ghost use Rattle.token_grammar.specs.Reading.{begins, first, reading};
+ghost use Rattle.token_grammar.specs.Reads.{Reads};
+ghost use Rattle.sql_grammar.specs.Sql as g;
+ghost use Rattle.sql_grammar.specs.Sql.{rules};
+
+use crate::place::{anchor, anchor_in, ident};
+use sql_lex::{Kind, Sign, Word};
+use sql_values::Operator;
+use sqlite_items::{Boxed, Items};
+use std::alloc::{AllocError, Global};
+use syntax_trees::{Expr, Link};
+use token_grammar::{Input, ParseError, number_in};
+
+/// A list with one more in front.
+pub(crate) fn with_first<T: Drop>(
+    alloc: Global,
+    first: T,
+    more: Items<T>,
+) -> Result<Items<T>, AllocError>
+    ensures { IfOk result (λ all. all ≡ first ∷ more) }
+{
+    let mut all = Items::new(alloc);
+    all.push(first)?;
+    all.append(more)?;
+    Ok(all)
+}
+
+// A chain of one is no chain.
+fn chained(alloc: Global, first: Expr, links: Items<Link>) -> Result<Expr, AllocError>
+    ensures { IfOk result (λ e. e ≡ g.chain first links) }
+{
+    if links.is_empty() {
+        Ok(first)
+    } else {
+        Ok(Expr::Chain(Boxed::new(alloc, first)?, links))
+    }
+}
+
+#[tactic(auto, unfolding(token_grammar::specs::Reading::same_kind, sql_grammar::specs::Sql::exprs, sql_grammar::specs::Sql::expr, sql_grammar::specs::Sql::term, sql_grammar::specs::Sql::primary, sql_grammar::specs::Sql::named, sql_grammar::specs::Sql::ident))]
+fn begins_exprs(input: &Input<'_>) -> bool
+    ensures { result ≡ begins (first g.exprs) input.now.rest.now }
+{
+    input.sees(Kind::Number) || input.sees(Kind::Word(Word::Null)) || input.sees(Kind::Name)
+}
+
+#[tactic(auto, unfolding(sql_grammar::specs::Sql::factor_operator, sql_grammar::specs::Sql::factor))]
+fn begins_factor(input: &Input<'_>) -> bool
+    ensures { result ≡ begins (first g.factor) input.now.rest.now }
+{
+    input.sees(Kind::Sign(Sign::Asterisk)) || input.sees(Kind::Sign(Sign::Solidus))
+}
+
+#[tactic(auto, unfolding(sql_grammar::specs::Sql::addend_operator, sql_grammar::specs::Sql::addend))]
+fn begins_addend(input: &Input<'_>) -> bool
+    ensures { result ≡ begins (first g.addend) input.now.rest.now }
+{
+    input.sees(Kind::Sign(Sign::Plus)) || input.sees(Kind::Sign(Sign::Minus))
+}
+
+#[tactic(auto, unfolding(sql_grammar::specs::Sql::primary, sql_grammar::specs::Sql::named, sql_grammar::specs::Sql::ident))]
+#[cycle(parser)]
+fn primary(alloc: Global, input: &mut Input<'_>, room: u32) -> Result<Expr, ParseError>
+    ensures { Reads (reading rules room g.primary input.old.rest.now) result input.new.rest.now }
+{
+    if input.sees(Kind::Number) {
+        let token = input.expect(Kind::Number)?;
+        return Ok(Expr::Number(anchor_in(token), number_in(token)));
+    }
+    if input.sees(Kind::Word(Word::Null)) {
+        let token = input.expect(Kind::Word(Word::Null))?;
+        return Ok(Expr::Null(anchor_in(token)));
+    }
+    named(alloc, input, room)
+}
+
+#[tactic(auto, unfolding(sql_grammar::specs::Sql::named, sql_grammar::specs::Sql::bracketed))]
+#[cycle(parser)]
+fn named(alloc: Global, input: &mut Input<'_>, room: u32) -> Result<Expr, ParseError>
+    ensures { Reads (reading rules room g.named input.old.rest.now) result input.new.rest.now }
+{
+    let name = ident(input, room)?;
+    if input.sees(Kind::Sign(Sign::LeftParen)) {
+        return Ok(Expr::Call(name, arguments(alloc, input, room)?));
+    }
+    Ok(Expr::Name(name))
+}
+
+#[tactic(auto, unfolding(sql_grammar::specs::Sql::bracketed))]
+#[cycle(parser)]
+fn arguments(alloc: Global, input: &mut Input<'_>, room: u32) -> Result<Items<Expr>, ParseError>
+    ensures { Reads (reading rules room (g.bracketed g.Arguments) input.old.rest.now) result input.new.rest.now }
+{
+    let left = input.open(room, Kind::Sign(Sign::LeftParen))?;
+    let inner = in_arguments(alloc, input, left)?;
+    input.close(Kind::Sign(Sign::RightParen), inner)
+}
+
+#[cycle(parser)]
+fn in_arguments(alloc: Global, input: &mut Input<'_>, room: u32) -> Result<Items<Expr>, ParseError>
+    ensures { Reads (reading rules room (rules g.Arguments) input.old.rest.now) result input.new.rest.now }
+{
+    if begins_exprs(input) {
+        exprs(alloc, input, room)
+    } else {
+        Ok(Items::new(alloc))
+    }
+}
+
+#[tactic(auto, unfolding(sql_grammar::specs::Sql::factor, sql_grammar::specs::Sql::factor_operator))]
+#[cycle(parser)]
+fn factor(alloc: Global, input: &mut Input<'_>, room: u32) -> Result<Link, ParseError>
+    ensures { Reads (reading rules room g.factor input.old.rest.now) result input.new.rest.now }
+{
+    let anchor = anchor(input);
+    let operator = if input.eat(Kind::Sign(Sign::Asterisk)) {
+        Operator::Multiply
+    } else {
+        input.expect(Kind::Sign(Sign::Solidus))?;
+        Operator::Divide
+    };
+    let operand = primary(alloc, input, room)?;
+    Ok(Link {
+        operator,
+        anchor,
+        operand,
+    })
+}
+
+#[tactic(auto, unfolding(sql_grammar::specs::Sql::factors, sql_grammar::specs::Sql::factor))]
+#[cycle(parser)]
+fn factors(alloc: Global, input: &mut Input<'_>, room: u32) -> Result<Items<Link>, ParseError>
+    ensures { Reads (reading rules room g.factors input.old.rest.now) result input.new.rest.now }
+{
+    let mut found = Items::new(alloc);
+    'more: while begins_factor(input) {
+        match factor(alloc, input, room) {
+            Ok(next) => found.push(next)?,
+            Err(error) => return Err(error),
+        }
+    }
+    Ok(found)
+}
+
+#[tactic(auto, unfolding(sql_grammar::specs::Sql::term))]
+#[cycle(parser)]
+fn term(alloc: Global, input: &mut Input<'_>, room: u32) -> Result<Expr, ParseError>
+    ensures { Reads (reading rules room g.term input.old.rest.now) result input.new.rest.now }
+{
+    let first = primary(alloc, input, room)?;
+    let links = factors(alloc, input, room)?;
+    Ok(chained(alloc, first, links)?)
+}
+
+#[tactic(auto, unfolding(sql_grammar::specs::Sql::addend, sql_grammar::specs::Sql::addend_operator))]
+#[cycle(parser)]
+fn addend(alloc: Global, input: &mut Input<'_>, room: u32) -> Result<Link, ParseError>
+    ensures { Reads (reading rules room g.addend input.old.rest.now) result input.new.rest.now }
+{
+    let anchor = anchor(input);
+    let operator = if input.eat(Kind::Sign(Sign::Plus)) {
+        Operator::Add
+    } else {
+        input.expect(Kind::Sign(Sign::Minus))?;
+        Operator::Subtract
+    };
+    let operand = term(alloc, input, room)?;
+    Ok(Link {
+        operator,
+        anchor,
+        operand,
+    })
+}
+
+#[tactic(auto, unfolding(sql_grammar::specs::Sql::addends, sql_grammar::specs::Sql::addend))]
+#[cycle(parser)]
+fn addends(alloc: Global, input: &mut Input<'_>, room: u32) -> Result<Items<Link>, ParseError>
+    ensures { Reads (reading rules room g.addends input.old.rest.now) result input.new.rest.now }
+{
+    let mut found = Items::new(alloc);
+    'more: while begins_addend(input) {
+        match addend(alloc, input, room) {
+            Ok(next) => found.push(next)?,
+            Err(error) => return Err(error),
+        }
+    }
+    Ok(found)
+}
+
+#[tactic(auto, unfolding(sql_grammar::specs::Sql::expr))]
+#[cycle(parser)]
+pub(crate) fn expr(alloc: Global, input: &mut Input<'_>, room: u32) -> Result<Expr, ParseError>
+    ensures { Reads (reading rules room g.expr input.old.rest.now) result input.new.rest.now }
+{
+    let first = term(alloc, input, room)?;
+    let links = addends(alloc, input, room)?;
+    Ok(chained(alloc, first, links)?)
+}
+
+#[tactic(auto, unfolding(sql_grammar::specs::Sql::more_exprs))]
+#[cycle(parser)]
+fn more_exprs(alloc: Global, input: &mut Input<'_>, room: u32) -> Result<Items<Expr>, ParseError>
+    ensures { Reads (reading rules room g.more_exprs input.old.rest.now) result input.new.rest.now }
+{
+    let mut found = Items::new(alloc);
+    'more: while input.eat(Kind::Sign(Sign::Comma)) {
+        match expr(alloc, input, room) {
+            Ok(next) => found.push(next)?,
+            Err(error) => return Err(error),
+        }
+    }
+    Ok(found)
+}
+
+#[tactic(auto, unfolding(sql_grammar::specs::Sql::exprs))]
+#[cycle(parser)]
+pub(crate) fn exprs(
+    alloc: Global,
+    input: &mut Input<'_>,
+    room: u32,
+) -> Result<Items<Expr>, ParseError>
+    ensures { Reads (reading rules room g.exprs input.old.rest.now) result input.new.rest.now }
+{
+    let first = expr(alloc, input, room)?;
+    let more = more_exprs(alloc, input, room)?;
+    Ok(with_first(alloc, first, more)?)
+}

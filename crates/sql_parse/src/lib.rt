@@ -1,0 +1,13 @@
+//! The parser, by recursive descent. Each function gives what the grammar's reader gives for its rule, and where it fails leaves
+//! the input at the token that does not go on with what was read.
+#![tactic(auto)]
+
+mod create;
+mod expr;
+mod insert;
+mod parse;
+mod place;
+mod query;
+mod statement;
+
+pub use parse::parse_statement;

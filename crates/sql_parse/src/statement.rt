@@ -1,0 +1,37 @@
+//! Statements.
+
+ghost use Rattle.std.specs.Prelude.{◌≡◌};
+ghost use Rattle.token_grammar.specs.Reading.{reading};
+ghost use Rattle.token_grammar.specs.Reads.{Reads};
+ghost use Rattle.sql_grammar.specs.Sql as g;
+ghost use Rattle.sql_grammar.specs.Sql.{rules};
+
+use crate::create::created;
+use crate::insert::insert;
+use crate::query::query;
+use sql_lex::{Kind, Sign, Word};
+use std::alloc::Global;
+use syntax_trees::Stmt;
+use token_grammar::{Input, ParseError};
+
+#[tactic(auto, unfolding(sql_grammar::specs::Sql::unended, sql_grammar::specs::Sql::insert))]
+fn unended(alloc: Global, input: &mut Input<'_>, room: u32) -> Result<Stmt, ParseError>
+    ensures { Reads (reading rules room g.unended input.old.rest.now) result input.new.rest.now }
+{
+    if input.eat(Kind::Word(Word::Create)) {
+        return created(alloc, input, room);
+    }
+    if input.sees(Kind::Word(Word::Insert)) {
+        return Ok(Stmt::Insert(insert(alloc, input, room)?));
+    }
+    Ok(Stmt::Query(query(alloc, input, room)?))
+}
+
+/// A statement with its semicolon.
+#[tactic(auto, unfolding(sql_grammar::specs::Sql::statement))]
+pub(crate) fn statement(alloc: Global, input: &mut Input<'_>, room: u32) -> Result<Stmt, ParseError>
+    ensures { Reads (reading rules room g.statement input.old.rest.now) result input.new.rest.now }
+{
+    let tree = unended(alloc, input, room)?;
+    input.close(Kind::Sign(Sign::Semicolon), tree)
+}

@@ -1,0 +1,45 @@
+-- What operators and comparisons give.
+use Rattle.std.specs.Prelude.{Bool, true, false, Option, Some, None}
+use Rattle.std.specs.declared.cmp.Ordering.{Ordering}
+use Rattle.std.specs.declared.cmp.Ordering.TheVariants.{Less, Equal, Greater}
+use Rattle.sql_values.specs.declared.value.Value.{Value}
+use Rattle.sql_values.specs.declared.operators.Operator.{Operator}
+use Rattle.sql_values.specs.declared.operators.Operator.TheVariants.{Add, Subtract, Multiply, Divide}
+use Rattle.sql_values.specs.declared.operators.Comparison.{Comparison}
+use Rattle.sql_values.specs.declared.operators.Comparison.TheVariants.{Equals, NotEquals, LessThan, LessThanOrEquals, GreaterThan, GreaterThanOrEquals}
+use Rattle.sql_values.specs.Values.{Outcome, sum_of, difference_of, product_of, quotient_of, order_of}
+
+abbrev pub applied : Operator → Value → Value → Outcome
+applied Add a b = sum_of a b
+applied Subtract a b = difference_of a b
+applied Multiply a b = product_of a b
+applied Divide a b = quotient_of a b
+
+-- the comparison is true of two values in this order
+abbrev pub allows : Comparison → Ordering → Bool
+allows Equals Less = false
+allows Equals Equal = true
+allows Equals Greater = false
+allows NotEquals Less = true
+allows NotEquals Equal = false
+allows NotEquals Greater = true
+allows LessThan Less = true
+allows LessThan Equal = false
+allows LessThan Greater = false
+allows LessThanOrEquals Less = true
+allows LessThanOrEquals Equal = true
+allows LessThanOrEquals Greater = false
+allows GreaterThan Less = false
+allows GreaterThan Equal = false
+allows GreaterThan Greater = true
+allows GreaterThanOrEquals Less = false
+allows GreaterThanOrEquals Equal = true
+allows GreaterThanOrEquals Greater = true
+
+abbrev pub is_true_in : Comparison → Option Ordering → Bool
+is_true_in comparison None = false
+is_true_in comparison (Some order) = allows comparison order
+
+-- the comparison is true of the two values; it is unknown, and so not true, where one is NULL
+abbrev pub compared : Comparison → Value → Value → Bool
+compared comparison a b = is_true_in comparison (order_of a b)

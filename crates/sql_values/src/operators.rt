@@ -1,0 +1,67 @@
+//! The operators and comparisons that scripts write.
+
+ghost use Rattle.std.specs.Prelude.{◌≡◌};
+ghost use Rattle.sql_values.specs.Operators.{applied, compared, allows};
+
+use crate::{Value, ValueFault, add, cmp, div, mul, sub};
+use std::cmp::Ordering;
+
+/// An operator between two numbers.
+#[derive(Clone, Copy, Debug, PartialEq, Eq)]
+pub enum Operator {
+    Add,
+    Subtract,
+    Multiply,
+    Divide,
+}
+
+/// A comparison operator (ISO/IEC 9075-2, 8.2).
+#[derive(Clone, Copy, Debug, PartialEq, Eq)]
+pub enum Comparison {
+    Equals,
+    NotEquals,
+    LessThan,
+    LessThanOrEquals,
+    GreaterThan,
+    GreaterThanOrEquals,
+}
+
+impl Operator {
+    /// What the operator gives of two values; its faults are those of the operation.
+    pub fn apply(self, a: &Value, b: &Value) -> Result<Value, ValueFault>
+        ensures { result ≡ applied self a.now b.now }
+    {
+        match self {
+            Operator::Add => add(a, b),
+            Operator::Subtract => sub(a, b),
+            Operator::Multiply => mul(a, b),
+            Operator::Divide => div(a, b),
+        }
+    }
+}
+
+impl Comparison {
+    /// Whether the comparison is true of two values. It is unknown, and so not true, where one of them is NULL.
+    pub fn holds(self, a: &Value, b: &Value) -> bool
+        ensures { result ≡ compared self a.now b.now }
+    {
+        match cmp(a, b) {
+            Some(order) => self.allows(order),
+            None => false,
+        }
+    }
+
+    // Whether the comparison is true of two values in this order.
+    fn allows(self, order: Ordering) -> bool
+        ensures { result ≡ allows self order }
+    {
+        match self {
+            Comparison::Equals => order == Ordering::Equal,
+            Comparison::NotEquals => order != Ordering::Equal,
+            Comparison::LessThan => order == Ordering::Less,
+            Comparison::LessThanOrEquals => order != Ordering::Greater,
+            Comparison::GreaterThan => order == Ordering::Greater,
+            Comparison::GreaterThanOrEquals => order != Ordering::Less,
+        }
+    }
+}

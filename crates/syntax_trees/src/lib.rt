@@ -1,0 +1,12 @@
+//! Statements as they are written. Brackets leave no node, a chain of operators is a list, and each node has its anchor.
+#![tactic(auto)]
+
+mod anchor;
+mod expr;
+mod query;
+mod statement;
+
+pub use anchor::{Anchor, Ident};
+pub use expr::{Expr, Link};
+pub use query::{Query, Test};
+pub use statement::{Column, CreateFunction, CreateTable, Insert, Parameter, Stmt};

@@ -1,0 +1,6 @@
+pub mod Order
+pub mod Puts
+pub mod Greatest
+pub mod Steps
+pub mod Whole
+pub mod Names

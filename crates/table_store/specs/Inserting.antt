@@ -1,0 +1,45 @@
+-- What an INSERT leaves and answers.
+use Rattle.std.specs.Prelude.{◌≡◌, ◌<◌, length, slice_index_or, slice_set, ℕ, List, [], ◌++◌, if◌then◌else◌, Option, Some, None, IsTrue}
+use Rattle.rel_algebra.specs.Tables.{Row, Table, Tables, Stored as Named, table_named, with_rows, repeats_key, in_key_order, inserted}
+use Rattle.table_store.specs.Keys.{rises}
+use Rattle.table_store.specs.declared.inserted.Inserted.{Inserted}
+use Rattle.table_store.specs.declared.inserted.Inserted.TheVariants.{Stored, Refused}
+
+-- new rows are stored, or refused
+abbrev pub answer_to : Option (List Row) → Inserted
+answer_to None = Refused
+answer_to (Some rows) = Stored
+
+-- a table with the rows that it is to have; refused rows leave it as it is
+abbrev pub table_with : Option (List Row) → Table → Table
+table_with None t = t
+table_with (Some rows) t = record t { rows = rows }
+
+-- the rows that a table of the map is to have; where no table has the name, nothing is stored
+abbrev pub inserted_in : Option Table → List Row → Option (List Row)
+inserted_in None new = Some []
+inserted_in (Some t) new = inserted t.key t.rows new
+
+abbrev pub tables_with : Option (List Row) → List ℕ → Tables → Tables
+tables_with None name tables = tables
+tables_with (Some rows) name tables = with_rows name rows tables
+
+-- rows in key order with more, that stand in key order too; none where a key stands twice
+abbrev pub united : ℕ → List Row → List Row → Option (List Row)
+united key rows more = if repeats_key key (rows ++ more) then None else Some (in_key_order key (rows ++ more))
+
+-- rows that are to be as they are where nothing is stored
+abbrev pub rows_with : Option (List Row) → List Row → List Row
+rows_with None rows = rows
+rows_with (Some more) rows = more
+
+-- the rows that there are rise
+abbrev pub AllRise : ℕ → Option (List Row) → Type 0
+AllRise key None = Unit {0}
+AllRise key (Some rows) = IsTrue (rises key rows)
+
+-- the first table of a name stands at this place
+pub record IsFirstNamed (name : List ℕ) (tables : Tables) (place : ℕ) : Type 0 where
+  pub within : place < length tables
+  pub table : (d : Named) → table_named name tables ≡ Some (slice_index_or tables place d).table
+  pub rows : (rows : List Row) (d : Named) → with_rows name rows tables ≡ slice_set tables place (record { name = (slice_index_or tables place d).name; table = record (slice_index_or tables place d).table { rows = rows } })

@@ -1,0 +1,81 @@
+//! Rows and their keys.
+
+ghost use Rattle.std.specs.Prelude.{◌≡◌, ◌<◌, ◌++◌, IsTrue, length, false};
+ghost use Rattle.std.specs.Bool.{MatchBool};
+ghost use Rattle.rel_algebra.specs.Tables.{has_null_key as has_null_key_by, repeats_key};
+ghost use Rattle.table_store.specs.Keys.{precedes as precedes_by, rises, Tops};
+
+use sql_values::{Comparison, Value};
+use sqlite_items::Items;
+
+/// A row: a value for each column of its table, in the table's order.
+pub type Row = Items<Value>;
+
+// Whether the key of one row is below that of another.
+pub fn precedes(a: &Row, b: &Row, key: usize) -> bool
+    ensures { result ≡ precedes_by key a.now b.now }
+{
+    match (a.get(key), b.get(key)) {
+        (Some(x), Some(y)) => Comparison::LessThan.holds(x, y),
+        _ => false,
+    }
+}
+
+// Whether a row's key is NULL.
+pub fn has_null_key(row: &Row, key: usize) -> bool
+    ensures { result ≡ has_null_key_by key row.now }
+{
+    match row.get(key) {
+        Some(Value::Int(_)) => false,
+        Some(Value::Null) => true,
+        None => true,
+    }
+}
+
+// Whether rows in key order stay so with more behind them.
+pub fn stand_behind(rows: &[Row], more: &[Row], key: usize) -> bool
+    requires first { IsTrue (rises key rows.now) }
+    requires second { IsTrue (rises key more.now) }
+    ensures { IsTrue result → IsTrue (rises key (rows.now ++ more.now)) }
+{
+    if rows.len() == 0 || more.len() == 0 {
+        return true;
+    }
+    precedes(&rows[rows.len() - 1], &more[0], key)
+}
+
+// Whether the greatest key is that of the last of the rows, and not of the last of the others.
+pub fn last_is_above(rows: &[Row], others: &[Row], key: usize) -> bool
+    requires first { IsTrue (rises key rows.now) }
+    requires second { IsTrue (rises key others.now) }
+    requires once { repeats_key key (rows.now ++ others.now) ≡ false }
+    requires some { 0 < length others.now }
+    ensures { MatchBool result ((0 < length rows.now) × Tops key rows.now others.now) (Tops key others.now rows.now) }
+{
+    if rows.len() == 0 {
+        return false;
+    }
+    precedes(&others[others.len() - 1], &rows[rows.len() - 1], key)
+}
+
+// Whether a key stands twice in rows in key order and more such rows: both are gone through from behind.
+pub fn stands_twice(rows: &[Row], more: &[Row], key: usize) -> bool
+    requires first { IsTrue (rises key rows.now) }
+    requires second { IsTrue (rises key more.now) }
+    ensures { result ≡ repeats_key key (rows.now ++ more.now) }
+{
+    let mut i = rows.len();
+    let mut j = more.len();
+    while i > 0 && j > 0 {
+        let one = &rows[i - 1];
+        let other = &more[j - 1];
+        if precedes(one, other, key) {
+            j -= 1;
+        } else if precedes(other, one, key) {
+            i -= 1;
+        } else {
+            return true;
+        }
+    }
+    false
+}

@@ -1,0 +1,10 @@
+pub mod Ahead
+pub mod Shapes
+pub mod Sound
+pub mod Complete
+pub mod Reach
+pub mod After
+pub mod Further
+pub mod Places
+pub mod Turns
+pub mod Depth

@@ -1,0 +1,52 @@
+//! Languages: grammars that one token ahead decides, and what reading says of each.
+
+ghost use Rattle.std.specs.Prelude.{◌≡◌, ℕ, ◌≤◌, List, [], length, drop, true};
+ghost use Rattle.sql_lex.specs.declared.token.Token.{Token};
+ghost use Rattle.token_grammar.specs.Grammar.{Grammar};
+ghost use Rattle.token_grammar.specs.Reading.{decides, goes_on, reading};
+ghost use Rattle.token_grammar.specs.Statement.{Answers, PartAnswers, at_places};
+
+/// A grammar with the rules that it names, which one token ahead decides. No code has a value of such a type: it stands for what
+/// contracts speak of.
+pub trait Part {
+    /// What names a rule whose text stands in a construct.
+    ghost Rule: { Type 0 };
+
+    /// The trees of each rule.
+    ghost Tree: { Rule → Type 0 };
+
+    /// What stands in each construct.
+    ghost rules: { (r : Rule) → Grammar Rule Tree (Tree r) };
+
+    /// One token ahead decides each rule.
+    ghost rules_decide: { (r : Rule) → decides rules (rules r) ≡ true };
+
+    /// The trees of the part.
+    ghost Whole: { Type 0 };
+
+    /// How the part is written.
+    ghost part: { Grammar Rule Tree Whole };
+
+    /// One token ahead decides it.
+    ghost part_decides: { decides rules part ≡ true };
+}
+
+/// A part with an end of its own, as a statement with its `;`.
+pub trait Ending: Part {
+    /// No token goes on with a whole spelling.
+    ghost ends: { goes_on Self.part ≡ [] };
+}
+
+/// Reading a part from place i on, with room for n constructs: the place where the longest beginning ends, and the one tree that is spelled
+/// up to it, where there is one.
+pub fn reads_part<P: Part>()
+    ensures { (n : ℕ) (tokens : List Token) (i : ℕ) → i ≤ length tokens → PartAnswers P.rules n P.part tokens i (at_places tokens (reading P.rules n P.part (drop i tokens))) }
+{
+}
+
+/// Reading a part with an end from place i on, with room for n constructs: the one tree that is spelled there, and the place behind it; else
+/// the place where the longest beginning ends, and whether one more construct would go on.
+pub fn reads_whole<E: Ending>()
+    ensures { (n : ℕ) (tokens : List Token) (i : ℕ) → i ≤ length tokens → Answers E.rules n E.part tokens i (at_places tokens (reading E.rules n E.part (drop i tokens))) }
+{
+}

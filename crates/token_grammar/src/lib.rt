@@ -1,0 +1,14 @@
+//! Grammars over tokens, read with one token ahead.
+#![tactic(auto)]
+
+mod example;
+mod fault;
+mod input;
+mod language;
+mod stage;
+
+pub use example::reads_example;
+pub use fault::{ParseError, ParseFault};
+pub use input::{Input, name_in, number_in, text_in};
+pub use stage::Stage;
+pub use language::{Ending, Part, reads_part, reads_whole};
