@@ -5,3 +5,4 @@ pub mod Reading
 pub mod Writing
 pub mod Outcome
 pub mod Whole
+pub mod Rows
