@@ -50,7 +50,10 @@ fn add_entry(catalog: &mut Vec<Entry>, entry: Entry)
     requires { vec_len catalog.old < vec_capacity catalog.old }
     ensures { catalog.new.items ≡ catalog.old.items ++ entry ∷ [] }
 {
-    let _ = catalog.push(entry);
+    match catalog.push(entry) {
+        Ok(()) => {}
+        Err(_) => unreachable!(),
+    }
 }
 
 // A new entry, with its table. Room is made first.
