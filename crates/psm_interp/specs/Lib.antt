@@ -1,3 +1,4 @@
 pub mod Telling
 pub mod Sight
 pub mod Cost
+pub mod Records

@@ -1,7 +1,9 @@
 -- What the answer of a run tells of how an evaluation ends. Want of memory tells nothing.
-use Rattle.std.specs.Prelude.{◌≡◌, ℕ, Result, Ok, Err}
-use Rattle.sql_conditions.specs.declared.Condition.{Condition}
-use Rattle.rel_algebra.specs.Tables.{Tables}
+use Rattle.std.specs.Prelude.{◌≡◌, List, Result, Ok, Err}
+use Rattle.std.specs.declared.vec.Vec.{Vec}
+use Rattle.std.specs.declared.alloc.Global.{Global}
+
+use Rattle.rel_algebra.specs.Tables.{Row, Tables}
 use Rattle.rel_algebra.specs.World.{World, Ends, Gives, Raises, Eval}
 use Rattle.psm_interp.specs.declared.stop.Stop.{Stop}
 use Rattle.psm_interp.specs.declared.stop.Stop.TheVariants.{Raised, NoMemory}
@@ -20,3 +22,9 @@ abbrev pub TellsOf : {A : Type 0} → Tables → Tables → Result A Stop → En
 TellsOf old new (Ok a) e = e ≡ Gives a (world_of new)
 TellsOf old new (Err (Raised c)) e = (e ≡ Raises c (world_of old)) × (new ≡ old)
 TellsOf old new (Err NoMemory) e = new ≡ old
+
+-- the same where the rows are in a vector
+abbrev pub TellsRows : World → Result (Vec Row Global) Stop → Ends (List Row) → Type 0
+TellsRows w (Ok rows) e = e ≡ Gives rows.items w
+TellsRows w (Err (Raised c)) e = e ≡ Raises c w
+TellsRows w (Err NoMemory) e = Unit {0}

@@ -2,8 +2,12 @@
 #![tactic(auto)]
 
 mod expr;
+mod inserts;
+mod queries;
 mod stop;
 mod values;
 
 pub use expr::eval;
+pub use inserts::run_insert;
+pub use queries::run_query;
 pub use stop::Stop;

@@ -34,3 +34,14 @@ impl From<AllocError> for Stop {
         Stop::NoMemory
     }
 }
+
+impl<T: Drop> From<AllocFailed<T>> for Stop {
+    ghost use Rattle.std.specs.Prelude.{◌≡◌};
+    ghost use Rattle.psm_interp.specs.declared.stop.Stop.TheVariants.{NoMemory as WantOfMemory};
+
+    ghost from_gives = { λ e s. s ≡ WantOfMemory };
+
+    fn from(_: AllocFailed<T>) -> Stop {
+        Stop::NoMemory
+    }
+}
