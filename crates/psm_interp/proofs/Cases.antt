@@ -1,22 +1,20 @@
 -- What the interpreter's calls need, case by case.
-use Rattle.std.proofs.Common.{rules, ◌≡◌, ◌≤◌, ◌<◌, ◌∷◌, [], length, ℕ, ◌++◌, ◌+◌, take, drop, get_or, suc, zero, refl, sym, ap, ◌∙◌, subst, arith, Option, Some, None, List, Bool, true, false, cond, Result, Ok, Err, map}
+use Rattle.std.proofs.Common.{rules, ◌≡◌, ◌<◌, [], ℕ, get_or, sym, ap, ◌∙◌, subst, arith, List, Result, Err}
 use Rattle.sql_values.specs.declared.value.Value.{Value}
 use Rattle.sql_values.specs.declared.value.Value.TheVariants.{Null}
-use Rattle.sql_values.specs.declared.operators.Operator.{Operator}
-use Rattle.sql_values.specs.Operators.{applied}
 use Rattle.bound_trees.specs.declared.expr.BoundExpr.{BoundExpr, the_lemmas}
 use Rattle.bound_trees.specs.declared.expr.BoundExpr.TheVariants.{Chain as ChainOf, Call as CallOf}
 use Rattle.bound_trees.specs.declared.expr.BoundLink.{BoundLink}
-use Rattle.rel_algebra.specs.Tree.{Expr, Literal, Chain, Call, Links, NoLink, MoreLinks, Exprs, NoExpr, MoreExprs, Routine, Returns}
+use Rattle.rel_algebra.specs.Tree.{Expr, Chain, Call, Routine, Returns}
 use Rattle.rel_algebra.specs.Tables.{Row}
-use Rattle.rel_algebra.specs.World.{World, Frame, Ends, Gives, Raises, Eval, after, give, outcome}
+use Rattle.rel_algebra.specs.World.{World, Frame, Ends, Gives, Eval, after}
 use Rattle.rel_algebra.specs.Meaning.{ev, ev_links, ev_all, call}
 use Rattle.catalog_store.specs.Catalog.{missing}
-use Rattle.catalog_store.specs.View.{tree_of, exprs_of, links_of, link_of, Link}
+use Rattle.catalog_store.specs.View.{tree_of, exprs_of, links_of}
 use Rattle.psm_interp.specs.declared.stop.Stop.{Stop}
 use Rattle.psm_interp.specs.declared.stop.Stop.TheVariants.{Raised, NoMemory}
 use Rattle.psm_interp.specs.Telling.{Tells}
-use Rattle.psm_interp.specs.Cost.{cost, costs, links_cost, routine_cost}
+use Rattle.psm_interp.specs.Cost.{cost, routine_cost}
 
 -- Answers.
 pub tells_same : {A : Type 0} (w : World) (r : Result A Stop) (e f : Ends A) → e ≡ f → Tells w r e → Tells w r f

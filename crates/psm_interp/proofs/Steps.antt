@@ -1,19 +1,19 @@
 -- The steps of the loops over arguments and over chains.
-use Rattle.std.proofs.Common.{rules, ◌≡◌, ◌≤◌, ◌<◌, ◌∷◌, [], length, ℕ, ◌++◌, ◌+◌, take, drop, get_or, suc, zero, refl, sym, ap, ◌∙◌, subst, arith, Option, Some, None, List, Result, Ok, Err, append_assoc}
+use Rattle.std.proofs.Common.{rules, ◌≡◌, ◌<◌, ◌∷◌, [], length, ℕ, ◌++◌, ◌+◌, drop, get_or, refl, sym, ap, ◌∙◌, subst, List, Result, Err, append_assoc}
 use Rattle.std.proofs.lemmas.List.{drop_more}
 use Rattle.sql_values.specs.declared.value.Value.{Value}
 use Rattle.sql_values.specs.Operators.{applied}
 use Rattle.bound_trees.specs.declared.expr.BoundExpr.{BoundExpr, the_lemmas}
 use Rattle.bound_trees.specs.declared.expr.BoundLink.{BoundLink}
-use Rattle.rel_algebra.specs.Tree.{Links, MoreLinks, Exprs, MoreExprs, Routine}
+use Rattle.rel_algebra.specs.Tree.{MoreLinks, Routine}
 use Rattle.rel_algebra.specs.Tables.{Row}
-use Rattle.rel_algebra.specs.World.{World, Frame, Ends, Gives, Raises, Eval, after, give, outcome}
+use Rattle.rel_algebra.specs.World.{World, Frame, Ends, Gives, Raises, after, give, outcome}
 use Rattle.rel_algebra.specs.Meaning.{ev, ev_links, ev_all}
 use Rattle.catalog_store.specs.View.{tree_of, exprs_of, links_of, link_of, Link}
 use Rattle.psm_interp.specs.declared.stop.Stop.{Stop}
 use Rattle.psm_interp.specs.Telling.{Tells}
 use Rattle.psm_interp.specs.Cost.{cost, costs, links_cost}
-use Rattle.psm_interp.proofs.Cases.{tells_same, tells_after, tells_stop}
+use Rattle.psm_interp.proofs.Cases.{tells_same, tells_stop}
 
 -- the rest of a list begins with what stands there
 pub rest : {A : Type 0} (xs : List A) (i : ℕ) (x : A) → i < length xs → x ≡ get_or xs i x → drop i xs ≡ x ∷ drop (i + 1) xs

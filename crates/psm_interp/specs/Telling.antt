@@ -2,9 +2,8 @@
 use Rattle.std.specs.Prelude.{◌≡◌, List, Result, Ok, Err}
 use Rattle.std.specs.declared.vec.Vec.{Vec}
 use Rattle.std.specs.declared.alloc.Global.{Global}
-
 use Rattle.rel_algebra.specs.Tables.{Row, Tables}
-use Rattle.rel_algebra.specs.World.{World, Ends, Gives, Raises, Eval}
+use Rattle.rel_algebra.specs.World.{World, Ends, Gives, Raises}
 use Rattle.psm_interp.specs.declared.stop.Stop.{Stop}
 use Rattle.psm_interp.specs.declared.stop.Stop.TheVariants.{Raised, NoMemory}
 

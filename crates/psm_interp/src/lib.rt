@@ -5,6 +5,8 @@ mod expr;
 mod inserts;
 mod queries;
 mod stop;
+#[cfg(test)]
+mod tests;
 mod values;
 
 pub use expr::eval;

@@ -1,10 +1,11 @@
 //! Queries.
 
-ghost use Rattle.std.specs.Prelude.{◌≡◌};
-ghost use Rattle.rel_algebra.specs.World.{World, each_row};
+ghost use Rattle.std.specs.Prelude.{◌≡◌, ◌++◌, [], OnOk, IfErr};
+ghost use Rattle.rel_algebra.specs.World.{World, each_row, with_front};
 ghost use Rattle.rel_algebra.specs.Meaning.{answer, is_kept as kept};
 ghost use Rattle.catalog_store.specs.Catalog.{routines};
 ghost use Rattle.catalog_store.specs.View.{plain, exprs_of, filter_of, query_of};
+ghost use Rattle.psm_interp.specs.declared.stop.Stop.TheVariants.{NoMemory};
 ghost use Rattle.psm_interp.specs.Telling.{Tells, world_of};
 ghost use Rattle.psm_interp.specs.Records.{record_of};
 
@@ -18,11 +19,22 @@ use table_store::{Row, Tables};
 
 /// The records of a query (ISO/IEC 9075-2, 7.12), in the order of the table's keys. For each row first its WHERE and then its
 /// select list is evaluated; the first condition ends the query, and comes exactly where the meaning raises it.
-pub fn run_query(alloc: Global, query: &BoundQuery, catalog: &[Entry], tables: &Tables) -> Result<Items<Row>, Stop>
+pub fn run_query(
+    alloc: Global,
+    query: &BoundQuery,
+    catalog: &[Entry],
+    tables: &Tables,
+) -> Result<Items<Row>, Stop>
     ensures { let w = world_of tables.now in Tells w result (answer (query_of (routines (plain catalog.now)) query.now) w) }
 {
     match tables.table(&query.table) {
-        Some(table) => select(alloc, query.items.as_slice(), &query.filter, table.rows(), catalog),
+        Some(table) => select(
+            alloc,
+            query.items.as_slice(),
+            &query.filter,
+            table.rows(),
+            catalog,
+        ),
         None => Ok(Items::new(alloc)),
     }
 }
@@ -39,11 +51,24 @@ fn select(
 {
     let mut records = Items::new(alloc);
     for row in rows {
-        if let Some(record) = record_where_kept(alloc, items, filter, row, catalog)? {
-            records.push(record)?;
-        }
+        let record = record_where_kept(alloc, items, filter, row, catalog)?;
+        add(&mut records, record)?;
     }
     Ok(records)
+}
+
+// A record more, where there is one.
+fn add(records: &mut Items<Row>, more: Option<Row>) -> Result<(), Stop>
+    ensures ok { OnOk result (records.new ≡ records.old ++ with_front more []) }
+    ensures err { IfErr result (λ s. s ≡ NoMemory) }
+{
+    match more {
+        Some(record) => {
+            records.push(record)?;
+            Ok(())
+        }
+        None => Ok(()),
+    }
 }
 
 // The record of a row, where the row is kept.
@@ -65,7 +90,12 @@ fn record_where_kept(
 }
 
 // Whether the WHERE is true of a row.
-fn is_kept(alloc: Global, filter: &Option<BoundTest>, row: &Row, catalog: &[Entry]) -> Result<bool, Stop>
+fn is_kept(
+    alloc: Global,
+    filter: &Option<BoundTest>,
+    row: &Row,
+    catalog: &[Entry],
+) -> Result<bool, Stop>
     ensures { (w : World) → Tells w result (kept (filter_of (routines (plain catalog.now)) filter.now) row.now w) }
 {
     match filter {

@@ -1,9 +1,9 @@
 -- The first table of a name.
-use Rattle.std.proofs.Common.{ℕ, ◌≡◌, ◌<◌, ◌≤◌, zero, suc, Bool, true, false, List, [], ◌∷◌, refl, sym, ap, ◌∙◌, arith, subst, cond, Option, Some, None, length, get_or, set}
+use Rattle.std.proofs.Common.{ℕ, ◌≡◌, ◌<◌, ◌≤◌, zero, suc, List, [], ◌∷◌, refl, sym, ap, ◌∙◌, arith, subst, cond, Some, None, length, get_or, set}
 use Rattle.std.specs.Str.{bytes_eq}
 use Rattle.std.proofs.lemmas.Slice.Eq.{bytes_eq-Decides}
 use Rattle.std.proofs.lemmas.Bool.{false_from_ne_true}
-use Rattle.rel_algebra.specs.Tables.{Row, Table, Tables, Stored as Named, table_named, with_rows}
+use Rattle.rel_algebra.specs.Tables.{Row, Tables, Stored as Named, table_named, with_rows}
 use Rattle.std.specs.Prelude.{unwrap_or}
 use Rattle.table_store.specs.Inserting.{IsFirstNamed, stored_at, stored_in}
 

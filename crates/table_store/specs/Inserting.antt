@@ -1,5 +1,5 @@
 -- What an INSERT leaves and answers.
-use Rattle.std.specs.Prelude.{◌≡◌, ◌<◌, length, slice_index_or, slice_set, ℕ, List, [], ◌++◌, if◌then◌else◌, Option, Some, None, IsTrue}
+use Rattle.std.specs.Prelude.{◌≡◌, ◌<◌, length, slice_index_or, slice_set, ℕ, List, ◌++◌, if◌then◌else◌, Option, Some, None, IsTrue}
 use Rattle.std.specs.Option.{option_map}
 use Rattle.rel_algebra.specs.Tables.{Row, Table, Tables, Stored as Named, table_named, with_rows, repeats_key, in_key_order, inserted}
 use Rattle.table_store.specs.Keys.{rises}

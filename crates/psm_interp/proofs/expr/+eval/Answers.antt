@@ -1,9 +1,9 @@
-use Rattle.std.proofs.Common.{rules, ◌≡◌, ◌++◌, ◌∷◌, [], arith, sym, ap, ◌∙◌, refl, Err}
-use Rattle.catalog_store.specs.Catalog.{routines, missing}
-use Rattle.catalog_store.specs.View.{plain, tree_of, exprs_of, links_of}
+use Rattle.std.proofs.Common.{rules, arith}
+use Rattle.catalog_store.specs.Catalog.{routines}
+use Rattle.catalog_store.specs.View.{plain}
 use Rattle.psm_interp.specs.Sight.{in_sight}
 use Rattle.psm_interp.proofs.Cases.{chain_goes_on, call_goes_on, call_stops}
-use Rattle.psm_interp.proofs.Steps.{all_step, all_stops, costs_step, links_step, links_stop, operand_stops, links_cost_step}
+use Rattle.psm_interp.proofs.Steps.{all_step, all_stops, costs_step, links_step, links_stop, links_cost_step}
 use Rattle.psm_interp.proofs.expr.+eval.Goals as goal
 
 pub eval-returns-in_err-values-in-Call : goal.eval-returns-in_err-values-in-Call

@@ -1,4 +1,4 @@
-use Rattle.std.proofs.Common.{◌≡◌, ◌≤◌, ◌+◌, ◌∷◌, ◌++◌, drop, get_or}
+use Rattle.std.proofs.Common.{◌≡◌, ◌≤◌, ◌++◌, drop, get_or}
 use Rattle.rel_algebra.specs.World.{World, after, give}
 use Rattle.rel_algebra.specs.Meaning.{ev_links, ev_all}
 use Rattle.catalog_store.specs.Catalog.{routines, missing}
