@@ -4,10 +4,14 @@ use Rattle.std.proofs.lemmas.List.{take_more, take-append-drop, get_or_past}
 use Rattle.std.proofs.lemmas.Slice.Eq.{bytes_eq-Decides}
 use Rattle.std.proofs.lemmas.Bool.{false_from_ne_true}
 use Rattle.std.specs.Str.{bytes_eq}
-use Rattle.rel_algebra.specs.Tree.{Routine}
+use Rattle.rel_algebra.specs.Tree.{Routine, Returns}
 use Rattle.catalog_store.specs.declared.entry.Entry.{Entry as CodeEntry}
+use Rattle.catalog_store.specs.declared.entry.FunctionEntry.{FunctionEntry}
+use Rattle.catalog_store.specs.declared.entry.TableEntry.{TableEntry}
+use Rattle.catalog_store.specs.declared.entry.Object.{Object as CodeObject}
+use Rattle.catalog_store.specs.declared.entry.Object.TheVariants.{Table as TableOf, Function as FunctionOf}
 use Rattle.catalog_store.specs.Catalog.{Object, Catalog, missing, routine_in, routines, object_named}
-use Rattle.catalog_store.specs.View.{plain, plain_from, entry_of, object_of, IsFirstOfName}
+use Rattle.catalog_store.specs.View.{plain, plain_from, entry_of, object_of, IsFirstOfName, tree_of}
 
 plain_from-append : (before : Catalog) (es : List CodeEntry) (e : CodeEntry) →
     plain_from before (es ++ e ∷ []) ≡ plain_from before es ++ entry_of (routines (plain_from before es)) e ∷ []
@@ -128,3 +132,11 @@ first_of_name name es i e h is none same =
           ∙ named_from name (plain (take (i + 1) es)) (drop (i + 1) es) o at;
       routine = routines-at es i e h ∙ ap (λ (x : CodeEntry). routine_in (object_of (routines (plain (take i es))) x.object)) (sym is);
     }
+
+-- what a call of a place runs
+pub routine_of-function : (es : List CodeEntry) (i : ℕ) (e : CodeEntry) (f : FunctionEntry) → i < length es → (get_or es i e).object ≡ FunctionOf f →
+    get_or (routines (plain es)) i missing ≡ Returns (tree_of (routines (plain (take i es))) f.body)
+routine_of-function es i e f h o = routines-at es i e h ∙ ap (λ (x : CodeObject). routine_in (object_of (routines (plain (take i es))) x)) o
+
+pub routine_of-table : (es : List CodeEntry) (i : ℕ) (e : CodeEntry) (t : TableEntry) → i < length es → (get_or es i e).object ≡ TableOf t → get_or (routines (plain es)) i missing ≡ missing
+routine_of-table es i e t h o = routines-at es i e h ∙ ap (λ (x : CodeObject). routine_in (object_of (routines (plain (take i es))) x)) o

@@ -7,7 +7,7 @@ mod entry;
 mod lookup;
 
 pub use entry::{Entry, FunctionEntry, Object, TableEntry};
-pub use lookup::{Found, find};
+pub use lookup::{Callee, Found, callee_at, find};
 
 /// What a catalog's entries stand for stays as entries are added behind them.
 pub fn grows_at_its_end()

@@ -1,10 +1,12 @@
-//! Look-up by name.
+//! Look-up by name, and by the place that a call names.
 
-ghost use Rattle.std.specs.Prelude.{◌≡◌, MatchOption, None};
-ghost use Rattle.catalog_store.specs.Catalog.{object_named};
-ghost use Rattle.catalog_store.specs.View.{plain, IsFirstOfName};
+ghost use Rattle.std.specs.Prelude.{◌≡◌, MatchOption, None, slice_index_or};
+ghost use Rattle.rel_algebra.specs.Tree.{Returns};
+ghost use Rattle.catalog_store.specs.Catalog.{object_named, missing, routines};
+ghost use Rattle.catalog_store.specs.View.{plain, tree_of, IsFirstOfName};
 
-use crate::Entry;
+use crate::{Entry, Object};
+use bound_trees::BoundExpr;
 use sql_values::Name;
 
 /// An entry with its place in the catalog.
@@ -24,4 +26,28 @@ pub fn find<'a>(entries: &'a [Entry], name: &Name) -> Option<Found<'a>>
         }
     }
     None
+}
+
+/// What a call runs: the function's body, and the entries that its own calls may name.
+#[derive(Clone, Copy)]
+pub struct Callee<'a> {
+    pub body: &'a BoundExpr,
+    pub earlier: &'a [Entry],
+}
+
+/// What a call of a place runs; `None` exactly where it runs nothing but gives NULL, since no function stands there.
+pub fn callee_at(entries: &[Entry], place: usize) -> Option<Callee<'_>>
+    ensures { let routine = slice_index_or (routines (plain entries.now)) place missing in
+        MatchOption result (routine ≡ missing) (λ c. routine ≡ Returns (tree_of (routines (plain c.earlier.now)) c.body.now)) }
+{
+    if place >= entries.len() {
+        return None;
+    }
+    match &entries[place].object {
+        Object::Function(function) => Some(Callee {
+            body: &function.body,
+            earlier: &entries[..place],
+        }),
+        Object::Table(_) => None,
+    }
 }

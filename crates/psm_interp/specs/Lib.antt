@@ -1,0 +1,4 @@
+pub mod Telling
+pub mod Sight
+pub mod Cost
+pub mod Records

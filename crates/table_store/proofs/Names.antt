@@ -1,10 +1,11 @@
 -- The first table of a name.
-use Rattle.std.proofs.Common.{ℕ, ◌≡◌, ◌<◌, ◌≤◌, zero, suc, Bool, true, false, List, [], ◌∷◌, refl, sym, ap, ◌∙◌, arith, subst, cond, Option, Some, None, length, get_or, set}
+use Rattle.std.proofs.Common.{ℕ, ◌≡◌, ◌<◌, ◌≤◌, zero, suc, List, [], ◌∷◌, refl, sym, ap, ◌∙◌, arith, subst, cond, Some, None, length, get_or, set}
 use Rattle.std.specs.Str.{bytes_eq}
 use Rattle.std.proofs.lemmas.Slice.Eq.{bytes_eq-Decides}
 use Rattle.std.proofs.lemmas.Bool.{false_from_ne_true}
-use Rattle.rel_algebra.specs.Tables.{Row, Table, Tables, Stored as Named, table_named, with_rows}
-use Rattle.table_store.specs.Inserting.{IsFirstNamed, inserted_in, tables_with}
+use Rattle.rel_algebra.specs.Tables.{Row, Tables, Stored as Named, table_named, with_rows}
+use Rattle.std.specs.Prelude.{unwrap_or}
+use Rattle.table_store.specs.Inserting.{IsFirstNamed, stored_at, stored_in}
 
 found : (name : List ℕ) (s : Named) (ss : Tables) → s.name ≡ name → table_named name (s ∷ ss) ≡ Some s.table
 found name s ss e = ap (λ b. cond b (Some s.table) (table_named name ss)) ((bytes_eq-Decides s.name name).1 e)
@@ -58,17 +59,7 @@ first_named name ss n s l f h e =
       rows = λ rows d. rows_at name rows ss n d l f (at d);
     }
 
-stays : (b : Bool) (s s' : Named) (ss ts : Tables) (o : Option Table) → cond b (Some s.table) o ≡ None → (o ≡ None → ts ≡ ss) → cond b (s' ∷ ss) (s ∷ ts) ≡ s ∷ ss
-stays true s s' ss ts o h k = cc
-stays false s s' ss ts o h k = ap (λ (us : Tables). s ∷ us) (k h)
-
 -- where no table has the name, nothing changes
-missing_rows : (name : List ℕ) (rows : List Row) (ss : Tables) → table_named name ss ≡ None → with_rows name rows ss ≡ ss
-missing_rows name rows [] h = refl
-missing_rows name rows (s ∷ ss) h =
-    stays (bytes_eq s.name name) s (record s { table = record s.table { rows = rows } }) ss (with_rows name rows ss) (table_named name ss) h (missing_rows name rows ss)
-
-pub missing_table : (name : List ℕ) (new : List Row) (ss t : Tables) → ss ≡ t → table_named name ss ≡ None → t ≡ tables_with (inserted_in (table_named name t) new) name t
+pub missing_table : (name : List ℕ) (new : List Row) (ss t : Tables) → ss ≡ t → table_named name ss ≡ None → t ≡ unwrap_or (stored_in name new t) t
 missing_table name new ss t e h =
-    subst (λ (u : Tables). u ≡ tables_with (inserted_in (table_named name u) new) name u) e
-    (sym (ap (λ o. tables_with (inserted_in o new) name ss) h ∙ missing_rows name [] ss h))
+    subst (λ (u : Tables). u ≡ unwrap_or (stored_in name new u) u) e (sym (ap (λ o. unwrap_or (stored_at o name new ss) ss) h))

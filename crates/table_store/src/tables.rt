@@ -1,9 +1,9 @@
 //! All tables, by their names.
 
-ghost use Rattle.std.specs.Prelude.{◌≡◌, ◌↔◌, ◌++◌, ◌∷◌, [], IfOk, OnOk, OnErr, MatchOption, None, IsTrue};
+ghost use Rattle.std.specs.Prelude.{◌≡◌, ◌↔◌, ◌++◌, ◌∷◌, [], IfOk, OnOk, OnErr, MatchOption, None, IsTrue, unwrap_or};
 ghost use Rattle.std.specs.Option.{option_copied};
 ghost use Rattle.rel_algebra.specs.Tables.{Stored as PlainNamed, Tables as PlainTables, table_named};
-ghost use Rattle.table_store.specs.Inserting.{answer_to, table_with, tables_with, inserted_in, IsFirstNamed};
+ghost use Rattle.table_store.specs.Inserting.{answer_to, table_with, stored_in, IsFirstNamed};
 ghost use Rattle.rel_algebra.specs.Tables.{inserted};
 
 use crate::keys::Row;
@@ -115,8 +115,8 @@ impl Tables {
         name: &Name,
         new: Vec<Row>,
     ) -> Result<Inserted, NoMemory>
-        ensures answer { IfOk result (λ i. i ≡ answer_to (inserted_in (table_named name.now self.old) new.items)) }
-        ensures rows { IfOk result (λ i. self.new ≡ tables_with (inserted_in (table_named name.now self.old) new.items) name.now self.old) }
+        ensures answer { IfOk result (λ i. i ≡ answer_to (stored_in name.now new.items self.old)) }
+        ensures rows { IfOk result (λ i. self.new ≡ unwrap_or (stored_in name.now new.items self.old) self.old) }
         ensures unchanged { OnErr result (self.new ≡ self.old) }
     {
         let Some(place) = place_of(&self.entries, name) else {

@@ -1,0 +1,22 @@
+-- How deep an evaluation can nest: what falls at each call of the interpreter.
+use Rattle.std.specs.Prelude.{ℕ, ◌+◌}
+use Rattle.rel_algebra.specs.Tree.{Expr, Literal, Column, Variable, Chain, Call, Links, NoLink, MoreLinks, Exprs, NoExpr, MoreExprs, Routine, Returns}
+
+abbrev mutual
+  pub cost : Expr → ℕ
+  cost (Literal v) = 1
+  cost (Column i) = 1
+  cost (Variable i) = 1
+  cost (Chain e links) = cost e + links_cost links + 1
+  cost (Call r args) = costs args + routine_cost r + 1
+
+  pub links_cost : Links → ℕ
+  links_cost NoLink = 1
+  links_cost (MoreLinks operator e links) = cost e + links_cost links + 1
+
+  pub costs : Exprs → ℕ
+  costs NoExpr = 1
+  costs (MoreExprs e es) = cost e + costs es + 1
+
+  pub routine_cost : Routine → ℕ
+  routine_cost (Returns e) = cost e + 1
