@@ -11,13 +11,13 @@ use Rattle.psm_session.specs.Database.{Plain}
 use Rattle.psm_session.specs.Effects.{effect}
 use Rattle.psm_session.specs.Statement.{Reads, IsDone, IsRefused, Statement}
 
-some_same : {A : Type 0} (a b : A) → Some a ≡ Some b → a ≡ b
+pub some_same : {A : Type 0} (a b : A) → Some a ≡ Some b → a ≡ b
 some_same a b e = cc
 
 none_some : {A : Type 0} (a : A) → None ≡ Some a → ⊥
 none_some a e = cc
 
-one_tree : (t : Lexing) (at : ℕ) (tree tree' : Stmt) (end end' : ℕ) → Reads t at tree end → Reads t at tree' end' → (tree ≡ tree') × (end ≡ end')
+pub one_tree : (t : Lexing) (at : ℕ) (tree tree' : Stmt) (end end' : ℕ) → Reads t at tree end → Reads t at tree' end' → (tree ≡ tree') × (end ≡ end')
 one_tree t at tree tree' end end' p q =
     let here : at ≤ length t.tokens = let a : at ≤ end = p.0 in let b : end ≤ length t.tokens = p.1 in omega arith in
     one_spelling rules all_decide most_open statement statement_decides statement_ends t.tokens at here tree end tree' end' p q

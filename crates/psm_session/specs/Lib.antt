@@ -1,3 +1,4 @@
+pub mod Codes
 pub mod Database
 pub mod Effects
 pub mod Stored

@@ -25,6 +25,10 @@ impl Model for Database {
 
     ghost Value = { Plain };
 
+    ghost use Rattle.psm_session.specs.Codes.{coded_database};
+
+    ghost coded = { coded_database };
+
     ghost use Rattle.catalog_store.specs.View.{plain};
 
     ghost view = { λ d. record { catalog = plain d.catalog.items; tables = d.tables } };

@@ -9,7 +9,7 @@ ghost use Rattle.sql_names.specs.Binds.{statement_of};
 ghost use Rattle.psm_session.specs.Effects.{effect, created, tables_with};
 ghost use Rattle.psm_session.specs.Stored.{database, IsEffect};
 
-use bound_trees::{BoundInsert, BoundQuery};
+use bound_trees::{BoundExpr, BoundInsert, BoundQuery};
 use catalog_store::{Entry, Object, grows_at_its_end};
 use psm_interp::{Stop, run_insert, run_query};
 use reply_text::{Reply, condition_reply, count_reply, done_reply, rows_reply};
@@ -70,12 +70,18 @@ fn create(alloc: Global, entry: Entry, catalog: &mut Vec<Entry>, tables: &mut Ta
 }
 
 // New rows of a table. The reply is made first.
-fn store(alloc: Global, insert: &BoundInsert, catalog: &[Entry], tables: &mut Tables) -> Result<Reply, NoMemory>
-    ensures ok { IfOk result (λ r. IsEffect (effect (Inserts insert.now.table (rows_of (routines (plain catalog.now)) insert.now.rows)) (database catalog.now tables.old)) r (database catalog.now tables.new)) }
+fn store(
+    alloc: Global,
+    table: &Name,
+    rows: &[Items<BoundExpr>],
+    catalog: &[Entry],
+    tables: &mut Tables,
+) -> Result<Reply, NoMemory>
+    ensures ok { IfOk result (λ r. IsEffect (effect (Inserts table.now (rows_of (routines (plain catalog.now)) rows.now)) (database catalog.now tables.old)) r (database catalog.now tables.new)) }
     ensures err { OnErr result (tables.new ≡ tables.old) }
 {
-    let reply = count_reply(alloc, insert.rows.len() as u64)?;
-    match run_insert(alloc, &insert.table, insert.rows.as_slice(), catalog, tables) {
+    let reply = count_reply(alloc, rows.len() as u64)?;
+    match run_insert(alloc, table, rows, catalog, tables) {
         Ok(_) => Ok(reply),
         Err(Stop::Raised(condition)) => condition_reply(alloc, condition),
         Err(Stop::NoMemory) => Err(NoMemory),
@@ -93,6 +99,19 @@ fn ask(alloc: Global, query: &BoundQuery, catalog: &[Entry], tables: &Tables) ->
     }
 }
 
+fn insert(alloc: Global, insert: &BoundInsert, catalog: &Vec<Entry>, tables: &mut Tables) -> Result<Reply, NoMemory>
+    ensures ok { IfOk result (λ r. IsEffect (effect (Inserts insert.now.table (rows_of (routines (plain catalog.now.items)) insert.now.rows)) (database catalog.now.items tables.old)) r (database catalog.now.items tables.new)) }
+    ensures err { OnErr result (tables.new ≡ tables.old) }
+{
+    store(alloc, &insert.table, insert.rows.as_slice(), catalog, tables)
+}
+
+fn answer(alloc: Global, query: &BoundQuery, catalog: &Vec<Entry>, tables: &Tables) -> Result<Reply, NoMemory>
+    ensures { IfOk result (λ r. IsEffect (effect (Asks (query_of (routines (plain catalog.now.items)) query.now)) (database catalog.now.items tables.now)) r (database catalog.now.items tables.now)) }
+{
+    ask(alloc, query, catalog, tables)
+}
+
 /// Does a bound statement, and answers its reply. Without memory nothing changes.
 pub(crate) fn run_bound(alloc: Global, stmt: BoundStmt, catalog: &mut Vec<Entry>, tables: &mut Tables) -> Result<Reply, NoMemory>
     ensures ok { IfOk result (λ r. IsEffect (effect (statement_of (routines (plain catalog.old.items)) stmt) (database catalog.old.items tables.old)) r (database catalog.new.items tables.new)) }
@@ -100,7 +119,7 @@ pub(crate) fn run_bound(alloc: Global, stmt: BoundStmt, catalog: &mut Vec<Entry>
 {
     match stmt {
         BoundStmt::Create(entry) => create(alloc, entry, catalog, tables),
-        BoundStmt::Insert(insert) => store(alloc, &insert, catalog, tables),
-        BoundStmt::Query(query) => ask(alloc, &query, catalog, tables),
+        BoundStmt::Insert(rows) => insert(alloc, &rows, catalog, tables),
+        BoundStmt::Query(query) => answer(alloc, &query, catalog, tables),
     }
 }
