@@ -5,3 +5,4 @@ pub mod Reads
 pub mod Exact
 pub mod Statement
 pub mod Example
+pub mod Stages
