@@ -6,3 +6,4 @@ pub mod Exact
 pub mod Statement
 pub mod Example
 pub mod Stages
+pub mod Printed
