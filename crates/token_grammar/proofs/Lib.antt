@@ -8,3 +8,4 @@ pub mod Further
 pub mod Places
 pub mod Turns
 pub mod Depth
+pub mod InTurn

@@ -5,3 +5,5 @@ pub mod Reads
 pub mod Exact
 pub mod Statement
 pub mod Example
+pub mod Stages
+pub mod Printed

@@ -1,12 +1,15 @@
 //! A small language, for which the laws are spoken out. `specs/Example.antt` has its grammar and worked rows.
 
-ghost use Rattle.std.specs.Prelude.{◌≡◌, ℕ, ◌≤◌, List, Option, length, drop};
+ghost use Rattle.std.specs.Prelude.{◌≡◌, ◌↔◌, ℕ, ◌≤◌, List, Option, length, drop};
 ghost use Rattle.sql_lex.specs.declared.token.Token.{Token};
 ghost use Rattle.token_grammar.specs.Example as language;
+ghost use Rattle.token_grammar.specs.Grammar.{Spells, Cut, inside, begun};
+ghost use Rattle.token_grammar.specs.Printed.{printed, declarations_of_parts};
 ghost use Rattle.token_grammar.specs.Reading.{reading};
+ghost use Rattle.token_grammar.specs.Stages.{in_turn};
 ghost use Rattle.token_grammar.specs.Statement.{Answers, at_places, most_open};
 
-use crate::language::{Ending, Part, reads_whole};
+use crate::language::{Ending, Part, Staged, reads_whole, stands_in_turn};
 
 /// The statements of the language.
 struct Statements;
@@ -36,4 +39,33 @@ pub fn reads_example()
     ensures { (tokens : List Token) (i : ℕ) → i ≤ length tokens → Answers language.rules most_open language.statement tokens i (at_places tokens (reading language.rules most_open language.statement (drop i tokens))) }
 {
     reads_whole::<Statements>()
+}
+
+/// The declarations of a block.
+struct Declarations;
+
+impl Staged for Declarations {
+    ghost Rule = { language.Rule };
+
+    ghost Tree = { language.Tree };
+
+    ghost rules = { language.rules };
+
+    ghost Item = { language.Declaration };
+
+    ghost part = { printed };
+
+    ghost item = { language.declaration };
+
+    ghost next = { language.next_stage };
+
+    ghost of_parts = { λ n. declarations_of_parts (inside language.rules n) (begun language.rules n) };
+}
+
+/// The declarations of a block are its variables, then its cursors, then its handlers.
+pub fn reads_declarations()
+    ensures whole { (n : ℕ) (items : List language.Declaration) (tokens rest : List Token) → (Spells (inside language.rules n) (language.rules language.Block) items tokens rest ↔ Spells (inside language.rules n) (in_turn printed) items tokens rest) }
+    ensures cut { (n : ℕ) (tokens end : List Token) → (Cut (inside language.rules n) (begun language.rules n) (language.rules language.Block) tokens end ↔ Cut (inside language.rules n) (begun language.rules n) (in_turn printed) tokens end) }
+{
+    stands_in_turn::<Declarations>()
 }

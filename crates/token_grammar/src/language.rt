@@ -1,8 +1,11 @@
 //! Languages: grammars that one token ahead decides, and what reading says of each.
 
-ghost use Rattle.std.specs.Prelude.{◌≡◌, ℕ, ◌≤◌, List, [], length, drop, true};
+ghost use Rattle.std.specs.Prelude.{◌≡◌, ◌↔◌, ℕ, ◌≤◌, List, [], length, drop, true};
 ghost use Rattle.sql_lex.specs.declared.token.Token.{Token};
-ghost use Rattle.token_grammar.specs.Grammar.{Grammar};
+ghost use Rattle.token_grammar.specs.declared.stage.Stage.{Stage};
+ghost use Rattle.token_grammar.specs.declared.stage.Stage.TheVariants as stages;
+ghost use Rattle.token_grammar.specs.Grammar.{Grammar, Spells, Cut, inside, begun, staged};
+ghost use Rattle.token_grammar.specs.Stages.{OfParts, in_turn};
 ghost use Rattle.token_grammar.specs.Reading.{decides, goes_on, reading};
 ghost use Rattle.token_grammar.specs.Statement.{Answers, IsOne, PartAnswers, at_places};
 
@@ -48,4 +51,37 @@ pub fn reads_part<P: Part>()
 pub fn reads_whole<E: Ending>()
     ensures answers { (n : ℕ) (tokens : List Token) (i : ℕ) → i ≤ length tokens → Answers E.rules n E.part tokens i (at_places tokens (reading E.rules n E.part (drop i tokens))) }
     ensures one { (n : ℕ) (tokens : List Token) (i : ℕ) → i ≤ length tokens → IsOne E.rules n E.part tokens i }
+{}
+
+/// A repetition by stages, and the parts whose repetitions stand in it one after another.
+pub trait Staged {
+    /// What names a rule whose text stands in a construct.
+    ghost Rule: { Type 0 };
+
+    /// The trees of each rule.
+    ghost Tree: { Rule → Type 0 };
+
+    /// What stands in each construct.
+    ghost rules: { (r : Rule) → Grammar Rule Tree (Tree r) };
+
+    /// The trees of an item.
+    ghost Item: { Type 0 };
+
+    /// The part of each stage, as it is printed.
+    ghost part: { Stage → Grammar Rule Tree Item };
+
+    /// How an item is read at each stage.
+    ghost item: { Stage → Grammar Rule Tree Item };
+
+    /// The stage behind an item.
+    ghost next: { Stage → Item → Stage };
+
+    /// At each stage an item is what that stage's part or a later one's spells.
+    ghost of_parts: { (n : ℕ) → OfParts (inside rules n) (begun rules n) part item next };
+}
+
+/// What a repetition by stages spells and how it is cut: as the repetitions of its parts one after another.
+pub fn stands_in_turn<S: Staged>()
+    ensures whole { (n : ℕ) (items : List S.Item) (tokens rest : List Token) → (Spells (inside S.rules n) (staged S.item S.next stages.First) items tokens rest ↔ Spells (inside S.rules n) (in_turn S.part) items tokens rest) }
+    ensures cut { (n : ℕ) (tokens end : List Token) → (Cut (inside S.rules n) (begun S.rules n) (staged S.item S.next stages.First) tokens end ↔ Cut (inside S.rules n) (begun S.rules n) (in_turn S.part) tokens end) }
 {}

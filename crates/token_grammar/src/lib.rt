@@ -7,8 +7,8 @@ mod input;
 mod language;
 mod stage;
 
-pub use example::reads_example;
+pub use example::{reads_declarations, reads_example};
 pub use fault::{ParseError, ParseFault};
 pub use input::{Input, name_in, number_in, text_in};
-pub use language::{Ending, Part, reads_part, reads_whole};
+pub use language::{Ending, Part, Staged, reads_part, reads_whole, stands_in_turn};
 pub use stage::Stage;
