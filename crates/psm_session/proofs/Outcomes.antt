@@ -1,5 +1,7 @@
 -- What running a statement that was read says of the statement at its token.
-use Rattle.std.proofs.Common.{◌≡◌, ℕ, List, Option, Some, None, length, refl, ap, sym, ◌∙◌, subst, inl, inr}
+use Rattle.std.proofs.Common.{◌≡◌, ℕ, List, Option, Some, None, Result, Ok, Err, length, refl, ap, sym, ◌∙◌, inl, inr}
+use Rattle.std.specs.Prelude.{IfOk}
+use Rattle.sql_values.specs.declared.memory.NoMemory.{NoMemory}
 use Rattle.sql_lex.specs.Tokens.{Lexing}
 use Rattle.sql_lex.specs.Openings.{place_at}
 use Rattle.syntax_trees.specs.declared.statement.Stmt.{Stmt}
@@ -38,3 +40,10 @@ not_valid t at tree to before after reply end reads x replies ends =
       ends = ends;
       leaves = n.1;
     })
+
+pub refused : (t : Lexing) (at : ℕ) (tree : Stmt) (to : ℕ) (before after : Plain) (r : Result (List ℕ × ℕ) NoMemory) → Reads t at tree to
+    → Executes (resolved_statement before.catalog tree) before after None
+    → IfOk r (λ p. p.0 ≡ refusal_text (place_at t at).0 (place_at t at).1) → IfOk r (λ p. p.1 ≡ length t.tokens)
+    → IfOk r (λ p. Statement t at before p.0 p.1 after)
+refused t at tree to before after (Ok p) reads x replies ends = not_valid t at tree to before after p.0 p.1 reads x replies ends
+refused t at tree to before after (Err e) reads x replies ends = tt
