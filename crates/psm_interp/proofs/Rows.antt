@@ -27,28 +27,23 @@ as_told : {A : Type 0} (w : World) (s : Stop) (e : Ends A) (r : Result A Stop) �
 as_told {A} w s e r h t = subst (λ (q : Result A Stop). Tells w q e) (sym h) t
 
 -- The WHERE.
-kept_at : (rs : List Routine) (o : Option BoundTest) (t : BoundTest) (row : Row) (w : World) → o ≡ Some t →
-    is_kept (filter_of rs o) row w ≡ after (ev (tree_of rs t.left) (row ∷ []) [] w) (λ x w. after (ev (tree_of rs t.right) (row ∷ []) [] w) (λ y. give (compared t.comparison x y)))
-kept_at rs o t row w h = ap (λ f. is_kept (filter_of rs f) row w) h
+pub left_stops : (rs : List Routine) (t : BoundTest) (row : Row) (w : World) (s : Stop) (r : Result Bool Stop) →
+    Tells w (Err s) (ev (tree_of rs t.left) (row ∷ []) [] w) → r ≡ Err s → Tells w r (is_kept (filter_of rs (Some t)) row w)
+left_stops rs t row w s r stops is =
+    as_told w s _ r is
+    (tells_stop w s (ev (tree_of rs t.left) (row ∷ []) [] w) (λ x w. after (ev (tree_of rs t.right) (row ∷ []) [] w) (λ y. give (compared t.comparison x y))) stops)
 
-pub left_stops : (rs : List Routine) (o : Option BoundTest) (t : BoundTest) (row : Row) (w : World) (s : Stop) (r : Result Bool Stop) → o ≡ Some t →
-    Tells w (Err s) (ev (tree_of rs t.left) (row ∷ []) [] w) → r ≡ Err s → Tells w r (is_kept (filter_of rs o) row w)
-left_stops rs o t row w s r h stops is =
-    as_told w s _ r is (tells_same w (Err s) _ _ (sym (kept_at rs o t row w h))
-    (tells_stop w s (ev (tree_of rs t.left) (row ∷ []) [] w) (λ x w. after (ev (tree_of rs t.right) (row ∷ []) [] w) (λ y. give (compared t.comparison x y))) stops))
-
-pub right_stops : (rs : List Routine) (o : Option BoundTest) (t : BoundTest) (row : Row) (w : World) (x : Value) (s : Stop) (r : Result Bool Stop) → o ≡ Some t →
-    ev (tree_of rs t.left) (row ∷ []) [] w ≡ Gives x w → Tells w (Err s) (ev (tree_of rs t.right) (row ∷ []) [] w) → r ≡ Err s → Tells w r (is_kept (filter_of rs o) row w)
-right_stops rs o t row w x s r h gives stops is =
-    as_told w s _ r is (tells_same w (Err s) _ _ (sym (kept_at rs o t row w h))
+pub right_stops : (rs : List Routine) (t : BoundTest) (row : Row) (w : World) (x : Value) (s : Stop) (r : Result Bool Stop) →
+    ev (tree_of rs t.left) (row ∷ []) [] w ≡ Gives x w → Tells w (Err s) (ev (tree_of rs t.right) (row ∷ []) [] w) → r ≡ Err s → Tells w r (is_kept (filter_of rs (Some t)) row w)
+right_stops rs t row w x s r gives stops is =
+    as_told w s _ r is
     (tells_after w x (ev (tree_of rs t.left) (row ∷ []) [] w) (λ x w. after (ev (tree_of rs t.right) (row ∷ []) [] w) (λ y. give (compared t.comparison x y))) (Err s) gives
-    (tells_stop w s (ev (tree_of rs t.right) (row ∷ []) [] w) (λ y. give (compared t.comparison x y)) stops)))
+    (tells_stop w s (ev (tree_of rs t.right) (row ∷ []) [] w) (λ y. give (compared t.comparison x y)) stops))
 
-pub both_give : (rs : List Routine) (o : Option BoundTest) (t : BoundTest) (row : Row) (w : World) (x y : Value) (b : Bool) → o ≡ Some t →
-    ev (tree_of rs t.left) (row ∷ []) [] w ≡ Gives x w → ev (tree_of rs t.right) (row ∷ []) [] w ≡ Gives y w → b ≡ compared t.comparison x y → is_kept (filter_of rs o) row w ≡ Gives b w
-both_give rs o t row w x y b h one two is =
-    kept_at rs o t row w h
-    ∙ ap (λ e. after e (λ x w. after (ev (tree_of rs t.right) (row ∷ []) [] w) (λ y. give (compared t.comparison x y)))) one
+pub both_give : (rs : List Routine) (t : BoundTest) (row : Row) (w : World) (x y : Value) (b : Bool) →
+    ev (tree_of rs t.left) (row ∷ []) [] w ≡ Gives x w → ev (tree_of rs t.right) (row ∷ []) [] w ≡ Gives y w → b ≡ compared t.comparison x y → is_kept (filter_of rs (Some t)) row w ≡ Gives b w
+both_give rs t row w x y b one two is =
+    ap (λ e. after e (λ x w. after (ev (tree_of rs t.right) (row ∷ []) [] w) (λ y. give (compared t.comparison x y)))) one
     ∙ ap (λ e. after e (λ y. give (compared t.comparison x y))) two ∙ ap (λ k. Gives k w) (sym is)
 
 -- The record of a row.

@@ -1,6 +1,6 @@
 //! Queries.
 
-ghost use Rattle.std.specs.Prelude.{◌≡◌, ◌++◌, [], OnOk, IfErr};
+ghost use Rattle.std.specs.Prelude.{◌≡◌, ◌++◌, [], OnOk, IfErr, Some};
 ghost use Rattle.rel_algebra.specs.World.{World, each_row, with_front};
 ghost use Rattle.rel_algebra.specs.Meaning.{answer, is_kept as kept};
 ghost use Rattle.catalog_store.specs.Catalog.{routines};
@@ -100,10 +100,15 @@ fn is_kept(
 {
     match filter {
         None => Ok(true),
-        Some(test) => {
-            let left = eval(alloc, &test.left, Some(row), &[], catalog)?;
-            let right = eval(alloc, &test.right, Some(row), &[], catalog)?;
-            Ok(test.comparison.holds(&left, &right))
-        }
+        Some(test) => holds(alloc, test, row, catalog),
     }
+}
+
+// Whether a test is true of a row; its left operand is evaluated first.
+fn holds(alloc: Global, test: &BoundTest, row: &Row, catalog: &[Entry]) -> Result<bool, Stop>
+    ensures { (w : World) → Tells w result (kept (filter_of (routines (plain catalog.now)) (Some test.now)) row.now w) }
+{
+    let left = eval(alloc, &test.left, Some(row), &[], catalog)?;
+    let right = eval(alloc, &test.right, Some(row), &[], catalog)?;
+    Ok(test.comparison.holds(&left, &right))
 }
