@@ -1,12 +1,12 @@
 -- What expressions, queries and INSERT do.
-use Rattle.std.specs.Prelude.{ℕ, Bool, true, false, List, [], ◌∷◌, Option, Some, None, slice_index_or, if◌then◌else◌, length}
+use Rattle.std.specs.Prelude.{ℕ, Bool, true, false, List, [], ◌∷◌, Option, Some, None, slice_index_or, length}
 use Rattle.sql_values.specs.declared.value.Value.{Value}
 use Rattle.sql_values.specs.declared.value.Value.TheVariants.{Null}
 use Rattle.sql_values.specs.Operators.{applied, compared}
 use Rattle.sql_conditions.specs.declared.Condition.TheVariants.{ConstraintViolated}
 use Rattle.rel_algebra.specs.Tree.{Expr, Literal, Column, Variable, Chain, Call, Links, NoLink, MoreLinks, Exprs, NoExpr, MoreExprs, Routine, Returns, Filter, NoFilter, Where, Query, Select, Rows, NoRow, MoreRows}
-use Rattle.rel_algebra.specs.Tables.{Row, Table, Tables, table_named, rows_named, with_rows, inserted}
-use Rattle.rel_algebra.specs.World.{World, Frame, Eval, Gives, ◌>>=◌, give, raise, unit, outcome, column_of, each_row}
+use Rattle.rel_algebra.specs.Tables.{Row, Table, table_named, rows_named, with_rows, inserted}
+use Rattle.rel_algebra.specs.World.{Frame, Eval, Gives, ◌>>=◌, give, raise, unit, outcome, column_of, each_row}
 
 abbrev mutual
   -- the value of an expression, by the rows of the queries around it and the frame; operands from left to right

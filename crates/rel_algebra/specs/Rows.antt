@@ -1,12 +1,12 @@
 -- Worked rows, which hold by computation.
-use Rattle.std.specs.Prelude.{ℕ, pos, ◌≡◌, List, [], ◌∷◌, Some, None, codes}
+use Rattle.std.specs.Prelude.{ℕ, pos, ◌≡◌, List, [], ◌∷◌, codes}
 use Rattle.sql_values.specs.declared.value.Value.{Value}
 use Rattle.sql_values.specs.declared.value.Value.TheVariants.{Null, Int}
 use Rattle.sql_values.specs.declared.operators.Operator.TheVariants.{Divide}
 use Rattle.sql_values.specs.declared.operators.Comparison.TheVariants.{NotEquals}
 use Rattle.sql_conditions.specs.declared.Condition.TheVariants.{DivisionByZero, ConstraintViolated}
-use Rattle.rel_algebra.specs.Tree.{Expr, Literal, Column, Variable, Chain, Call, NoLink, MoreLinks, Exprs, NoExpr, MoreExprs, Routine, Returns, Filter, NoFilter, Where, Query, Select, Rows, NoRow, MoreRows}
-use Rattle.rel_algebra.specs.Tables.{Row, Table, Tables}
+use Rattle.rel_algebra.specs.Tree.{Literal, Column, Variable, Chain, Call, NoLink, MoreLinks, NoExpr, MoreExprs, Routine, Returns, Filter, NoFilter, Where, Query, Select, Rows, NoRow, MoreRows}
+use Rattle.rel_algebra.specs.Tables.{Row}
 use Rattle.rel_algebra.specs.World.{World, Gives, Raises}
 use Rattle.rel_algebra.specs.Meaning.{answer, insert}
 

@@ -1,12 +1,12 @@
 -- Worlds, and how evaluations end.
-use Rattle.std.specs.Prelude.{ℕ, Bool, List, [], ◌∷◌, Option, Some, None, Result, Ok, Err, slice_index_or}
+use Rattle.std.specs.Prelude.{ℕ, List, [], ◌∷◌, Option, Some, None, Ok, Err, slice_index_or}
 use Rattle.sql_values.specs.declared.value.Value.{Value}
 use Rattle.sql_values.specs.declared.value.Value.TheVariants.{Null}
 use Rattle.sql_values.specs.declared.value.ValueFault.{ValueFault}
 use Rattle.sql_values.specs.declared.value.ValueFault.TheVariants.{OutOfRange, DivZero}
 use Rattle.sql_values.specs.Values.{Outcome}
 use Rattle.sql_conditions.specs.declared.Condition.{Condition}
-use Rattle.sql_conditions.specs.declared.Condition.TheVariants.{NumberOutOfRange, DivisionByZero, ConstraintViolated}
+use Rattle.sql_conditions.specs.declared.Condition.TheVariants.{NumberOutOfRange, DivisionByZero}
 use Rattle.rel_algebra.specs.Tables.{Row, Tables}
 
 -- the tables

@@ -5,9 +5,9 @@ mod arithmetic;
 mod memory;
 mod name;
 mod operators;
-mod text;
 #[cfg(test)]
 mod tests;
+mod text;
 mod value;
 
 pub use arithmetic::{add, cmp, div, mul, neg, sub};

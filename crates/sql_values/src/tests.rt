@@ -11,10 +11,19 @@ const GREATEST: i64 = i64::MAX;
 #[test]
 fn arithmetic_is_exact_or_a_fault(rt: HostRuntime) {
     let (one, two, seven) = (Value::Int(1), Value::Int(2), Value::Int(7));
-    assert_eq!(rt; add(&Value::Int(GREATEST), &one), Err(ValueFault::OutOfRange));
+    assert_eq!(rt;
+        add(&Value::Int(GREATEST), &one),
+        Err(ValueFault::OutOfRange)
+    );
     assert_eq!(rt; sub(&Value::Int(LEAST), &one), Err(ValueFault::OutOfRange));
-    assert_eq!(rt; mul(&Value::Int(4_611_686_018_427_387_904), &two), Err(ValueFault::OutOfRange));
-    assert_eq!(rt; div(&Value::Int(LEAST), &Value::Int(-1)), Err(ValueFault::OutOfRange));
+    assert_eq!(rt;
+        mul(&Value::Int(4_611_686_018_427_387_904), &two),
+        Err(ValueFault::OutOfRange)
+    );
+    assert_eq!(rt;
+        div(&Value::Int(LEAST), &Value::Int(-1)),
+        Err(ValueFault::OutOfRange)
+    );
     assert_eq!(rt; neg(&Value::Int(LEAST)), Err(ValueFault::OutOfRange));
     assert_eq!(rt; div(&Value::Int(-7), &two), Ok(Value::Int(-3)));
     assert_eq!(rt; div(&seven, &Value::Int(-2)), Ok(Value::Int(-3)));
