@@ -1,5 +1,5 @@
 -- An INSERT gives as many rows as it has.
-use Rattle.std.proofs.Common.{◌≡◌, ℕ, suc, List, [], ◌∷◌, length, refl, ap, sym, ◌∙◌, subst}
+use Rattle.std.proofs.Common.{◌≡◌, ℕ, suc, List, [], ◌∷◌, length, refl, ap, subst}
 use Rattle.bound_trees.specs.declared.expr.BoundExpr.{BoundExpr}
 use Rattle.rel_algebra.specs.Tree.{Rows, NoRow, MoreRows, Routine}
 use Rattle.rel_algebra.specs.Tables.{Row, table_named}

@@ -1,12 +1,12 @@
 -- A statement at a token has one outcome.
-use Rattle.std.proofs.Common.{◌≡◌, ◌≤◌, ℕ, List, Option, Some, None, length, refl, ap, sym, ◌∙◌, subst, inl, inr, ◌⊎◌, arith}
+use Rattle.std.proofs.Common.{◌≡◌, ◌≤◌, ℕ, List, Some, None, length, ap, sym, ◌∙◌, inl, inr, arith}
 use Rattle.sql_lex.specs.Tokens.{Lexing}
 use Rattle.syntax_trees.specs.declared.statement.Stmt.{Stmt}
 use Rattle.token_grammar.specs.Statement.{most_open}
 use Rattle.token_grammar.proofs.Places.{one_spelling}
 use Rattle.sql_grammar.specs.Sql.{rules, statement}
 use Rattle.sql_grammar.specs.Decides.{all_decide, statement_decides, statement_ends}
-use Rattle.sql_names.specs.Statements.{Statement as Valid, resolved_statement}
+use Rattle.sql_names.specs.Statements.{resolved_statement}
 use Rattle.psm_session.specs.Database.{Plain}
 use Rattle.psm_session.specs.Effects.{effect}
 use Rattle.psm_session.specs.Statement.{Reads, IsDone, IsRefused, Statement}

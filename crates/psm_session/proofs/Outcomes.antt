@@ -9,7 +9,7 @@ use Rattle.sql_names.specs.Statements.{Statement as Valid, resolved_statement}
 use Rattle.reply_text.specs.Texts.{refusal_text}
 use Rattle.psm_session.specs.Database.{Plain}
 use Rattle.psm_session.specs.Effects.{effect, Executes}
-use Rattle.psm_session.specs.Statement.{Reads, IsDone, IsRefused, Statement}
+use Rattle.psm_session.specs.Statement.{Reads, Statement}
 use Rattle.psm_session.proofs.One.{one_tree, some_same}
 
 some_none : {A : Type 0} (a : A) → Some a ≡ None → ⊥

@@ -1,5 +1,5 @@
 -- Databases as trees of numbers, by which a proof tells two of them apart.
-use Rattle.std.specs.Prelude.{ℕ, zero, ◌≡◌, ◌⊎◌, List, nat_eq, false}
+use Rattle.std.specs.Prelude.{ℕ, ◌≡◌, ◌⊎◌, List, nat_eq, false}
 use Rattle.std.proofs.Common.{ap, refl, arith, inl, inr}
 use Rattle.std.proofs.lemmas.Bool.Decides.{nat_tests}
 use Rattle.std.specs.Coded.{Coded, code_by, coded_ℕ, coded_ℤ, coded_list, coded×, coded⊎}
@@ -9,7 +9,7 @@ use Rattle.sql_values.specs.declared.value.Value.TheVariants.{Null, Int}
 use Rattle.sql_values.specs.declared.operators.Operator.{Operator}
 use Rattle.sql_values.specs.declared.operators.Operator.TheVariants.{Add, Subtract, Multiply, Divide}
 use Rattle.rel_algebra.specs.Tables.{Row, Stored, Table}
-use Rattle.catalog_store.specs.Catalog.{Entry, Function, Object, FunctionObject, TableObject}
+use Rattle.catalog_store.specs.Catalog.{Entry, Object, FunctionObject, TableObject}
 use Rattle.psm_session.specs.Database.{Plain}
 use Rattle.rel_algebra.specs.Tree.{Expr, Literal, Column, Variable, Chain, Call, Links, NoLink, MoreLinks, Exprs, NoExpr, MoreExprs, Routine, Returns}
 

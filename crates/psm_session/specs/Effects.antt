@@ -1,8 +1,6 @@
 -- What a valid statement replies, and the database that it leaves.
-use Rattle.std.specs.Prelude.{ℕ, ◌≡◌, List, [], ◌∷◌, ◌++◌, length, Option, Some, None}
-use Rattle.sql_conditions.specs.declared.Condition.{Condition}
-use Rattle.rel_algebra.specs.Tree.{Query, Rows}
-use Rattle.rel_algebra.specs.Tables.{Row, Tables}
+use Rattle.std.specs.Prelude.{ℕ, ◌≡◌, List, [], ◌∷◌, ◌++◌, Option, Some, None}
+use Rattle.rel_algebra.specs.Tables.{Tables}
 use Rattle.rel_algebra.specs.World.{World, Ends, Gives, Raises}
 use Rattle.rel_algebra.specs.Meaning.{answer, insert}
 use Rattle.catalog_store.specs.Catalog.{Entry, Object, TableObject, FunctionObject}

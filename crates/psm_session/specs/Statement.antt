@@ -1,5 +1,5 @@
 -- One statement of a script: its reply, where the next one begins, and the database that it leaves.
-use Rattle.std.specs.Prelude.{ℕ, ◌≡◌, ◌⊎◌, List, length, Option, Some, None}
+use Rattle.std.specs.Prelude.{ℕ, ◌≡◌, ◌⊎◌, List, length, Some, None}
 use Rattle.sql_lex.specs.Tokens.{Lexing}
 use Rattle.sql_lex.specs.Openings.{place_at}
 use Rattle.syntax_trees.specs.declared.statement.Stmt.{Stmt}

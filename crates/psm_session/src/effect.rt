@@ -57,7 +57,12 @@ fn add_entry(catalog: &mut Vec<Entry>, entry: Entry)
 }
 
 // A new entry, with its table. Room is made first.
-fn create(alloc: Global, entry: Entry, catalog: &mut Vec<Entry>, tables: &mut Tables) -> Result<Reply, NoMemory>
+fn create(
+    alloc: Global,
+    entry: Entry,
+    catalog: &mut Vec<Entry>,
+    tables: &mut Tables,
+) -> Result<Reply, NoMemory>
     ensures ok { IfOk result (λ r. IsEffect (created (entry_of (routines (plain catalog.old.items)) entry) (database catalog.old.items tables.old)) r (database catalog.new.items tables.new)) }
     ensures err { OnErr result ((catalog.new.items ≡ catalog.old.items) × (tables.new ≡ tables.old)) }
 {
@@ -89,7 +94,12 @@ fn store(
 }
 
 // The answer of a query.
-fn ask(alloc: Global, query: &BoundQuery, catalog: &[Entry], tables: &Tables) -> Result<Reply, NoMemory>
+fn ask(
+    alloc: Global,
+    query: &BoundQuery,
+    catalog: &[Entry],
+    tables: &Tables,
+) -> Result<Reply, NoMemory>
     ensures { IfOk result (λ r. IsEffect (effect (Asks (query_of (routines (plain catalog.now)) query.now)) (database catalog.now tables.now)) r (database catalog.now tables.now)) }
 {
     match run_query(alloc, query, catalog, tables) {
@@ -99,21 +109,42 @@ fn ask(alloc: Global, query: &BoundQuery, catalog: &[Entry], tables: &Tables) ->
     }
 }
 
-fn insert(alloc: Global, insert: &BoundInsert, catalog: &Vec<Entry>, tables: &mut Tables) -> Result<Reply, NoMemory>
+fn insert(
+    alloc: Global,
+    insert: &BoundInsert,
+    catalog: &Vec<Entry>,
+    tables: &mut Tables,
+) -> Result<Reply, NoMemory>
     ensures ok { IfOk result (λ r. IsEffect (effect (Inserts insert.now.table (rows_of (routines (plain catalog.now.items)) insert.now.rows)) (database catalog.now.items tables.old)) r (database catalog.now.items tables.new)) }
     ensures err { OnErr result (tables.new ≡ tables.old) }
 {
-    store(alloc, &insert.table, insert.rows.as_slice(), catalog, tables)
+    store(
+        alloc,
+        &insert.table,
+        insert.rows.as_slice(),
+        catalog,
+        tables,
+    )
 }
 
-fn answer(alloc: Global, query: &BoundQuery, catalog: &Vec<Entry>, tables: &Tables) -> Result<Reply, NoMemory>
+fn answer(
+    alloc: Global,
+    query: &BoundQuery,
+    catalog: &Vec<Entry>,
+    tables: &Tables,
+) -> Result<Reply, NoMemory>
     ensures { IfOk result (λ r. IsEffect (effect (Asks (query_of (routines (plain catalog.now.items)) query.now)) (database catalog.now.items tables.now)) r (database catalog.now.items tables.now)) }
 {
     ask(alloc, query, catalog, tables)
 }
 
 /// Does a bound statement, and answers its reply. Without memory nothing changes.
-pub(crate) fn run_bound(alloc: Global, stmt: BoundStmt, catalog: &mut Vec<Entry>, tables: &mut Tables) -> Result<Reply, NoMemory>
+pub(crate) fn run_bound(
+    alloc: Global,
+    stmt: BoundStmt,
+    catalog: &mut Vec<Entry>,
+    tables: &mut Tables,
+) -> Result<Reply, NoMemory>
     ensures ok { IfOk result (λ r. IsEffect (effect (statement_of (routines (plain catalog.old.items)) stmt) (database catalog.old.items tables.old)) r (database catalog.new.items tables.new)) }
     ensures err { OnErr result ((catalog.new.items ≡ catalog.old.items) × (tables.new ≡ tables.old)) }
 {

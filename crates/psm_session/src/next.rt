@@ -51,7 +51,12 @@ fn run_read(
 /// Does the statement at a token: its reply, and the token at which the next one begins, which is the number of tokens where the script
 /// ends. Where no valid statement stands, the reply says so with the token's place, nothing changes, and the script ends. Without memory
 /// nothing changes.
-pub fn run_next(alloc: Global, tokens: &Tokens, at: usize, db: &mut Database) -> Result<(Reply, usize), NoMemory>
+pub fn run_next(
+    alloc: Global,
+    tokens: &Tokens,
+    at: usize,
+    db: &mut Database,
+) -> Result<(Reply, usize), NoMemory>
     requires { at < length tokens.now.tokens }
     ensures ok { IfOk result (λ r. Statement tokens.now at db.old r.0 r.1 db.new) }
     ensures goes { IfOk result (λ r. (at < r.1) × (r.1 ≤ length tokens.now.tokens)) }

@@ -1,6 +1,6 @@
 -- The grammar of statements: ISO/IEC 9075-2, 6.26 (expressions), 7.16 (queries), 11.3 (CREATE TABLE) and 14.11 (INSERT), and
 -- ISO/IEC 9075-4, 9.20 (CREATE FUNCTION).
-use Rattle.std.specs.Prelude.{ℕ, List, [], ◌∷◌, Option, Some, None}
+use Rattle.std.specs.Prelude.{List, [], ◌∷◌, Option, Some, None}
 use Rattle.sql_lex.specs.declared.token.Kind.TheVariants as kind
 use Rattle.sql_lex.specs.declared.token.Token.{Token}
 use Rattle.sql_lex.specs.declared.word.Word.TheVariants as w

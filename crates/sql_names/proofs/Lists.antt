@@ -1,11 +1,11 @@
 -- Lists that a loop resolves from the front on.
-use Rattle.std.proofs.Common.{ℕ, ◌≡◌, ◌+◌, ◌<◌, ◌≤◌, Bool, true, false, List, [], ◌∷◌, ◌++◌, map, length, drop, max, refl, ap, ◌∙◌, sym, Option, Some, None, arith, append_assoc}
+use Rattle.std.proofs.Common.{ℕ, ◌≡◌, true, List, [], ◌∷◌, ◌++◌, map, length, max, refl, ap, ◌∙◌, sym, Option, Some, None, arith, append_assoc}
 use Rattle.sql_values.specs.declared.operators.Operator.{Operator}
 use Rattle.std.specs.Prelude.{◌==◌, if◌then◌else◌}
 use Rattle.bound_trees.specs.declared.expr.BoundExpr.{BoundExpr}
-use Rattle.rel_algebra.specs.Tree.{Expr, Exprs, Routine, Rows, MoreRows}
+use Rattle.rel_algebra.specs.Tree.{Expr, Exprs, Routine, MoreRows}
 use Rattle.catalog_store.specs.View.{Link, exprs, exprs_of, rows_of}
-use Rattle.sql_names.specs.Names.{Resolved, ResolvedAll, ResolvedLinks, OpenLink, one_more, all_of, link_more, links_of_all}
+use Rattle.sql_names.specs.Names.{Resolved, ResolvedAll, ResolvedLinks, one_more, link_more}
 use Rattle.sql_names.specs.Statements.{row_more, rows_from}
 
 -- what is found, with what stands in front of it

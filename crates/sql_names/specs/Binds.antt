@@ -1,11 +1,8 @@
 -- What a binder answers: the resolved tree at its view exactly where there is one, unless memory runs out.
-use Rattle.std.specs.Prelude.{◌≡◌, ℕ, List, map, Option, Some, None, Result, Ok, Err}
-use Rattle.std.specs.Borrow.{Bor}
-use Rattle.syntax_trees.specs.declared.statement.Parameter.{Parameter}
+use Rattle.std.specs.Prelude.{◌≡◌, List, map, Option, Some, None, Result, Ok, Err}
 use Rattle.catalog_store.specs.Catalog.{routines}
 use Rattle.rel_algebra.specs.Tree.{Routine}
 use Rattle.catalog_store.specs.View.{tree_of, link_of, query_of, rows_of, entry_of, plain}
-use Rattle.catalog_store.specs.declared.entry.Entry.{Entry}
 use Rattle.sql_names.specs.declared.fault.NameFault.{NameFault}
 use Rattle.sql_names.specs.declared.fault.NameFault.TheVariants as fault
 use Rattle.sql_names.specs.declared.sight.Sight.{Sight}

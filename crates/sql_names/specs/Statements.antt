@@ -1,6 +1,6 @@
 -- Statements with their names resolved: the plain statement that each stands for, where it is valid. ISO/IEC 9075-2, 7.16, 11.3 and
 -- 14.11; ISO/IEC 9075-4, 9.20.
-use Rattle.std.specs.Prelude.{ℕ, ◌+◌, ◌==◌, ◌||◌, nat_le, Bool, true, false, List, [], ◌∷◌, map, length, Option, Some, None, is_some, if◌then◌else◌}
+use Rattle.std.specs.Prelude.{ℕ, ◌+◌, ◌==◌, ◌||◌, nat_le, Bool, false, List, [], ◌∷◌, map, length, Option, Some, None, is_some, if◌then◌else◌}
 use Rattle.std.specs.List.{list_any}
 use Rattle.std.specs.Str.{bytes_eq}
 use Rattle.syntax_trees.specs.declared.anchor.Anchor.{Anchor}
@@ -15,7 +15,7 @@ use Rattle.syntax_trees.specs.declared.statement.Stmt.{Stmt}
 use Rattle.syntax_trees.specs.declared.statement.Stmt.TheVariants as stmt
 use Rattle.sql_values.specs.declared.operators.Comparison.{Comparison}
 use Rattle.rel_algebra.specs.Tree.{Exprs, Filter, NoFilter, Where, Query, Select, Rows, NoRow, MoreRows, Returns}
-use Rattle.catalog_store.specs.Catalog.{Function, Object, TableObject, FunctionObject, Entry, Catalog, object_named}
+use Rattle.catalog_store.specs.Catalog.{Object, TableObject, FunctionObject, Entry, Catalog, object_named}
 use Rattle.catalog_store.specs.View.{exprs}
 use Rattle.sql_names.specs.Sight.{Seen, parameter_names}
 use Rattle.sql_names.specs.Names.{Resolved, ResolvedAll, resolved, resolved_all}

@@ -1,5 +1,5 @@
 -- A statement that is read stands before the token behind it.
-use Rattle.std.proofs.Common.{ℕ, ◌≡◌, ◌<◌, ◌≤◌, ◌+◌, ◌-◌, false, List, length, drop, refl, ap, arith, Result, Ok, Err, length-drop}
+use Rattle.std.proofs.Common.{ℕ, ◌≡◌, ◌<◌, ◌≤◌, false, List, length, drop, refl, ap, arith, Result, Ok, Err, length-drop}
 use Rattle.std.specs.Prelude.{IfOk}
 use Rattle.sql_lex.specs.declared.token.Token.{Token}
 use Rattle.syntax_trees.specs.declared.statement.Stmt.{Stmt}
@@ -8,7 +8,6 @@ use Rattle.token_grammar.specs.Grammar.{inside}
 use Rattle.token_grammar.specs.Reading.{nullable}
 use Rattle.token_grammar.specs.Statement.{SpellsWithin, Answers, most_open}
 use Rattle.token_grammar.proofs.Shapes.{least, spells_shorter, inside_shorter}
-use Rattle.sql_grammar.specs.Sql as g
 use Rattle.sql_grammar.specs.Sql.{rules, statement, unended, insert, query, select_word}
 
 ends : nullable statement ≡ false

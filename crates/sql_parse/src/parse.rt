@@ -17,7 +17,11 @@ const MOST_OPEN: u32 = 24;
 /// The statement that stands from a token on, up to and with its `;`, and the token behind it. NoStatement and TooDeep: none stands there;
 /// the place is the greatest up to which the tokens begin a statement, and TooDeep says that the token there goes on with it where one
 /// construct more may be open.
-pub fn parse_statement(alloc: Global, tokens: &Tokens, at: usize) -> Result<(Stmt, usize), ParseFault>
+pub fn parse_statement(
+    alloc: Global,
+    tokens: &Tokens,
+    at: usize,
+) -> Result<(Stmt, usize), ParseFault>
     requires { at ≤ length tokens.now.tokens }
     ensures answers { Answers rules most_open g.statement tokens.now.tokens at result }
     ensures goes { IfOk result (λ r. (at < r.1) × (r.1 ≤ length tokens.now.tokens)) }

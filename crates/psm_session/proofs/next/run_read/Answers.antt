@@ -9,4 +9,4 @@ returns-in-Ok-Some-clause-ok c =
 pub returns-in-Ok-None-clause-ok : goal.returns-in-Ok-None-clause-ok
 returns-in-Ok-None-clause-ok c =
     refused c.args.tokens.now c.args.at c.args.stmt.now c.args.next c.args.db.now c.exec_statement.new.self c.refused.result c.requires.reads (rw c.in-Ok-None.field-0-is at c.in-Ok-None.ensures.ok)
-        c.refused.ensures.reply c.refused.ensures.end
+    c.refused.ensures.reply c.refused.ensures.end

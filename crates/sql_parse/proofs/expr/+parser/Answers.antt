@@ -3,7 +3,7 @@ use Rattle.sql_lex.specs.declared.token.Kind.TheVariants as kind
 use Rattle.sql_lex.specs.declared.sign.Sign.TheVariants as s
 use Rattle.sql_grammar.specs.Sql as g
 use Rattle.sql_grammar.specs.Sql.{more_exprs, factors, factor, factor_operator, addends, addend, addend_operator}
-use Rattle.token_grammar.proofs.Turns.{each_step, each_smaller, each_err, after_step, after_smaller, after_err}
+use Rattle.token_grammar.proofs.Turns.{each_step, each_smaller, after_step, after_smaller, after_err}
 use Rattle.sql_parse.proofs.expr.+parser.Goals as goal
 
 pub more_exprs-more-preserved : goal.more_exprs-more-preserved

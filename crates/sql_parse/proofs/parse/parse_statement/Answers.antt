@@ -11,9 +11,9 @@ answer : (c : goal.After-answered) → Answers g.rules most_open g.statement c.a
 answer c =
     subst (λ z. Answers g.rules most_open g.statement c.args.tokens.now.tokens c.args.at z) (sym c.answered.ensures)
     (parsed g.rules all_decide most_open g.statement statement_decides statement_ends c.args.tokens.now.tokens c.args.at c.requires
-        c.from_place-input.result.rest.now (c.from_place-input.ensures ∙ ap (drop c.args.at) c.as_slice-all.ensures)
-        c.statement-read.result c.statement-read.new.input.rest.now c.statement-read.ensures
-        c.place_in-place.result (c.place_in-place.ensures ∙ ap (λ z. place z c.statement-read.new.input.rest.now) c.as_slice-all.ensures))
+    c.from_place-input.result.rest.now (c.from_place-input.ensures ∙ ap (drop c.args.at) c.as_slice-all.ensures)
+    c.statement-read.result c.statement-read.new.input.rest.now c.statement-read.ensures
+    c.place_in-place.result (c.place_in-place.ensures ∙ ap (λ z. place z c.statement-read.new.input.rest.now) c.as_slice-all.ensures))
 
 pub returns-clause-answers : goal.returns-clause-answers
 returns-clause-answers c = answer c
