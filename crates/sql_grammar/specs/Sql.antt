@@ -131,14 +131,14 @@ comparison =
     or (λ t. (cmp.GreaterThan, anchor_of t)) => sign s.GreaterThan
     or (λ t. (cmp.GreaterThanOrEquals, anchor_of t)) => sign s.GreaterThanOrEquals
 
-abbrev pub test_of : Expr × ((Comparison × Anchor) × Expr) → Test
-test_of p = record { left = p.0; comparison = p.1.0.0; anchor = p.1.0.1; right = p.1.1 }
+abbrev pub predicate_of : Expr × ((Comparison × Anchor) × Expr) → Test
+predicate_of p = record { left = p.0; comparison = p.1.0.0; anchor = p.1.0.1; right = p.1.1 }
 
-unfoldable pub test : G Test
-test = test_of => expr ~ comparison ~ expr
+unfoldable pub predicate : G Test
+predicate = predicate_of => expr ~ comparison ~ expr
 
 unfoldable pub filter : G (Option Test)
-filter = optional (word w.Where ~> test)
+filter = optional (word w.Where ~> predicate)
 
 unfoldable pub from_table : G Ident
 from_table = word w.From ~> ident

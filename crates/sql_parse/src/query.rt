@@ -40,9 +40,9 @@ fn comparison(input: &mut Input<'_>, room: u32) -> Result<(Comparison, Anchor), 
     Ok((Comparison::GreaterThanOrEquals, anchor))
 }
 
-#[tactic(auto, unfolding(sql_grammar::specs::Sql::test))]
-fn test(alloc: Global, input: &mut Input<'_>, room: u32) -> Result<Test, ParseError>
-    ensures { Reads (reading rules room g.test input.old.rest.now) result input.new.rest.now }
+#[tactic(auto, unfolding(sql_grammar::specs::Sql::predicate))]
+fn predicate(alloc: Global, input: &mut Input<'_>, room: u32) -> Result<Test, ParseError>
+    ensures { Reads (reading rules room g.predicate input.old.rest.now) result input.new.rest.now }
 {
     let left = expr(alloc, input, room)?;
     let compared = comparison(input, room)?;
@@ -60,7 +60,7 @@ fn filter(alloc: Global, input: &mut Input<'_>, room: u32) -> Result<Option<Test
     ensures { Reads (reading rules room g.filter input.old.rest.now) result input.new.rest.now }
 {
     if input.eat(Kind::Word(Word::Where)) {
-        Ok(Some(test(alloc, input, room)?))
+        Ok(Some(predicate(alloc, input, room)?))
     } else {
         Ok(None)
     }
