@@ -13,6 +13,8 @@ pub enum BoundExpr {
     Column(usize),
     /// A parameter, by its place among the function's parameters.
     Variable(usize),
+    /// The number with the other sign (6.26).
+    Negate(Boxed<BoundExpr>),
     /// A chain of operators, read from the left: the first operand, and then each operator with its right operand.
     Chain(Boxed<BoundExpr>, Items<BoundLink>),
     /// A call of a function, by its place in the catalog, with its arguments (ISO/IEC 9075-2, 10.4).

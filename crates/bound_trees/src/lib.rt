@@ -5,4 +5,4 @@ mod expr;
 mod statement;
 
 pub use expr::{BoundExpr, BoundLink};
-pub use statement::{BoundInsert, BoundQuery, BoundTest};
+pub use statement::{BoundInsert, BoundQuery, BoundSelect, BoundTest};

@@ -12,9 +12,17 @@ pub struct BoundTest {
     pub right: BoundExpr,
 }
 
-/// A query over one table (ISO/IEC 9075-2, 7.12): the select list, the table's name, and the WHERE, if there is one.
+/// A query (ISO/IEC 9075-2, 7.17).
 #[derive(Drop)]
-pub struct BoundQuery {
+pub enum BoundQuery {
+    Select(BoundSelect),
+    /// The rows of VALUES, in which no column is in sight.
+    Values(Items<Items<BoundExpr>>),
+}
+
+/// A query over one table (ISO/IEC 9075-2, 7.16): the select list, the table's name, and the WHERE, if there is one.
+#[derive(Drop)]
+pub struct BoundSelect {
     pub items: Items<BoundExpr>,
     pub table: Name,
     pub filter: Option<BoundTest>,

@@ -2,6 +2,7 @@
 use Rattle.std.specs.Prelude.{ℕ, List, [], ◌∷◌, if◌then◌else◌, Option, Some, None}
 use Rattle.std.specs.Str.{bytes_eq}
 use Rattle.sql_values.specs.declared.value.Value.TheVariants.{Null}
+use Rattle.row_types.specs.declared.ColumnType.{ColumnType}
 use Rattle.rel_algebra.specs.Tree.{Literal, Routine, Returns}
 
 -- a function: how many parameters it has, its height, and its tree
@@ -10,9 +11,9 @@ pub record Function : Type 0 where
   pub height : ℕ
   pub routine : Routine
 
--- a table with its columns' names and the place of its key, or a function
+-- a table with its columns and the place of its key, or a function
 pub data Object : Type 0 where
-  TableObject : List (List ℕ) → ℕ → Object
+  TableObject : List ColumnType → ℕ → Object
   FunctionObject : Function → Object
 
 pub record Entry : Type 0 where

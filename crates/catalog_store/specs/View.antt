@@ -6,10 +6,11 @@ use Rattle.bound_trees.specs.declared.expr.BoundExpr.TheOpen.{BoundExpr-F, Bound
 use Rattle.bound_trees.specs.declared.expr.BoundLink.{BoundLink, fold-BoundLink}
 use Rattle.bound_trees.specs.declared.statement.BoundTest.{BoundTest}
 use Rattle.bound_trees.specs.declared.statement.BoundQuery.{BoundQuery}
+use Rattle.bound_trees.specs.declared.statement.BoundQuery.TheVariants as query
 use Rattle.catalog_store.specs.declared.entry.Entry.{Entry as CodeEntry}
 use Rattle.catalog_store.specs.declared.entry.Object.{Object as CodeObject}
 use Rattle.catalog_store.specs.declared.entry.Object.TheVariants.{Table, Function as FunctionOf}
-use Rattle.rel_algebra.specs.Tree.{Expr, Literal, Column, Variable, Chain, Call, Links, NoLink, MoreLinks, Exprs, NoExpr, MoreExprs, Routine, Returns, Filter, NoFilter, Where, Query, Select, Rows, NoRow, MoreRows}
+use Rattle.rel_algebra.specs.Tree.{Expr, Literal, Column, Variable, Negate, Chain, Call, Links, NoLink, MoreLinks, Exprs, NoExpr, MoreExprs, Routine, Returns, Filter, NoFilter, Where, Query, Select, Values, Rows, NoRow, MoreRows}
 use Rattle.catalog_store.specs.Catalog.{Object, TableObject, FunctionObject, Entry, Catalog, missing, routine_in, routines, object_named}
 
 -- an operator with the plain tree right of it
@@ -30,6 +31,7 @@ abbrev pub expr_step : List Routine → BoundExpr-F Expr Link → Expr
 expr_step known (BoundExpr-F.Literal v) = Literal v
 expr_step known (BoundExpr-F.Column i) = Column i
 expr_step known (BoundExpr-F.Variable i) = Variable i
+expr_step known (BoundExpr-F.Negate e) = Negate e
 expr_step known (BoundExpr-F.Chain first rest) = Chain first (links rest)
 expr_step known (BoundExpr-F.Call i args) = Call (slice_index_or known i missing) (exprs args)
 
@@ -52,13 +54,14 @@ abbrev pub filter_of : List Routine → Option BoundTest → Filter
 filter_of known None = NoFilter
 filter_of known (Some t) = Where (tree_of known t.left) t.comparison (tree_of known t.right)
 
-abbrev pub query_of : List Routine → BoundQuery → Query
-query_of known q = Select (exprs_of known q.items) q.table (filter_of known q.filter)
-
--- the rows of an INSERT
+-- the rows of VALUES
 abbrev pub rows_of : List Routine → List (List BoundExpr) → Rows
 rows_of known [] = NoRow
 rows_of known (row ∷ rows) = MoreRows (exprs_of known row) (rows_of known rows)
+
+abbrev pub query_of : List Routine → BoundQuery → Query
+query_of known (query.Select s) = Select (exprs_of known s.items) s.table (filter_of known s.filter)
+query_of known (query.Values rows) = Values (rows_of known rows)
 
 -- an object, seen by the routines before it
 abbrev pub object_of : List Routine → CodeObject → Object

@@ -1,13 +1,14 @@
 //! What the catalog knows of each name.
 
 use bound_trees::BoundExpr;
+use row_types::ColumnType;
 use sql_values::Name;
 use sqlite_items::Items;
 
-/// A table: its columns' names in order, and the place of the key column among them.
+/// A table: its columns in order, and the place of the key column among them.
 #[derive(Drop)]
 pub struct TableEntry {
-    pub columns: Items<Name>,
+    pub columns: Items<ColumnType>,
     pub key: usize,
 }
 

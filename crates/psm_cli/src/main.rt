@@ -8,6 +8,8 @@
 //! one by one. What a statement means is psm_session's.
 #![tactic(auto)]
 
+#[cfg(test)]
+mod fault_tests;
 mod program;
 mod read;
 mod run;

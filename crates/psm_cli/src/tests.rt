@@ -7,7 +7,7 @@ use psm_session::Database;
 use std::alloc::{AllocError, Global};
 use std::test::Fail;
 
-const INVERSES: &[u8] = b"CREATE TABLE t (k INTEGER PRIMARY KEY, a INTEGER);
+pub(crate) const INVERSES: &[u8] = b"CREATE TABLE t (k INTEGER PRIMARY KEY, a INTEGER);
 INSERT INTO t VALUES (2,10),(1,NULL),(3,0);
 CREATE FUNCTION inv (x INTEGER) RETURNS INTEGER RETURN 100 / x;
 SELECT k, inv(a) FROM t; SELECT k, inv(a) FROM t WHERE a <> 0;";
@@ -19,26 +19,37 @@ const LIMIT: usize = 16_777_216;
 
 // What a call wrote.
 #[derive(Drop)]
-struct Outcome {
-    status: Status,
-    out: MemSink,
-    err: MemSink,
+pub(crate) struct Outcome {
+    pub(crate) status: Status,
+    pub(crate) out: MemSink,
+    pub(crate) err: MemSink,
 }
 
-// Runs a script from an empty database into a sink.
-fn ran(alloc: Global, words: &[&str], mut src: MemSource, mut out: MemSink) -> Outcome {
+// Runs a script over a database into a sink.
+fn ran_over(
+    alloc: Global,
+    words: &[&str],
+    mut src: MemSource,
+    mut out: MemSink,
+    db: &mut Database,
+) -> Outcome {
     let mut err = MemSink::new(alloc, Vec::new(alloc), 100);
-    let mut db = Database::new(alloc);
-    let status = run_program(alloc, words, &mut src, &mut out, &mut err, &mut db);
+    let status = run_program(alloc, words, &mut src, &mut out, &mut err, db);
     Outcome { status, out, err }
 }
 
+// Runs a script from an empty database into a sink.
+pub(crate) fn ran(alloc: Global, words: &[&str], src: MemSource, out: MemSink) -> Outcome {
+    let mut db = Database::new(alloc);
+    ran_over(alloc, words, src, out, &mut db)
+}
+
 // A source that gives at most seven bytes a call.
-fn source(alloc: Global, script: &[u8]) -> Result<MemSource, AllocError> {
+pub(crate) fn source(alloc: Global, script: &[u8]) -> Result<MemSource, AllocError> {
     Ok(MemSource::new(script.to_vec(alloc)?, Vec::new(alloc), 7))
 }
 
-fn sink(alloc: Global, per_call: usize) -> MemSink
+pub(crate) fn sink(alloc: Global, per_call: usize) -> MemSink
     requires { 0 < per_call }
 {
     MemSink::new(alloc, Vec::new(alloc), per_call)
@@ -48,9 +59,19 @@ fn sink(alloc: Global, per_call: usize) -> MemSink
 #[test]
 fn scripts(rt: HostRuntime) -> Result<(), Fail> {
     let alloc = rt.alloc();
-    let rows: [(&[u8], Status, &[u8]); 2] = [
+    let rows: [(&[u8], Status, &[u8]); 4] = [
         (b"", Status::Done, b""),
         (INVERSES, Status::DoneWithExceptions, INVERSES_REPLIES),
+        (
+            b"VALUES (-(1 + +2) * -3, NULL), (4, -0);",
+            Status::Done,
+            b"9,NULL\n4,0\n00000 rows 2\n",
+        ),
+        (
+            b"VALUES ((-9223372036854775807 - 1) / -1);",
+            Status::DoneWithExceptions,
+            b"! 22003 number out of range\n",
+        ),
     ];
     for (script, status, replies) in rows {
         for per_call in [1, 1000] {
@@ -91,11 +112,27 @@ fn edges_that_fail(rt: HostRuntime) -> Result<(), Fail> {
     assert_eq!(rt; unread.out.bytes().len(), 0);
     assert_eq!(rt; unread.err.bytes(), b"psm: read failed\n".as_slice());
 
+    Ok(())
+}
+
+// A sink that takes five bytes and then fails: the statement whose reply was cut is done, and no later one is.
+#[test]
+fn sink_that_fails(rt: HostRuntime) -> Result<(), Fail> {
+    let alloc = rt.alloc();
+    let mut db = Database::new(alloc);
     let narrow = MemSink::new(alloc, vec![in alloc; 1]?, 5);
-    let cut = ran(alloc, &["psm", "run"], source(alloc, INVERSES)?, narrow);
+    let words = ["psm", "run"];
+    let cut = ran_over(alloc, &words, source(alloc, INVERSES)?, narrow, &mut db);
     assert_eq!(rt; cut.status, Status::WriteFault);
     assert_eq!(rt; cut.out.bytes(), b"00000".as_slice());
     assert_eq!(rt; cut.err.bytes(), b"psm: write failed\n".as_slice());
+
+    let more = source(alloc, b"SELECT k FROM t; VALUES (inv(1));")?;
+    let then = ran_over(alloc, &words, more, sink(alloc, 100), &mut db);
+    assert_eq!(rt;
+        then.out.bytes(),
+        b"02000 rows 0\n! 42000 unknown name at line 1 column 26\n".as_slice()
+    );
     Ok(())
 }
 

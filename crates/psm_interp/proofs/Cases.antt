@@ -3,11 +3,12 @@ use Rattle.std.proofs.Common.{rules, ◌≡◌, ◌<◌, [], ℕ, get_or, sym, a
 use Rattle.sql_values.specs.declared.value.Value.{Value}
 use Rattle.sql_values.specs.declared.value.Value.TheVariants.{Null}
 use Rattle.bound_trees.specs.declared.expr.BoundExpr.{BoundExpr, the_lemmas}
-use Rattle.bound_trees.specs.declared.expr.BoundExpr.TheVariants.{Chain as ChainOf, Call as CallOf}
+use Rattle.bound_trees.specs.declared.expr.BoundExpr.TheVariants.{Negate as NegateOf, Chain as ChainOf, Call as CallOf}
 use Rattle.bound_trees.specs.declared.expr.BoundLink.{BoundLink}
-use Rattle.rel_algebra.specs.Tree.{Expr, Chain, Call, Routine, Returns}
+use Rattle.sql_values.specs.Values.{negation_of}
+use Rattle.rel_algebra.specs.Tree.{Expr, Negate, Chain, Call, Routine, Returns}
 use Rattle.rel_algebra.specs.Tables.{Row}
-use Rattle.rel_algebra.specs.World.{World, Frame, Ends, Gives, Eval, after}
+use Rattle.rel_algebra.specs.World.{World, Frame, Ends, Gives, Eval, after, outcome}
 use Rattle.rel_algebra.specs.Meaning.{ev, ev_links, ev_all, call}
 use Rattle.catalog_store.specs.Catalog.{missing}
 use Rattle.catalog_store.specs.View.{tree_of, exprs_of, links_of}
@@ -35,6 +36,15 @@ view-Chain rs first ls = search (rules, the_lemmas)
 
 pub view-Call : (rs : List Routine) (i : ℕ) (args : List BoundExpr) → tree_of rs (CallOf i args) ≡ Call (get_or rs i missing) (exprs_of rs args)
 view-Call rs i args = search (rules, the_lemmas)
+
+pub view-Negate : (rs : List Routine) (e : BoundExpr) → tree_of rs (NegateOf e) ≡ Negate (tree_of rs e)
+view-Negate rs e = search (rules, the_lemmas)
+
+pub sign_turns : (rs : List Routine) (e operand seen : BoundExpr) (v : Value) (row : List Row) (f : Frame) (w : World) (r : Result Value Stop) → e ≡ NegateOf operand → seen ≡ operand →
+    ev (tree_of rs seen) row f w ≡ Gives v w → Tells w r (outcome (negation_of v) w) → Tells w r (ev (tree_of rs e) row f w)
+sign_turns rs e operand seen v row f w r is same h t =
+    tells_same w r _ _ (sym (ap (λ y. ev (tree_of rs y) row f w) is ∙ ap (λ y. ev y row f w) (view-Negate rs operand)))
+    (tells_after w v (ev (tree_of rs operand) row f w) (λ x. outcome (negation_of x)) r (ap (λ x. ev (tree_of rs x) row f w) (sym same) ∙ h) t)
 
 pub chain_goes_on : (rs : List Routine) (e first seen : BoundExpr) (ls there : List BoundLink) (v : Value) (row : List Row) (f : Frame) (w : World) (r : Result Value Stop) → e ≡ ChainOf first ls → seen ≡ first → there ≡ ls →
     ev (tree_of rs seen) row f w ≡ Gives v w → Tells w r (ev_links (links_of rs there) v row f w) → Tells w r (ev (tree_of rs e) row f w)

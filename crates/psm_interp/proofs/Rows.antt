@@ -1,4 +1,4 @@
--- Rows, one by one: of a query, and of an INSERT.
+-- Rows, one by one: of a query, of VALUES, and of an INSERT.
 use Rattle.std.proofs.Common.{◌≡◌, ◌≤◌, ◌<◌, ◌∷◌, [], length, ℕ, ◌++◌, ◌+◌, drop, get_or, refl, sym, ap, ◌∙◌, subst, Option, Some, None, List, Bool, true, Result, Err, append_assoc}
 use Rattle.std.proofs.lemmas.List.{append-nil, drop_all}
 use Rattle.std.specs.declared.vec.Vec.{Vec}
@@ -7,11 +7,13 @@ use Rattle.sql_values.specs.declared.value.Value.{Value}
 use Rattle.sql_values.specs.Operators.{compared}
 use Rattle.bound_trees.specs.declared.expr.BoundExpr.{BoundExpr}
 use Rattle.bound_trees.specs.declared.statement.BoundTest.{BoundTest}
+use Rattle.bound_trees.specs.declared.statement.BoundQuery.{BoundQuery}
+use Rattle.bound_trees.specs.declared.statement.BoundQuery.TheVariants.{Values as ValuesOf}
 use Rattle.rel_algebra.specs.Tree.{Exprs, Filter, Routine, Rows}
 use Rattle.rel_algebra.specs.Tables.{Row, Table, Tables, table_named, inserted, with_rows}
 use Rattle.rel_algebra.specs.World.{World, Ends, Gives, Raises, Eval, after, give, with_front, each_row, unit_of}
-use Rattle.rel_algebra.specs.Meaning.{ev, ev_all, ev_rows, is_kept, record_where, store_in, keep_rows, insert}
-use Rattle.catalog_store.specs.View.{tree_of, exprs_of, filter_of, rows_of}
+use Rattle.rel_algebra.specs.Meaning.{ev, ev_all, ev_rows, is_kept, record_where, store_in, keep_rows, insert, answer}
+use Rattle.catalog_store.specs.View.{tree_of, exprs_of, filter_of, rows_of, query_of}
 use Rattle.table_store.specs.declared.inserted.Inserted.TheVariants.{Stored}
 use Rattle.std.specs.Prelude.{unwrap_or}
 use Rattle.std.specs.Option.{option_map}
@@ -97,7 +99,7 @@ pub rows_end : (g : Row → Eval (Option Row)) (rows : List Row) (i : ℕ) (vs :
 rows_end g rows i vs w whole h e =
     sym e ∙ ap (λ xs. after (each_row g xs w) (λ ts. give (vs ++ ts))) (drop_all i rows h) ∙ ap (λ xs. Gives xs w) (append-nil vs)
 
--- The rows of an INSERT.
+-- The rows of VALUES.
 together : {A : Type 0} (vs : List A) (v : A) (e : Ends (List A)) → after e (λ us. give ((vs ++ v ∷ []) ++ us)) ≡ after (after e (λ us. give (v ∷ us))) (λ us. give (vs ++ us))
 together vs v e = regrouped vs (Some v) e
 
@@ -130,6 +132,23 @@ new_row_stops rs rows i x there s vs w whole r h is same stops e r-is =
     (tells_same {A = List Row} w (Err s) _ _ (sym (insert_at rs rows i x there w h is same))
     (tells_stop w s (ev_all (exprs_of rs there) [] [] w) (λ v w. after (ev_rows (rows_of rs (drop (i + 1) rows)) w) (λ us. give (v ∷ us))) stops))))
 
+-- VALUES as a query.
+told_alike : (w : World) (s : Stop) (e : Ends (List Row)) → TellsRows w (Err s) e → Tells {A = List Row} w (Err s) e
+told_alike w (Raised c) e t = t
+told_alike w NoMemory e t = tt
+
+values_are : (rs : List Routine) (q : BoundQuery) (rows there : List (List BoundExpr)) (w : World) → q ≡ ValuesOf rows → there ≡ rows → ev_rows (rows_of rs there) w ≡ answer (query_of rs q) w
+values_are rs q rows there w is same = ap (λ (xs : List (List BoundExpr)). ev_rows (rows_of rs xs) w) same ∙ sym (ap (λ (y : BoundQuery). answer (query_of rs y) w) is)
+
+pub values_give : (rs : List Routine) (q : BoundQuery) (rows there : List (List BoundExpr)) (vs us : List Row) (w : World) → q ≡ ValuesOf rows → there ≡ rows →
+    ev_rows (rows_of rs there) w ≡ Gives vs w → us ≡ vs → answer (query_of rs q) w ≡ Gives us w
+values_give rs q rows there vs us w is same gives e = sym (values_are rs q rows there w is same) ∙ gives ∙ ap (λ (xs : List Row). Gives xs w) (sym e)
+
+pub values_stop : (rs : List Routine) (q : BoundQuery) (rows there : List (List BoundExpr)) (s : Stop) (w : World) (r : Result (List Row) Stop) → q ≡ ValuesOf rows → there ≡ rows →
+    TellsRows w (Err s) (ev_rows (rows_of rs there) w) → r ≡ Err s → Tells w r (answer (query_of rs q) w)
+values_stop rs q rows there s w r is same stops r-is =
+    as_told w s _ r r-is (tells_same {A = List Row} w (Err s) _ _ (values_are rs q rows there w is same) (told_alike w s (ev_rows (rows_of rs there) w) stops))
+
 -- Storing.
 kept_rows : (o : Option (List Row)) (name : List ℕ) (tables : Tables) (new : Tables) → Stored ≡ answer_to (option_map (λ rows. with_rows name rows tables) o) →
     new ≡ unwrap_or (option_map (λ rows. with_rows name rows tables) o) tables → keep_rows o name (world_of tables) ≡ Gives tt (world_of new)
@@ -139,7 +158,7 @@ kept_rows (Some rows) name tables new h e = ap (λ ts. Gives tt (world_of ts)) (
 stores_at : (o : Option Table) (name : List ℕ) (rows : List Row) (tables new : Tables) → Stored ≡ answer_to (stored_at o name rows tables) → new ≡ unwrap_or (stored_at o name rows tables) tables →
     store_in o name rows (world_of tables) ≡ Gives tt (world_of new)
 stores_at None name rows tables new h e = ap (λ ts. Gives tt (world_of ts)) (sym e)
-stores_at (Some t) name rows tables new h e = kept_rows (inserted t.key t.rows rows) name tables new h e
+stores_at (Some t) name rows tables new h e = kept_rows (inserted t.columns t.key t.rows rows) name tables new h e
 
 -- an INSERT whose rows are stored
 pub insert_gives : (name : List ℕ) (rows : Rows) (values : List Row) (tables new : Tables) (n : ℕ) → ev_rows rows (world_of tables) ≡ Gives values (world_of tables) → n ≡ length values →

@@ -1,12 +1,13 @@
 -- How deep an evaluation can nest: what falls at each call of the interpreter.
 use Rattle.std.specs.Prelude.{ℕ, ◌+◌}
-use Rattle.rel_algebra.specs.Tree.{Expr, Literal, Column, Variable, Chain, Call, Links, NoLink, MoreLinks, Exprs, NoExpr, MoreExprs, Routine, Returns}
+use Rattle.rel_algebra.specs.Tree.{Expr, Literal, Column, Variable, Negate, Chain, Call, Links, NoLink, MoreLinks, Exprs, NoExpr, MoreExprs, Routine, Returns}
 
 abbrev mutual
   pub cost : Expr → ℕ
   cost (Literal v) = 1
   cost (Column i) = 1
   cost (Variable i) = 1
+  cost (Negate e) = cost e + 1
   cost (Chain e links) = cost e + links_cost links + 1
   cost (Call r args) = costs args + routine_cost r + 1
 

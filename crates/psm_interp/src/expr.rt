@@ -9,7 +9,7 @@ ghost use Rattle.psm_interp.specs.Telling.{Tells};
 ghost use Rattle.psm_interp.specs.Sight.{in_sight};
 
 use crate::Stop;
-use crate::values::{apply, column, copied, value_at};
+use crate::values::{apply, column, copied, negated, value_at};
 use bound_trees::{BoundExpr, BoundLink};
 use catalog_store::{Entry, callee_at};
 use sql_values::Value;
@@ -33,6 +33,10 @@ pub fn eval(
         BoundExpr::Literal(value) => Ok(copied(value)),
         BoundExpr::Column(place) => Ok(column(row, *place)),
         BoundExpr::Variable(place) => Ok(value_at(frame, *place)),
+        BoundExpr::Negate(operand) => {
+            let value = eval(alloc, operand.get(), row, frame, catalog)?;
+            negated(&value)
+        }
         BoundExpr::Chain(first, links) => {
             let value = eval(alloc, first.get(), row, frame, catalog)?;
             eval_links(alloc, links.as_slice(), value, row, frame, catalog)

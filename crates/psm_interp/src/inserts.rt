@@ -1,24 +1,23 @@
 //! INSERT.
 
 ghost use Rattle.std.specs.Prelude.{◌≡◌};
-ghost use Rattle.rel_algebra.specs.World.{World};
-ghost use Rattle.rel_algebra.specs.Meaning.{ev_rows, insert};
+ghost use Rattle.rel_algebra.specs.Meaning.{insert};
 ghost use Rattle.catalog_store.specs.Catalog.{routines};
 ghost use Rattle.catalog_store.specs.View.{plain, rows_of};
-ghost use Rattle.psm_interp.specs.Telling.{TellsOf, TellsRows, world_of};
+ghost use Rattle.psm_interp.specs.Telling.{TellsOf, world_of};
 
 use crate::Stop;
-use crate::expr::eval_all;
+use crate::value_rows::eval_rows;
 use bound_trees::BoundExpr;
 use catalog_store::Entry;
 use sql_conditions::Condition;
 use sql_values::Name;
 use sqlite_items::Items;
 use std::alloc::Global;
-use table_store::{Inserted, Row, Tables};
+use table_store::{Inserted, Tables};
 
 /// Evaluates all rows of an INSERT (ISO/IEC 9075-2, 14.11), stores them in the table of the name, and gives how many they are.
-/// Where a row raises a condition, or the table refuses a key (a condition too), the tables are as before, as they are without memory.
+/// Where a row raises a condition, or the table refuses the rows (a condition too), the tables are as before, as they are without memory.
 pub fn run_insert(
     alloc: Global,
     table: &Name,
@@ -34,16 +33,4 @@ pub fn run_insert(
         Inserted::Stored => Ok(count),
         Inserted::Refused => Err(Stop::Raised(Condition::ConstraintViolated)),
     }
-}
-
-// The rows of an INSERT, in their order.
-fn eval_rows(alloc: Global, rows: &[Items<BoundExpr>], catalog: &[Entry]) -> Result<Vec<Row>, Stop>
-    ensures { (w : World) → TellsRows w result (ev_rows (rows_of (routines (plain catalog.now)) rows.now) w) }
-{
-    let mut new = Vec::new(alloc);
-    for row in rows {
-        let values = eval_all(alloc, row.as_slice(), None, &[], catalog)?;
-        new.push(values)?;
-    }
-    Ok(new)
 }

@@ -7,6 +7,7 @@ mod queries;
 mod stop;
 #[cfg(test)]
 mod tests;
+mod value_rows;
 mod values;
 
 pub use expr::eval;

@@ -2,6 +2,7 @@
 
 ghost use Rattle.std.specs.Prelude.{◌≡◌, ◌++◌, [], OnOk, IfErr, Some};
 ghost use Rattle.rel_algebra.specs.World.{World, each_row, with_front};
+ghost use Rattle.bound_trees.specs.declared.statement.BoundQuery.TheVariants.{Select};
 ghost use Rattle.rel_algebra.specs.Meaning.{answer, is_kept as kept};
 ghost use Rattle.catalog_store.specs.Catalog.{routines};
 ghost use Rattle.catalog_store.specs.View.{plain, exprs_of, filter_of, query_of};
@@ -11,14 +12,16 @@ ghost use Rattle.psm_interp.specs.Records.{record_of};
 
 use crate::Stop;
 use crate::expr::{eval, eval_all};
-use bound_trees::{BoundExpr, BoundQuery, BoundTest};
+use crate::value_rows::eval_rows;
+use bound_trees::{BoundExpr, BoundQuery, BoundSelect, BoundTest};
 use catalog_store::Entry;
 use sqlite_items::Items;
 use std::alloc::Global;
 use table_store::{Row, Tables};
 
-/// The records of a query (ISO/IEC 9075-2, 7.12), in the order of the table's keys. For each row first its WHERE and then its
-/// select list is evaluated; the first condition ends the query, and comes exactly where the meaning raises it.
+/// The records of a query (ISO/IEC 9075-2, 7.17): of a SELECT in the order of the table's keys, of VALUES as its rows stand.
+/// For each row first its WHERE and then its select list is evaluated; the first condition ends the query, and comes exactly
+/// where the meaning raises it.
 pub fn run_query(
     alloc: Global,
     query: &BoundQuery,
@@ -26,6 +29,25 @@ pub fn run_query(
     tables: &Tables,
 ) -> Result<Items<Row>, Stop>
     ensures { let w = world_of tables.now in Tells w result (answer (query_of (routines (plain catalog.now)) query.now) w) }
+{
+    match query {
+        BoundQuery::Select(query) => run_select(alloc, query, catalog, tables),
+        BoundQuery::Values(rows) => Ok(Items::from_vec(eval_rows(
+            alloc,
+            rows.as_slice(),
+            catalog,
+        )?)),
+    }
+}
+
+// The records of a query over a table.
+fn run_select(
+    alloc: Global,
+    query: &BoundSelect,
+    catalog: &[Entry],
+    tables: &Tables,
+) -> Result<Items<Row>, Stop>
+    ensures { let w = world_of tables.now in Tells w result (answer (query_of (routines (plain catalog.now)) (Select query.now)) w) }
 {
     match tables.table(&query.table) {
         Some(table) => select(

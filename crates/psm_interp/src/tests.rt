@@ -1,7 +1,7 @@
 //! Statements run where memory is there: a table T (K, A) with rows, and a function inv (x): RETURN 100 / x.
 
 use crate::{Stop, eval, run_insert, run_query};
-use bound_trees::{BoundExpr, BoundLink, BoundQuery, BoundTest};
+use bound_trees::{BoundExpr, BoundLink, BoundQuery, BoundSelect, BoundTest};
 use catalog_store::{Entry, FunctionEntry, Object};
 use sql_conditions::Condition;
 use sql_values::{Comparison, Name, Operator, Value};
@@ -66,7 +66,7 @@ fn select(
 ) -> Result<Items<Row>, Stop> {
     let mut items = Items::new(alloc);
     items.push(call_of(alloc, BoundExpr::Column(1))?)?;
-    let query = BoundQuery {
+    let query = BoundQuery::Select(BoundSelect {
         items,
         table: Name::folded(alloc, b"T")?,
         filter: Some(BoundTest {
@@ -74,7 +74,7 @@ fn select(
             comparison: Comparison::NotEquals,
             right: number(skipped),
         }),
-    };
+    });
     run_query(alloc, &query, catalog, tables)
 }
 
@@ -111,6 +111,24 @@ fn evaluated(alloc: Global, argument: i64) -> Result<Value, Stop> {
     eval(alloc, &call, None, &[], &catalog)
 }
 
+// - argument
+fn negation(alloc: Global, argument: i64) -> Result<Value, Stop> {
+    let opposite = BoundExpr::Negate(Boxed::new(alloc, number(argument))?);
+    eval(alloc, &opposite, None, &[], &[])
+}
+
+// VALUES (3), (4)
+fn listed(alloc: Global) -> Result<i64, Stop> {
+    let mut rows = Items::new(alloc);
+    for value in [3, 4] {
+        let mut row = Items::new(alloc);
+        row.push(number(value))?;
+        rows.push(row)?;
+    }
+    let records = run_query(alloc, &BoundQuery::Values(rows), &[], &Tables::new(alloc))?;
+    Ok(total(&records))
+}
+
 #[test]
 fn statements_run(rt: HostRuntime) {
     let alloc = rt.alloc();
@@ -119,5 +137,8 @@ fn statements_run(rt: HostRuntime) {
     assert!(rt; inserted_and_selected(alloc, 5, 3) == Ok(30));
     assert!(rt; inserted_and_selected(alloc, 0, 1) == Ok(10));
     assert!(rt; inserted_and_selected(alloc, 0, 2) == Err(Stop::Raised(Condition::DivisionByZero)));
+    assert!(rt; negation(alloc, 7) == Ok(Value::Int(-7)));
+    assert!(rt; negation(alloc, i64::MIN) == Err(Stop::Raised(Condition::NumberOutOfRange)));
+    assert!(rt; listed(alloc) == Ok(7));
     assert!(rt; inserted_twice(alloc) == Err(Stop::Raised(Condition::ConstraintViolated)));
 }

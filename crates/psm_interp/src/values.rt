@@ -2,14 +2,15 @@
 
 ghost use Rattle.std.specs.Prelude.{◌≡◌, slice_index_or};
 ghost use Rattle.sql_values.specs.declared.value.Value.TheVariants.{Null};
+ghost use Rattle.sql_values.specs.Values.{negation_of};
 ghost use Rattle.sql_values.specs.Operators.{applied};
-ghost use Rattle.rel_algebra.specs.World.{World, outcome, column_of};
+ghost use Rattle.rel_algebra.specs.World.{World, outcome as outcome_of, column_of};
 ghost use Rattle.psm_interp.specs.Telling.{Tells};
 ghost use Rattle.psm_interp.specs.Sight.{in_sight};
 
 use crate::Stop;
 use sql_conditions::Condition;
-use sql_values::{Operator, Value, ValueFault};
+use sql_values::{Operator, Value, ValueFault, neg};
 use table_store::Row;
 
 // The value at a place; NULL past the end.
@@ -45,9 +46,23 @@ pub fn copied(value: &Value) -> Value
 
 // What an operator gives of two values.
 pub fn apply(operator: Operator, a: &Value, b: &Value) -> Result<Value, Stop>
-    ensures { (w : World) → Tells w result (outcome (applied operator a.now b.now) w) }
+    ensures { (w : World) → Tells w result (outcome_of (applied operator a.now b.now) w) }
 {
-    match operator.apply(a, b) {
+    value_or_condition(operator.apply(a, b))
+}
+
+// The number with the other sign.
+pub fn negated(a: &Value) -> Result<Value, Stop>
+    ensures { (w : World) → Tells w result (outcome_of (negation_of a.now) w) }
+{
+    value_or_condition(neg(a))
+}
+
+// What an operation gives, or the condition that its fault raises.
+fn value_or_condition(outcome: Result<Value, ValueFault>) -> Result<Value, Stop>
+    ensures { (w : World) → Tells w result (outcome_of outcome w) }
+{
+    match outcome {
         Ok(value) => Ok(value),
         Err(ValueFault::OutOfRange) => Err(Stop::Raised(Condition::NumberOutOfRange)),
         Err(ValueFault::DivZero) => Err(Stop::Raised(Condition::DivisionByZero)),

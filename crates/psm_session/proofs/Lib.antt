@@ -1,3 +1,3 @@
 pub mod Counts
 pub mod One
-pub mod Outcomes
+pub mod Unread

@@ -1,41 +1,102 @@
 -- A statement at a token has one outcome.
-use Rattle.std.proofs.Common.{◌≡◌, ◌≤◌, ℕ, List, Some, None, length, ap, sym, ◌∙◌, inl, inr, arith}
+use Rattle.std.proofs.Common.{◌≡◌, ◌≤◌, ◌+◌, ◌⊎◌, ℕ, suc, List, [], Some, None, length, ap, ap₂, sym, ◌∙◌, subst, inl, inr, arith}
 use Rattle.sql_lex.specs.Tokens.{Lexing}
+use Rattle.sql_lex.specs.Openings.{place_at}
 use Rattle.syntax_trees.specs.declared.statement.Stmt.{Stmt}
-use Rattle.token_grammar.specs.Statement.{most_open}
+use Rattle.token_grammar.specs.Statement.{BeginsWithin, IsStuck, IsTooDeep, IsFurthest, most_open}
 use Rattle.token_grammar.proofs.Places.{one_spelling}
 use Rattle.sql_grammar.specs.Sql.{rules, statement}
 use Rattle.sql_grammar.specs.Decides.{all_decide, statement_decides, statement_ends}
-use Rattle.sql_names.specs.Statements.{resolved_statement}
+use Rattle.name_faults.specs.declared.Fault.{Fault}
+use Rattle.name_faults.specs.Faults.{Noted, least}
+use Rattle.sql_names.specs.Statements.{resolved_statement, Statement as Resolved}
+use Rattle.reply_text.specs.declared.reply.FaultText.{FaultText}
+use Rattle.reply_text.specs.Texts.{fault_text}
 use Rattle.psm_session.specs.Database.{Plain}
-use Rattle.psm_session.specs.Effects.{effect}
-use Rattle.psm_session.specs.Statement.{Reads, IsDone, IsRefused, Statement}
+use Rattle.psm_session.specs.Executing.{Executes, reply_to}
+use Rattle.psm_session.specs.Statement.{Reads, Stops, IsUnread, Statement}
 
-pub some_same : {A : Type 0} (a b : A) → Some a ≡ Some b → a ≡ b
+-- ---- what comes of a statement
+
+no_least : (faults : List Fault) (fault : Fault) → faults ≡ [] → least faults ≡ Some fault → ⊥
+no_least faults fault none some = let e : None ≡ Some fault = sym (ap least none) ∙ some in cc
+
+some_same : {A : Type 0} (a b : A) → Some a ≡ Some b → a ≡ b
 some_same a b e = cc
 
-none_some : {A : Type 0} (a : A) → None ≡ Some a → ⊥
-none_some a e = cc
+pub one_execution : (found : Noted Resolved) (before : Plain) (r r' : List ℕ) (after after' : Plain) → Executes found before r after → Executes found before r' after'
+    → (r ≡ r') × (after ≡ after')
+one_execution found before r r' after after' (inl p) (inl q) = (p.replies ∙ sym q.replies, p.leaves ∙ sym q.leaves)
+one_execution found before r r' after after' (inl p) (inr q) = absurd (no_least found.faults q.fault p.valid q.is_least)
+one_execution found before r r' after after' (inr p) (inl q) = absurd (no_least found.faults p.fault q.valid p.is_least)
+one_execution found before r r' after after' (inr p) (inr q) =
+    let same : p.fault ≡ q.fault = some_same p.fault q.fault (sym p.is_least ∙ q.is_least) in
+    (p.replies ∙ ap reply_to same ∙ sym q.replies, p.leaves ∙ sym q.leaves)
 
-pub one_tree : (t : Lexing) (at : ℕ) (tree tree' : Stmt) (end end' : ℕ) → Reads t at tree end → Reads t at tree' end' → (tree ≡ tree') × (end ≡ end')
+-- ---- what is read
+
+one_tree : (t : Lexing) (at : ℕ) (tree tree' : Stmt) (end end' : ℕ) → Reads t at tree end → Reads t at tree' end' → (tree ≡ tree') × (end ≡ end')
 one_tree t at tree tree' end end' p q =
     let here : at ≤ length t.tokens = let a : at ≤ end = p.0 in let b : end ≤ length t.tokens = p.1 in omega arith in
     one_spelling rules all_decide most_open statement statement_decides statement_ends t.tokens at here tree end tree' end' p q
 
-one_done : (t : Lexing) (at : ℕ) (before : Plain) (r r' : List ℕ) (to to' : ℕ) (after after' : Plain)
-    → IsDone t at before r to after → IsDone t at before r' to' after' → (r ≡ r') × (to ≡ to') × (after ≡ after')
-one_done t at before r r' to to' after after' p q =
-    let same = one_tree t at p.tree q.tree to to' p.reads q.reads in
-    let valid : p.valid ≡ q.valid = some_same p.valid q.valid (sym p.is ∙ ap (resolved_statement before.catalog) same.0 ∙ q.is) in
-    (p.replies ∙ ap (λ s. (effect s before).reply) valid ∙ sym q.replies, same.1, p.leaves ∙ ap (λ s. (effect s before).after) valid ∙ sym q.leaves)
+-- where nothing is read, the place is one
+one_place : (t : Lexing) (at place place' : ℕ) → IsFurthest rules most_open statement t.tokens at place → IsFurthest rules most_open statement t.tokens at place'
+    → place ≡ place'
+one_place t at place place' f g = let a : place ≤ place' = g.1 place f.0 in let b : place' ≤ place = f.1 place' g.0 in omega arith
 
-done_not_refused : (t : Lexing) (at : ℕ) (before : Plain) (r r' : List ℕ) (to to' : ℕ) (after after' : Plain)
-    → IsDone t at before r to after → IsRefused t at before r' to' after' → ⊥
-done_not_refused t at before r r' to to' after after' p q = none_some p.valid (sym (q.none p.tree to p.reads) ∙ p.is)
+stuck_or_deep : (t : Lexing) (at place place' : ℕ) → IsStuck rules most_open statement t.tokens at place → IsTooDeep rules most_open statement t.tokens at place' → ⊥
+stuck_or_deep t at place place' stuck deep =
+    let same : place' ≡ place = one_place t at place' place deep.0 stuck.0 in
+    stuck.1 (suc most_open, subst (λ (k : ℕ). BeginsWithin rules (suc most_open) statement t.tokens at (k + 1)) same deep.1)
+
+-- and so is the reason
+one_stop : (t : Lexing) (at : ℕ) (why why' : FaultText) (place place' : ℕ) → Stops t at why place → Stops t at why' place' → (why ≡ why') × (place ≡ place')
+one_stop t at why why' place place' (inl p) (inl q) = (p.0 ∙ sym q.0, one_place t at place place' p.1.0 q.1.0)
+one_stop t at why why' place place' (inl p) (inr q) = absurd (stuck_or_deep t at place place' p.1 q.1)
+one_stop t at why why' place place' (inr p) (inl q) = absurd (stuck_or_deep t at place' place q.1 p.1)
+one_stop t at why why' place place' (inr p) (inr q) = (p.0 ∙ sym q.0, one_place t at place place' p.1.0 q.1.0)
+
+one_unread : (t : Lexing) (at : ℕ) (before : Plain) (r r' : List ℕ) (to to' : ℕ) (after after' : Plain)
+    → IsUnread t at before r to after → IsUnread t at before r' to' after' → (r ≡ r') × (to ≡ to') × (after ≡ after')
+one_unread t at before r r' to to' after after' p q =
+    let same = one_stop t at p.why q.why p.place q.place p.stops q.stops in
+    let text : fault_text p.why (place_at t p.place).0 (place_at t p.place).1 ≡ fault_text q.why (place_at t q.place).0 (place_at t q.place).1 =
+    ap₂ (λ (why : FaultText) (place : ℕ). fault_text why (place_at t place).0 (place_at t place).1) same.0 same.1 in
+    (p.replies ∙ text ∙ sym q.replies, p.ends ∙ sym q.ends, p.leaves ∙ sym q.leaves)
+
+-- ---- the statement
+
+-- a statement that is read, with what comes of it
+record IsRead (t : Lexing) (at : ℕ) (before : Plain) (reply : List ℕ) (to : ℕ) (after : Plain) : Type 0 where
+  tree : Stmt
+  reads : Reads t at tree to
+  executes : Executes (resolved_statement before.catalog tree) before reply after
+
+read_or_not : (t : Lexing) (at : ℕ) (before : Plain) (r : List ℕ) (to : ℕ) (after : Plain) → Statement t at before r to after
+    → IsRead t at before r to after ⊎ IsUnread t at before r to after
+read_or_not t at before r to after (inl p) = inl (record { tree = p.tree; reads = p.reads; executes = inl p.does })
+read_or_not t at before r to after (inr (inl p)) = inl (record { tree = p.tree; reads = p.reads; executes = inr p.fails })
+read_or_not t at before r to after (inr (inr p)) = inr p
+
+one_read : (t : Lexing) (at : ℕ) (before : Plain) (r r' : List ℕ) (to to' : ℕ) (after after' : Plain)
+    → IsRead t at before r to after → IsRead t at before r' to' after' → (r ≡ r') × (to ≡ to') × (after ≡ after')
+one_read t at before r r' to to' after after' p q =
+    let same = one_tree t at p.tree q.tree to to' p.reads q.reads in
+    let there : Executes (resolved_statement before.catalog q.tree) before r after =
+    subst (λ (tree : Stmt). Executes (resolved_statement before.catalog tree) before r after) same.0 p.executes in
+    let one = one_execution (resolved_statement before.catalog q.tree) before r r' after after' there q.executes in
+    (one.0, same.1, one.1)
+
+one_of : (t : Lexing) (at : ℕ) (before : Plain) (r r' : List ℕ) (to to' : ℕ) (after after' : Plain)
+    → IsRead t at before r to after ⊎ IsUnread t at before r to after → IsRead t at before r' to' after' ⊎ IsUnread t at before r' to' after'
+    → (r ≡ r') × (to ≡ to') × (after ≡ after')
+one_of t at before r r' to to' after after' (inl p) (inl q) = one_read t at before r r' to to' after after' p q
+one_of t at before r r' to to' after after' (inl p) (inr q) = absurd (q.nothing p.tree to p.reads)
+one_of t at before r r' to to' after after' (inr p) (inl q) = absurd (p.nothing q.tree to' q.reads)
+one_of t at before r r' to to' after after' (inr p) (inr q) = one_unread t at before r r' to to' after after' p q
 
 pub Statement-one : (t : Lexing) (at : ℕ) (before : Plain) (r r' : List ℕ) (to to' : ℕ) (after after' : Plain)
     → Statement t at before r to after → Statement t at before r' to' after' → (r ≡ r') × (to ≡ to') × (after ≡ after')
-Statement-one t at before r r' to to' after after' (inl p) (inl q) = one_done t at before r r' to to' after after' p q
-Statement-one t at before r r' to to' after after' (inl p) (inr q) = absurd (done_not_refused t at before r r' to to' after after' p q)
-Statement-one t at before r r' to to' after after' (inr p) (inl q) = absurd (done_not_refused t at before r' r to' to after' after q p)
-Statement-one t at before r r' to to' after after' (inr p) (inr q) = (p.replies ∙ sym q.replies, p.ends ∙ sym q.ends, p.leaves ∙ sym q.leaves)
+Statement-one t at before r r' to to' after after' p q =
+    one_of t at before r r' to to' after after' (read_or_not t at before r to after p) (read_or_not t at before r' to' after' q)

@@ -1,17 +1,20 @@
 -- Databases as trees of numbers, by which a proof tells two of them apart.
-use Rattle.std.specs.Prelude.{ℕ, ◌≡◌, ◌⊎◌, List, nat_eq, false}
+use Rattle.std.specs.Prelude.{ℕ, ◌≡◌, ◌⊎◌, Bool, List, nat_eq, false}
 use Rattle.std.proofs.Common.{ap, refl, arith, inl, inr}
 use Rattle.std.proofs.lemmas.Bool.Decides.{nat_tests}
-use Rattle.std.specs.Coded.{Coded, code_by, coded_ℕ, coded_ℤ, coded_list, coded×, coded⊎}
+use Rattle.std.specs.Coded.{Coded, code_by, coded_ℕ, coded_ℤ, coded_bool, coded_list, coded×, coded⊎}
 use base.Stored.{Gv, gnil, gnum, gcons}
 use Rattle.sql_values.specs.declared.value.Value.{Value}
 use Rattle.sql_values.specs.declared.value.Value.TheVariants.{Null, Int}
 use Rattle.sql_values.specs.declared.operators.Operator.{Operator}
 use Rattle.sql_values.specs.declared.operators.Operator.TheVariants.{Add, Subtract, Multiply, Divide}
+use Rattle.sql_values.specs.declared.value.SqlType.{SqlType}
+use Rattle.sql_values.specs.declared.value.SqlType.TheVariants.{Integer}
+use Rattle.row_types.specs.declared.ColumnType.{ColumnType}
 use Rattle.rel_algebra.specs.Tables.{Row, Stored, Table}
 use Rattle.catalog_store.specs.Catalog.{Entry, Object, FunctionObject, TableObject}
 use Rattle.psm_session.specs.Database.{Plain}
-use Rattle.rel_algebra.specs.Tree.{Expr, Literal, Column, Variable, Chain, Call, Links, NoLink, MoreLinks, Exprs, NoExpr, MoreExprs, Routine, Returns}
+use Rattle.rel_algebra.specs.Tree.{Expr, Literal, Column, Variable, Negate, Chain, Call, Links, NoLink, MoreLinks, Exprs, NoExpr, MoreExprs, Routine, Returns}
 
 abbrev pub operator_code : Operator → Gv
 operator_code Add = gnum 0
@@ -28,8 +31,9 @@ abbrev mutual
   expr_code (Literal v) = gcons (gnum 0) (value_code v)
   expr_code (Column i) = gcons (gnum 1) (gnum i)
   expr_code (Variable i) = gcons (gnum 2) (gnum i)
-  expr_code (Chain e ls) = gcons (gnum 3) (gcons (expr_code e) (links_code ls))
-  expr_code (Call r es) = gcons (gnum 4) (gcons (routine_code r) (exprs_code es))
+  expr_code (Negate e) = gcons (gnum 3) (expr_code e)
+  expr_code (Chain e ls) = gcons (gnum 4) (gcons (expr_code e) (links_code ls))
+  expr_code (Call r es) = gcons (gnum 5) (gcons (routine_code r) (exprs_code es))
 
   pub links_code : Links → Gv
   links_code NoLink = gnil
@@ -91,27 +95,38 @@ mutual
   expr_one (Literal v) (Literal v') e = ap Literal (value_one v v' (ap tail e))
   expr_one (Literal v) (Column i') e = absurd (differ 0 1 refl (ap (λ g. num (head g)) e))
   expr_one (Literal v) (Variable i') e = absurd (differ 0 2 refl (ap (λ g. num (head g)) e))
-  expr_one (Literal v) (Chain first' ls') e = absurd (differ 0 3 refl (ap (λ g. num (head g)) e))
-  expr_one (Literal v) (Call r' es') e = absurd (differ 0 4 refl (ap (λ g. num (head g)) e))
+  expr_one (Literal v) (Negate x') e = absurd (differ 0 3 refl (ap (λ g. num (head g)) e))
+  expr_one (Literal v) (Chain first' ls') e = absurd (differ 0 4 refl (ap (λ g. num (head g)) e))
+  expr_one (Literal v) (Call r' es') e = absurd (differ 0 5 refl (ap (λ g. num (head g)) e))
   expr_one (Column i) (Literal v') e = absurd (differ 1 0 refl (ap (λ g. num (head g)) e))
   expr_one (Column i) (Column i') e = ap Column (ap (λ g. num (tail g)) e)
   expr_one (Column i) (Variable i') e = absurd (differ 1 2 refl (ap (λ g. num (head g)) e))
-  expr_one (Column i) (Chain first' ls') e = absurd (differ 1 3 refl (ap (λ g. num (head g)) e))
-  expr_one (Column i) (Call r' es') e = absurd (differ 1 4 refl (ap (λ g. num (head g)) e))
+  expr_one (Column i) (Negate x') e = absurd (differ 1 3 refl (ap (λ g. num (head g)) e))
+  expr_one (Column i) (Chain first' ls') e = absurd (differ 1 4 refl (ap (λ g. num (head g)) e))
+  expr_one (Column i) (Call r' es') e = absurd (differ 1 5 refl (ap (λ g. num (head g)) e))
   expr_one (Variable i) (Literal v') e = absurd (differ 2 0 refl (ap (λ g. num (head g)) e))
   expr_one (Variable i) (Column i') e = absurd (differ 2 1 refl (ap (λ g. num (head g)) e))
   expr_one (Variable i) (Variable i') e = ap Variable (ap (λ g. num (tail g)) e)
-  expr_one (Variable i) (Chain first' ls') e = absurd (differ 2 3 refl (ap (λ g. num (head g)) e))
-  expr_one (Variable i) (Call r' es') e = absurd (differ 2 4 refl (ap (λ g. num (head g)) e))
-  expr_one (Chain first ls) (Literal v') e = absurd (differ 3 0 refl (ap (λ g. num (head g)) e))
-  expr_one (Chain first ls) (Column i') e = absurd (differ 3 1 refl (ap (λ g. num (head g)) e))
-  expr_one (Chain first ls) (Variable i') e = absurd (differ 3 2 refl (ap (λ g. num (head g)) e))
+  expr_one (Variable i) (Negate x') e = absurd (differ 2 3 refl (ap (λ g. num (head g)) e))
+  expr_one (Variable i) (Chain first' ls') e = absurd (differ 2 4 refl (ap (λ g. num (head g)) e))
+  expr_one (Variable i) (Call r' es') e = absurd (differ 2 5 refl (ap (λ g. num (head g)) e))
+  expr_one (Negate x) (Literal v') e = absurd (differ 3 0 refl (ap (λ g. num (head g)) e))
+  expr_one (Negate x) (Column i') e = absurd (differ 3 1 refl (ap (λ g. num (head g)) e))
+  expr_one (Negate x) (Variable i') e = absurd (differ 3 2 refl (ap (λ g. num (head g)) e))
+  expr_one (Negate x) (Negate x') e = ap Negate (expr_one x x' (ap tail e))
+  expr_one (Negate x) (Chain first' ls') e = absurd (differ 3 4 refl (ap (λ g. num (head g)) e))
+  expr_one (Negate x) (Call r' es') e = absurd (differ 3 5 refl (ap (λ g. num (head g)) e))
+  expr_one (Chain first ls) (Literal v') e = absurd (differ 4 0 refl (ap (λ g. num (head g)) e))
+  expr_one (Chain first ls) (Column i') e = absurd (differ 4 1 refl (ap (λ g. num (head g)) e))
+  expr_one (Chain first ls) (Variable i') e = absurd (differ 4 2 refl (ap (λ g. num (head g)) e))
+  expr_one (Chain first ls) (Negate x') e = absurd (differ 4 3 refl (ap (λ g. num (head g)) e))
   expr_one (Chain first ls) (Chain first' ls') e = (λ k. Chain (expr_one first first' (ap (λ g. head (tail g)) e) k) (links_one ls ls' (ap (λ g. tail (tail g)) e) k))
-  expr_one (Chain first ls) (Call r' es') e = absurd (differ 3 4 refl (ap (λ g. num (head g)) e))
-  expr_one (Call r es) (Literal v') e = absurd (differ 4 0 refl (ap (λ g. num (head g)) e))
-  expr_one (Call r es) (Column i') e = absurd (differ 4 1 refl (ap (λ g. num (head g)) e))
-  expr_one (Call r es) (Variable i') e = absurd (differ 4 2 refl (ap (λ g. num (head g)) e))
-  expr_one (Call r es) (Chain first' ls') e = absurd (differ 4 3 refl (ap (λ g. num (head g)) e))
+  expr_one (Chain first ls) (Call r' es') e = absurd (differ 4 5 refl (ap (λ g. num (head g)) e))
+  expr_one (Call r es) (Literal v') e = absurd (differ 5 0 refl (ap (λ g. num (head g)) e))
+  expr_one (Call r es) (Column i') e = absurd (differ 5 1 refl (ap (λ g. num (head g)) e))
+  expr_one (Call r es) (Variable i') e = absurd (differ 5 2 refl (ap (λ g. num (head g)) e))
+  expr_one (Call r es) (Negate x') e = absurd (differ 5 3 refl (ap (λ g. num (head g)) e))
+  expr_one (Call r es) (Chain first' ls') e = absurd (differ 5 4 refl (ap (λ g. num (head g)) e))
   expr_one (Call r es) (Call r' es') e = (λ k. Call (routine_one r r' (ap (λ g. head (tail g)) e) k) (exprs_one es es' (ap (λ g. tail (tail g)) e) k))
 
   links_one : (a b : Links) → links_code a ≡ links_code b → a ≡ b
@@ -134,11 +149,25 @@ mutual
 abbrev pub coded_routine : Coded Routine
 coded_routine = record { code = routine_code; inj = routine_one }
 
-abbrev pub object_parts : Object → (List (List ℕ) × ℕ) ⊎ ((ℕ × ℕ) × Routine)
+abbrev pub type_code : SqlType → Gv
+type_code Integer = gnum 0
+
+pub type_one : (a b : SqlType) → type_code a ≡ type_code b → a ≡ b
+type_one Integer Integer e = refl
+
+abbrev pub coded_type : Coded SqlType
+coded_type = record { code = type_code; inj = type_one }
+
+abbrev pub coded_column : Coded ColumnType
+coded_column =
+    code_by (List ℕ × (SqlType × Bool)) (coded× (coded_list coded_ℕ) (coded× coded_type coded_bool)) (λ c. (c.name, (c.data_type, c.not_null)))
+    (λ p. record { name = p.0; data_type = p.1.0; not_null = p.1.1 }) (λ _. refl)
+
+abbrev pub object_parts : Object → (List ColumnType × ℕ) ⊎ ((ℕ × ℕ) × Routine)
 object_parts (TableObject columns key) = inl (columns, key)
 object_parts (FunctionObject f) = inr ((f.parameters, f.height), f.routine)
 
-abbrev pub object_from : (List (List ℕ) × ℕ) ⊎ ((ℕ × ℕ) × Routine) → Object
+abbrev pub object_from : (List ColumnType × ℕ) ⊎ ((ℕ × ℕ) × Routine) → Object
 object_from (inl p) = TableObject p.0 p.1
 object_from (inr p) = FunctionObject (record { parameters = p.0.0; height = p.0.1; routine = p.1 })
 
@@ -148,7 +177,7 @@ object_back (FunctionObject f) = refl
 
 abbrev pub coded_object : Coded Object
 coded_object =
-    code_by ((List (List ℕ) × ℕ) ⊎ ((ℕ × ℕ) × Routine)) (coded⊎ (coded× (coded_list (coded_list coded_ℕ)) coded_ℕ) (coded× (coded× coded_ℕ coded_ℕ) coded_routine))
+    code_by ((List ColumnType × ℕ) ⊎ ((ℕ × ℕ) × Routine)) (coded⊎ (coded× (coded_list coded_column) coded_ℕ) (coded× (coded× coded_ℕ coded_ℕ) coded_routine))
     object_parts object_from object_back
 
 abbrev pub coded_entry : Coded Entry
@@ -159,7 +188,7 @@ coded_value = record { code = value_code; inj = value_one }
 
 abbrev pub coded_table : Coded Table
 coded_table =
-    code_by (List (List ℕ) × (ℕ × List Row)) (coded× (coded_list (coded_list coded_ℕ)) (coded× coded_ℕ (coded_list (coded_list coded_value))))
+    code_by (List ColumnType × (ℕ × List Row)) (coded× (coded_list coded_column) (coded× coded_ℕ (coded_list (coded_list coded_value))))
     (λ t. (t.columns, (t.key, t.rows))) (λ p. record { columns = p.0; key = p.1.0; rows = p.1.1 }) (λ _. refl)
 
 abbrev pub coded_stored : Coded Stored

@@ -1,5 +1,5 @@
 -- What a valid statement replies, and the database that it leaves.
-use Rattle.std.specs.Prelude.{ℕ, ◌≡◌, List, [], ◌∷◌, ◌++◌, Option, Some, None}
+use Rattle.std.specs.Prelude.{ℕ, List, [], ◌∷◌, ◌++◌}
 use Rattle.rel_algebra.specs.Tables.{Tables}
 use Rattle.rel_algebra.specs.World.{World, Ends, Gives, Raises}
 use Rattle.rel_algebra.specs.Meaning.{answer, insert}
@@ -38,8 +38,3 @@ abbrev pub effect : Statement → Plain → Effect
 effect (Creates e) db = created e db
 effect (Inserts name rows) db = replied count_text db (insert name rows (world_of db))
 effect (Asks query) db = replied rows_text db (answer query (world_of db))
-
--- what a statement does that is valid, or not
-abbrev pub Executes : Option Statement → Plain → Plain → Option (List ℕ) → Type 0
-Executes None before after reply = (reply ≡ None) × (after ≡ before)
-Executes (Some s) before after reply = (reply ≡ Some (effect s before).reply) × (after ≡ (effect s before).after)

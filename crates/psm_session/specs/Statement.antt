@@ -1,35 +1,49 @@
 -- One statement of a script: its reply, where the next one begins, and the database that it leaves.
-use Rattle.std.specs.Prelude.{ℕ, ◌≡◌, ◌⊎◌, List, length, Some, None}
+use Rattle.std.specs.Prelude.{ℕ, ◌≡◌, ◌⊎◌, List, length}
 use Rattle.sql_lex.specs.Tokens.{Lexing}
 use Rattle.sql_lex.specs.Openings.{place_at}
 use Rattle.syntax_trees.specs.declared.statement.Stmt.{Stmt}
-use Rattle.token_grammar.specs.Statement.{SpellsWithin, most_open}
+use Rattle.token_grammar.specs.Statement.{SpellsWithin, ReadsNothing, IsStuck, IsTooDeep, most_open}
 use Rattle.sql_grammar.specs.Sql.{rules, statement}
-use Rattle.sql_names.specs.Statements.{Statement as Valid, resolved_statement}
-use Rattle.reply_text.specs.Texts.{refusal_text}
+use Rattle.sql_names.specs.Statements.{resolved_statement}
+use Rattle.reply_text.specs.declared.reply.FaultText.{FaultText}
+use Rattle.reply_text.specs.declared.reply.FaultText.TheVariants.{Syntax, TooDeep}
+use Rattle.reply_text.specs.Texts.{fault_text}
 use Rattle.psm_session.specs.Database.{Plain}
-use Rattle.psm_session.specs.Effects.{effect}
+use Rattle.psm_session.specs.Executing.{HasEffect, HasFault}
 
 -- the tree is spelled by the tokens from one up to another, with its `;` last
 abbrev pub Reads : Lexing → ℕ → Stmt → ℕ → Type 0
 Reads lexing at tree to = SpellsWithin rules most_open statement lexing.tokens at tree to
 
+-- The tokens begin a statement up to this place and no further: for no want of constructs, or for want of one more, which the token there opens.
+abbrev pub Stops : Lexing → ℕ → FaultText → ℕ → Type 0
+Stops lexing at why place = ((why ≡ Syntax) × IsStuck rules most_open statement lexing.tokens at place)
+    ⊎ ((why ≡ TooDeep) × IsTooDeep rules most_open statement lexing.tokens at place)
+
 -- a valid statement stands there, and is done
 pub record IsDone (lexing : Lexing) (at : ℕ) (before : Plain) (reply : List ℕ) (to : ℕ) (after : Plain) : Type 0 where
   pub tree : Stmt
   pub reads : Reads lexing at tree to
-  pub valid : Valid
-  pub is : resolved_statement before.catalog tree ≡ Some valid
-  pub replies : reply ≡ (effect valid before).reply
-  pub leaves : after ≡ (effect valid before).after
+  pub does : HasEffect (resolved_statement before.catalog tree) before reply after
 
--- No valid statement stands there. The reply has the place of the token; nothing changes, and the script ends.
-pub record IsRefused (lexing : Lexing) (at : ℕ) (before : Plain) (reply : List ℕ) (to : ℕ) (after : Plain) : Type 0 where
-  pub none : (tree : Stmt) (end : ℕ) → Reads lexing at tree end → resolved_statement before.catalog tree ≡ None
-  pub replies : reply ≡ refusal_text (place_at lexing at).0 (place_at lexing at).1
+-- a statement with faults stands there: the script goes on behind it
+pub record IsFaulty (lexing : Lexing) (at : ℕ) (before : Plain) (reply : List ℕ) (to : ℕ) (after : Plain) : Type 0 where
+  pub tree : Stmt
+  pub reads : Reads lexing at tree to
+  pub fails : HasFault (resolved_statement before.catalog tree) before reply after
+
+-- No statement stands there. The reply says why, with the place up to which one begins; nothing changes, and the script ends.
+pub record IsUnread (lexing : Lexing) (at : ℕ) (before : Plain) (reply : List ℕ) (to : ℕ) (after : Plain) : Type 0 where
+  pub nothing : ReadsNothing rules most_open statement lexing.tokens at
+  pub why : FaultText
+  pub place : ℕ
+  pub stops : Stops lexing at why place
+  pub replies : reply ≡ fault_text why (place_at lexing place).0 (place_at lexing place).1
   pub ends : to ≡ length lexing.tokens
   pub leaves : after ≡ before
 
 -- the statement at a token
 abbrev pub Statement : Lexing → ℕ → Plain → List ℕ → ℕ → Plain → Type 0
-Statement lexing at before reply to after = IsDone lexing at before reply to after ⊎ IsRefused lexing at before reply to after
+Statement lexing at before reply to after = IsDone lexing at before reply to after
+    ⊎ (IsFaulty lexing at before reply to after ⊎ IsUnread lexing at before reply to after)

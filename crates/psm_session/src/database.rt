@@ -2,10 +2,12 @@
 
 ghost use Rattle.std.specs.Prelude.{◌≡◌, IfOk, OnErr};
 ghost use Rattle.sql_names.specs.Statements.{resolved_statement};
+ghost use Rattle.psm_session.specs.Executing.{reply_to, text_for};
 
 use crate::effect::run_bound;
 use catalog_store::Entry;
-use reply_text::Reply;
+use name_faults::{Fault, FaultKind};
+use reply_text::{FaultText, Reply, fault_reply};
 use sql_names::{NameFault, bind_statement};
 use sql_values::NoMemory;
 use std::alloc::Global;
@@ -36,7 +38,7 @@ impl Model for Database {
 
 impl Database {
     ghost use Rattle.psm_session.specs.Database.{empty};
-    ghost use Rattle.psm_session.specs.Effects.{Executes};
+    ghost use Rattle.psm_session.specs.Executing.{Executes};
 
     /// A database without tables and functions.
     pub fn new(alloc: Global) -> Database
@@ -48,16 +50,36 @@ impl Database {
         }
     }
 
-    /// Does a statement, and answers its reply; `None` exactly where it is not valid in this catalog, and then nothing changes. Without memory
-    /// nothing changes either.
-    pub fn exec_statement(&mut self, alloc: Global, stmt: &Stmt) -> Result<Option<Reply>, NoMemory>
-        ensures ok { IfOk result (λ reply. Executes (resolved_statement self.old.catalog stmt.now) self.old self.new reply) }
+    /// Does a statement, and answers its reply. A statement with faults in this catalog changes nothing, and its reply is the least of them.
+    /// Without memory nothing changes either.
+    pub fn exec_statement(&mut self, alloc: Global, stmt: &Stmt) -> Result<Reply, NoMemory>
+        ensures ok { IfOk result (λ reply. Executes (resolved_statement self.old.catalog stmt.now) self.old reply self.new) }
         ensures err { OnErr result (self.new ≡ self.old) }
     {
         match bind_statement(alloc, stmt, &self.catalog) {
-            Ok(bound) => Ok(Some(run_bound(alloc, bound, &mut self.catalog, &mut self.tables)?)),
-            Err(NameFault::NotValid) => Ok(None),
+            Ok(bound) => run_bound(alloc, bound, &mut self.catalog, &mut self.tables),
+            Err(NameFault::Fault(fault)) => name_fault_reply(alloc, fault),
             Err(NameFault::NoMemory) => Err(NoMemory),
         }
+    }
+}
+
+// The reply to a fault of names, with its place.
+fn name_fault_reply(alloc: Global, fault: Fault) -> Result<Reply, NoMemory>
+    ensures { IfOk result (λ r. r ≡ reply_to fault) }
+{
+    fault_reply(alloc, text_for(fault.kind), fault.at.line, fault.at.column)
+}
+
+fn text_for(kind: FaultKind) -> FaultText
+    ensures { result ≡ text_for kind }
+{
+    match kind {
+        FaultKind::UnknownName => FaultText::UnknownName,
+        FaultKind::DuplicateName => FaultText::DuplicateName,
+        FaultKind::TypeMismatch => FaultText::TypeMismatch,
+        FaultKind::WrongCount => FaultText::WrongCount,
+        FaultKind::NotPermitted => FaultText::NotPermitted,
+        FaultKind::TooHigh => FaultText::TooHigh,
     }
 }

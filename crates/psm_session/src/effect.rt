@@ -13,19 +13,20 @@ use bound_trees::{BoundExpr, BoundInsert, BoundQuery};
 use catalog_store::{Entry, Object, grows_at_its_end};
 use psm_interp::{Stop, run_insert, run_query};
 use reply_text::{Reply, condition_reply, count_reply, done_reply, rows_reply};
+use row_types::ColumnType;
 use sql_names::BoundStmt;
 use sql_values::{Name, NoMemory};
 use sqlite_items::Items;
 use std::alloc::Global;
 use table_store::{Table, Tables};
 
-// The columns' names once more.
-fn copied_names(alloc: Global, names: &[Name]) -> Result<Items<Name>, NoMemory>
-    ensures { IfOk result (λ copies. copies ≡ names.now) }
+// The columns once more.
+fn copied_columns(alloc: Global, columns: &[ColumnType]) -> Result<Items<ColumnType>, NoMemory>
+    ensures { IfOk result (λ copies. copies ≡ columns.now) }
 {
     let mut copies = Items::new(alloc);
-    for name in names {
-        copies.push(name.copied()?)?;
+    for column in columns {
+        copies.push(column.copied()?)?;
     }
     Ok(copies)
 }
@@ -37,7 +38,7 @@ fn add_table(alloc: Global, entry: &Entry, tables: &mut Tables) -> Result<(), No
 {
     match &entry.object {
         Object::Table(table) => {
-            let columns = copied_names(alloc, table.columns.as_slice())?;
+            let columns = copied_columns(alloc, table.columns.as_slice())?;
             let name = entry.name.copied()?;
             tables.add(name, Table::new(alloc, columns, table.key))
         }

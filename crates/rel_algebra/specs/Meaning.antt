@@ -2,9 +2,10 @@
 use Rattle.std.specs.Prelude.{ℕ, Bool, true, false, List, [], ◌∷◌, Option, Some, None, slice_index_or, length}
 use Rattle.sql_values.specs.declared.value.Value.{Value}
 use Rattle.sql_values.specs.declared.value.Value.TheVariants.{Null}
+use Rattle.sql_values.specs.Values.{negation_of}
 use Rattle.sql_values.specs.Operators.{applied, compared}
 use Rattle.sql_conditions.specs.declared.Condition.TheVariants.{ConstraintViolated}
-use Rattle.rel_algebra.specs.Tree.{Expr, Literal, Column, Variable, Chain, Call, Links, NoLink, MoreLinks, Exprs, NoExpr, MoreExprs, Routine, Returns, Filter, NoFilter, Where, Query, Select, Rows, NoRow, MoreRows}
+use Rattle.rel_algebra.specs.Tree.{Expr, Literal, Column, Variable, Negate, Chain, Call, Links, NoLink, MoreLinks, Exprs, NoExpr, MoreExprs, Routine, Returns, Filter, NoFilter, Where, Query, Select, Values, Rows, NoRow, MoreRows}
 use Rattle.rel_algebra.specs.Tables.{Row, Table, table_named, rows_named, with_rows, inserted}
 use Rattle.rel_algebra.specs.World.{Frame, Eval, Gives, ◌>>=◌, give, raise, unit, outcome, column_of, each_row}
 
@@ -14,6 +15,9 @@ abbrev mutual
   ev (Literal v) rows frame = give v
   ev (Column i) rows frame = give (column_of i rows)
   ev (Variable i) rows frame = give (slice_index_or frame i Null)
+  ev (Negate e) rows frame = do
+    v ← ev e rows frame
+    outcome (negation_of v)
   ev (Chain e links) rows frame = do
     v ← ev e rows frame
     ev_links links v rows frame
@@ -55,18 +59,20 @@ record_where true items row = do
   values ← ev_all items (row ∷ []) []
   give (Some values)
 
--- for each row of the table, in key order: the WHERE, and then the select list
-abbrev pub answer : Query → Eval (List Row)
-answer (Select items name filter) = λ w. each_row (λ row. do
-  keep ← is_kept filter row
-  record_where keep items row) (rows_named name w.tables) w
-
+-- the rows of VALUES, in turn; no name is in sight
 abbrev pub ev_rows : Rows → Eval (List Row)
 ev_rows NoRow = give []
 ev_rows (MoreRows row rows) = do
   values ← ev_all row [] []
   more ← ev_rows rows
   give (values ∷ more)
+
+-- for each row of the table, in key order: the WHERE, and then the select list
+abbrev pub answer : Query → Eval (List Row)
+answer (Select items name filter) = λ w. each_row (λ row. do
+  keep ← is_kept filter row
+  record_where keep items row) (rows_named name w.tables) w
+answer (Values rows) = ev_rows rows
 
 abbrev pub keep_rows : Option (List Row) → List ℕ → Eval (Unit {0})
 keep_rows None name = raise ConstraintViolated
@@ -75,7 +81,7 @@ keep_rows (Some rows) name = λ w. Gives tt (record w { tables = with_rows name 
 -- new rows in a table
 abbrev pub store_in : Option Table → List ℕ → List Row → Eval (Unit {0})
 store_in None name new = give tt
-store_in (Some t) name new = keep_rows (inserted t.key t.rows new) name
+store_in (Some t) name new = keep_rows (inserted t.columns t.key t.rows new) name
 
 -- All rows are evaluated, and then stored; it gives how many there are.
 abbrev pub insert : List ℕ → Rows → Eval ℕ

@@ -1,7 +1,8 @@
 -- Tables: their columns and key, and a list of rows in increasing key order. ISO/IEC 9075-2, 4.14 (tables) and 14.11 (insert statement).
-use Rattle.std.specs.Prelude.{ℕ, ◌||◌, Bool, true, false, List, [], ◌∷◌, ◌++◌, slice_index_or, if◌then◌else◌, Option, Some, None}
+use Rattle.std.specs.Prelude.{ℕ, ◌||◌, ◌&&◌, Bool, true, false, List, [], ◌∷◌, ◌++◌, slice_index_or, if◌then◌else◌, Option, Some, None}
 use Rattle.std.specs.List.{list_any}
 use Rattle.std.specs.Str.{bytes_eq}
+use Rattle.row_types.specs.declared.ColumnType.{ColumnType}
 use Rattle.sql_values.specs.declared.value.Value.{Value}
 use Rattle.sql_values.specs.declared.value.Value.TheVariants.{Null, Int}
 use Rattle.sql_values.specs.declared.operators.Comparison.TheVariants.{Equals, LessThan}
@@ -10,9 +11,9 @@ use Rattle.sql_values.specs.Operators.{compared}
 abbrev pub Row : Type 0
 Row = List Value
 
--- the columns' names, the place of the key column, and the rows
+-- the columns, the place of the key column, and the rows
 pub record Table : Type 0 where
-  pub columns : List (List ℕ)
+  pub columns : List ColumnType
   pub key : ℕ
   pub rows : List Row
 
@@ -30,6 +31,12 @@ has_key key value row = compared Equals value (key_of key row)
 abbrev pub has_null_key : ℕ → Row → Bool
 has_null_key key row = is_null (key_of key row)
 
+-- a column that takes no NULL has one
+abbrev pub lacks_value : List ColumnType → Row → Bool
+lacks_value [] row = false
+lacks_value (c ∷ cs) [] = false
+lacks_value (c ∷ cs) (v ∷ vs) = (c.not_null && is_null v) || lacks_value cs vs
+
 -- some row has the key of an earlier one
 abbrev pub repeats_key : ℕ → List Row → Bool
 repeats_key key [] = false
@@ -45,10 +52,11 @@ abbrev pub in_key_order : ℕ → List Row → List Row
 in_key_order key [] = []
 in_key_order key (row ∷ rows) = put key row (in_key_order key rows)
 
--- A table's rows with new ones. There are none where a new row's key is NULL, or where a key stands twice in the whole result.
-abbrev pub inserted : ℕ → List Row → List Row → Option (List Row)
-inserted key rows new =
-    if list_any (has_null_key key) new || repeats_key key (rows ++ new) then None else Some (in_key_order key (rows ++ new))
+-- A table's rows with new ones. There are none where a new row lacks a value or its key is NULL, or where a key stands twice in the whole result.
+abbrev pub inserted : List ColumnType → ℕ → List Row → List Row → Option (List Row)
+inserted columns key rows new =
+    if list_any (λ row. lacks_value columns row || has_null_key key row) new || repeats_key key (rows ++ new) then None
+    else Some (in_key_order key (rows ++ new))
 
 -- A finite map of names to tables.
 pub record Stored : Type 0 where

@@ -11,6 +11,8 @@ mutual
     Column : ℕ → Expr
     -- a parameter, by its slot in the frame
     Variable : ℕ → Expr
+    -- the number with the other sign
+    Negate : Expr → Expr
     -- a chain of operators, read from the left
     Chain : Expr → Links → Expr
     Call : Routine → Exprs → Expr
@@ -32,11 +34,12 @@ pub data Filter : Type 0 where
   NoFilter : Filter
   Where : Expr → Comparison → Expr → Filter
 
--- the select list, the table's name, and the WHERE
-pub data Query : Type 0 where
-  Select : Exprs → List ℕ → Filter → Query
-
--- the rows of an INSERT
+-- the rows of VALUES
 pub data Rows : Type 0 where
   NoRow : Rows
   MoreRows : Exprs → Rows → Rows
+
+pub data Query : Type 0 where
+  -- the select list, the table's name, and the WHERE
+  Select : Exprs → List ℕ → Filter → Query
+  Values : Rows → Query

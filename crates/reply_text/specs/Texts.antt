@@ -6,6 +6,8 @@ use Rattle.sql_values.specs.declared.value.Value.{Value}
 use Rattle.sql_values.specs.declared.value.Value.TheVariants.{Null, Int}
 use Rattle.sql_conditions.specs.declared.Condition.{Condition}
 use Rattle.sql_conditions.specs.Conditions.{state_of, text_of}
+use Rattle.reply_text.specs.declared.reply.FaultText.{FaultText}
+use Rattle.reply_text.specs.declared.reply.FaultText.TheVariants.{UnknownName, DuplicateName, TypeMismatch, WrongCount, NotPermitted, TooHigh, Syntax, TooDeep}
 
 -- a field: a decimal integer, or NULL
 abbrev pub value_text : Value → List ℕ
@@ -39,6 +41,17 @@ done_text = codes "00000\n"
 abbrev pub condition_text : Condition → List ℕ
 condition_text c = codes "! " ++ state_of c ++ codes " " ++ text_of c ++ codes "\n"
 
--- what is no valid statement, by the place of its first token
-abbrev pub refusal_text : ℕ → ℕ → List ℕ
-refusal_text line column = codes "! 42000 not permitted at line " ++ decimal line ++ codes " column " ++ decimal column ++ codes "\n"
+-- what a script is refused for, in words of this engine's own
+abbrev pub kind_text : FaultText → List ℕ
+kind_text UnknownName = codes "unknown name"
+kind_text DuplicateName = codes "duplicate name"
+kind_text TypeMismatch = codes "type mismatch"
+kind_text WrongCount = codes "wrong count"
+kind_text NotPermitted = codes "not permitted"
+kind_text TooHigh = codes "too high"
+kind_text Syntax = codes "syntax error"
+kind_text TooDeep = codes "nesting too deep"
+
+-- a fault of the script, with its line and column: the state of a syntax error or access rule violation (ISO/IEC 9075-2, 24.1)
+abbrev pub fault_text : FaultText → ℕ → ℕ → List ℕ
+fault_text kind line column = codes "! 42000 " ++ kind_text kind ++ codes " at line " ++ decimal line ++ codes " column " ++ decimal column ++ codes "\n"

@@ -4,4 +4,6 @@
 mod record;
 mod reply;
 
-pub use reply::{Reply, condition_reply, count_reply, done_reply, refusal_reply, rows_reply};
+pub use reply::{
+    FaultText, Reply, condition_reply, count_reply, done_reply, fault_reply, rows_reply,
+};

@@ -2,7 +2,7 @@
 
 ghost use Rattle.std.specs.Prelude.{◌≡◌, ◌++◌, IfOk, OnOk, length};
 ghost use Rattle.std.specs.List.{flat_map};
-ghost use Rattle.reply_text.specs.Texts.{record_text, count_text, rows_text, done_text, condition_text, refusal_text};
+ghost use Rattle.reply_text.specs.Texts.{record_text, count_text, rows_text, done_text, condition_text, kind_text, fault_text};
 
 use crate::record::{put, put_count, put_record};
 use sql_conditions::Condition;
@@ -93,14 +93,60 @@ pub fn condition_reply(alloc: Global, condition: Condition) -> Result<Reply, NoM
     Ok(Reply { text })
 }
 
-/// The reply where no valid statement stands at a place: its line and column, both from 1.
-pub fn refusal_reply(alloc: Global, line: u64, column: u64) -> Result<Reply, NoMemory>
-    ensures { IfOk result (λ r. r ≡ refusal_text line column) }
+/// What a script is refused for. The texts are this engine's own.
+#[derive(Clone, Copy, Debug, PartialEq, Eq)]
+pub enum FaultText {
+    /// Nothing of that name is in sight.
+    UnknownName,
+    /// The name is taken.
+    DuplicateName,
+    /// A value is of another type than is wanted there.
+    TypeMismatch,
+    /// There are more or fewer than are wanted there.
+    WrongCount,
+    /// This may not stand there.
+    NotPermitted,
+    /// A function calls too many levels deep.
+    TooHigh,
+    /// No statement is spelled there.
+    Syntax,
+    /// More constructs are open than may be.
+    TooDeep,
+}
+
+impl FaultText {
+    /// The text.
+    pub fn text(self) -> &'static str
+        ensures { result.now ≡ kind_text self }
+    {
+        match self {
+            FaultText::UnknownName => "unknown name",
+            FaultText::DuplicateName => "duplicate name",
+            FaultText::TypeMismatch => "type mismatch",
+            FaultText::WrongCount => "wrong count",
+            FaultText::NotPermitted => "not permitted",
+            FaultText::TooHigh => "too high",
+            FaultText::Syntax => "syntax error",
+            FaultText::TooDeep => "nesting too deep",
+        }
+    }
+}
+
+/// The reply to a fault: its text with its place, a line and a column, both from 1.
+pub fn fault_reply(
+    alloc: Global,
+    text: FaultText,
+    line: u64,
+    column: u64,
+) -> Result<Reply, NoMemory>
+    ensures { IfOk result (λ r. r ≡ fault_text text line column) }
 {
-    let mut text = Vec::from_slice(alloc, b"! 42000 not permitted at line ")?;
-    put_count(&mut text, line)?;
-    put(&mut text, b" column ")?;
-    put_count(&mut text, column)?;
-    put(&mut text, b"\n")?;
-    Ok(Reply { text })
+    let mut bytes = Vec::from_slice(alloc, b"! 42000 ")?;
+    put(&mut bytes, text.text().as_bytes())?;
+    put(&mut bytes, b" at line ")?;
+    put_count(&mut bytes, line)?;
+    put(&mut bytes, b" column ")?;
+    put_count(&mut bytes, column)?;
+    put(&mut bytes, b"\n")?;
+    Ok(Reply { text: bytes })
 }

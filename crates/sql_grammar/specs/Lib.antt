@@ -1,2 +1,3 @@
 pub mod Sql
 pub mod Decides
+pub mod Openings

@@ -17,6 +17,13 @@ use Rattle.syntax_trees.specs.declared.expr.Expr.{Expr}
 use Rattle.syntax_trees.specs.declared.expr.Expr.TheVariants as e
 use Rattle.syntax_trees.specs.declared.expr.Link.{Link, roll-Link}
 use Rattle.syntax_trees.specs.declared.query.Query.{Query}
+use Rattle.syntax_trees.specs.declared.query.Query.TheVariants as q
+use Rattle.syntax_trees.specs.declared.query.Select.{Select}
+use Rattle.syntax_trees.specs.declared.query.Values.{Values}
+use Rattle.syntax_trees.specs.declared.expr.UnarySign.{UnarySign}
+use Rattle.syntax_trees.specs.declared.expr.UnarySign.TheVariants as unary
+use Rattle.syntax_trees.specs.declared.statement.Constraint.{Constraint}
+use Rattle.syntax_trees.specs.declared.statement.Constraint.TheVariants as constraint
 use Rattle.syntax_trees.specs.declared.query.Test.{Test}
 use Rattle.syntax_trees.specs.declared.statement.Stmt.{Stmt}
 use Rattle.syntax_trees.specs.declared.statement.Stmt.TheVariants as stmt
@@ -34,12 +41,14 @@ pub data Rule : Type 0 where
   Parameters : Rule
   Arguments : Rule
   Row : Rule
+  Bracketed : Rule
 
 abbrev pub Tree : Rule → Type 0
 Tree Columns = List Column
 Tree Parameters = List Parameter
 Tree Arguments = List Expr
 Tree Row = List Expr
+Tree Bracketed = Expr
 
 abbrev pub G : Type 0 → Type 1
 G A = Grammar Rule Tree A
@@ -72,7 +81,9 @@ unfoldable pub ident : G Ident
 ident = ident_of => name
 
 unfoldable pub integer : G SqlType
-integer = (λ t. sql.Integer) => word w.Integer
+integer =
+    (λ t. sql.Integer) => word w.Integer
+    or (λ t. sql.Integer) => word w.Int
 
 -- ---- expressions
 
@@ -85,6 +96,22 @@ primary =
     (λ t. e.Number (anchor_of t) (number_of t.lexeme)) => number
     or (λ t. e.Null (anchor_of t)) => word w.Null
     or named
+    or bracketed Bracketed
+
+unfoldable pub unary_sign : G (UnarySign × Anchor)
+unary_sign =
+    (λ t. (unary.Plus, anchor_of t)) => sign s.Plus
+    or (λ t. (unary.Minus, anchor_of t)) => sign s.Minus
+
+unfoldable pub if_sign : G (Option (UnarySign × Anchor))
+if_sign = optional unary_sign
+
+abbrev pub with_sign : Option (UnarySign × Anchor) → Expr → Expr
+with_sign None x = x
+with_sign (Some p) x = e.Signed p.1 p.0 x
+
+unfoldable pub signed : G Expr
+signed = (λ p. with_sign p.0 p.1) => if_sign ~ primary
 
 unfoldable pub factor_operator : G (Operator × Anchor)
 factor_operator =
@@ -92,13 +119,13 @@ factor_operator =
     or (λ t. (op.Divide, anchor_of t)) => sign s.Solidus
 
 unfoldable pub factor : G Link
-factor = link => factor_operator ~ primary
+factor = link => factor_operator ~ signed
 
 unfoldable pub factors : G (List Link)
 factors = many factor
 
 unfoldable pub term : G Expr
-term = (λ p. chain p.0 p.1) => primary ~ factors
+term = (λ p. chain p.0 p.1) => signed ~ factors
 
 unfoldable pub addend_operator : G (Operator × Anchor)
 addend_operator =
@@ -153,13 +180,11 @@ selection = exprs ~ source
 unfoldable pub select_word : G Anchor
 select_word = anchor_of => word w.Select
 
-abbrev pub query_of : Anchor × (List Expr × (Ident × Option Test)) → Query
-query_of p = record { anchor = p.0; items = p.1.0; table = p.1.1.0; filter = p.1.1.1 }
+abbrev pub select_of : Anchor × (List Expr × (Ident × Option Test)) → Select
+select_of p = record { anchor = p.0; items = p.1.0; table = p.1.1.0; filter = p.1.1.1 }
 
-unfoldable pub query : G Query
-query = query_of => select_word ~ selection
-
--- ---- INSERT
+unfoldable pub select : G Select
+select = select_of => select_word ~ selection
 
 unfoldable pub row : G (List Expr)
 row = bracketed Row
@@ -170,11 +195,19 @@ more_rows = many (sign s.Comma ~> row)
 unfoldable pub rows : G (List (List Expr))
 rows = (λ p. p.0 ∷ p.1) => row ~ more_rows
 
-unfoldable pub inserted_rows : G (List (List Expr))
-inserted_rows = word w.Values ~> rows
+unfoldable pub values_word : G Anchor
+values_word = anchor_of => word w.Values
+
+unfoldable pub values : G Values
+values = (λ p. record { anchor = p.0; rows = p.1 }) => values_word ~ rows
+
+unfoldable pub query : G Query
+query = q.Select => select or q.Values => values
+
+-- ---- INSERT
 
 unfoldable pub insertion : G Insert
-insertion = (λ p. record { table = p.0; rows = p.1 }) => ident ~ inserted_rows
+insertion = (λ p. record { table = p.0; values = p.1 }) => ident ~ values
 
 unfoldable pub into_table : G Insert
 into_table = word w.Into ~> insertion
@@ -184,14 +217,23 @@ insert = word w.Insert ~> into_table
 
 -- ---- CREATE
 
-unfoldable pub primary_key : G (Option Anchor)
-primary_key = optional (anchor_of => word w.Primary <~ word w.Key)
+unfoldable pub not_null : G Constraint
+not_null = (λ t. constraint.NotNull) => word w.Not ~> word w.Null
 
-abbrev pub column_of : Ident × (SqlType × Option Anchor) → Column
-column_of p = record { name = p.0; data_type = p.1.0; primary_key = p.1.1 }
+unfoldable pub primary_key : G Constraint
+primary_key = (λ t. constraint.PrimaryKey (anchor_of t)) => word w.Primary <~ word w.Key
+
+unfoldable pub column_constraint : G Constraint
+column_constraint = not_null or primary_key
+
+unfoldable pub constraints : G (List Constraint)
+constraints = many column_constraint
+
+abbrev pub column_of : Ident × (SqlType × List Constraint) → Column
+column_of p = record { name = p.0; data_type = p.1.0; constraints = p.1.1 }
 
 unfoldable pub column : G Column
-column = column_of => ident ~ integer ~ primary_key
+column = column_of => ident ~ integer ~ constraints
 
 unfoldable pub more_columns : G (List Column)
 more_columns = many (sign s.Comma ~> column)
@@ -238,8 +280,15 @@ created = stmt.CreateTable => create_table or stmt.CreateFunction => create_func
 
 -- ---- statements
 
+-- data definition, and data change
+unfoldable pub ddl : G Stmt
+ddl = word w.Create ~> created
+
+unfoldable pub dml : G Stmt
+dml = stmt.Insert => insert
+
 unfoldable pub unended : G Stmt
-unended = word w.Create ~> created or stmt.Insert => insert or stmt.Query => query
+unended = ddl or dml or stmt.Query => query
 
 unfoldable pub statement : G Stmt
 statement = unended <~ sign s.Semicolon
@@ -250,3 +299,4 @@ rules Columns = columns
 rules Parameters = if_any => optional parameters
 rules Arguments = if_any => optional exprs
 rules Row = exprs
+rules Bracketed = expr

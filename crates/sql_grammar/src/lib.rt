@@ -31,3 +31,16 @@ impl Ending for Statements {
 
     ghost ends = { statement_ends };
 }
+
+ghost use Rattle.std.specs.Prelude.{ℕ, List, Result};
+ghost use Rattle.sql_lex.specs.declared.token.Token.{Token};
+ghost use Rattle.syntax_trees.specs.declared.statement.Stmt.{Stmt};
+ghost use Rattle.token_grammar.specs.declared.fault.ParseFault.{ParseFault};
+ghost use Rattle.token_grammar.specs.Statement.{Answers, most_open};
+ghost use Rattle.sql_grammar.specs.Openings.{OpensWhereTooDeep};
+ghost use Rattle.sql_grammar.specs.Sql.{rules, statement};
+
+/// Where a statement is too deep, the token there opens a construct by the tokens alone.
+pub fn opens_where_too_deep()
+    ensures { (tokens : List Token) (i : ℕ) (r : Result (Stmt × ℕ) ParseFault) → Answers rules most_open statement tokens i r → OpensWhereTooDeep tokens r }
+{}

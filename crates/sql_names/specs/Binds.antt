@@ -1,8 +1,9 @@
--- What a binder answers: the resolved tree at its view exactly where there is one, unless memory runs out.
-use Rattle.std.specs.Prelude.{◌≡◌, List, map, Option, Some, None, Result, Ok, Err}
+-- What a binder answers: the resolved tree at its view exactly where there is no fault, and else the least fault, unless memory runs out.
+use Rattle.std.specs.Prelude.{◌≡◌, List, [], map, Some, Result, Ok, Err}
 use Rattle.catalog_store.specs.Catalog.{routines}
 use Rattle.rel_algebra.specs.Tree.{Routine}
 use Rattle.catalog_store.specs.View.{tree_of, link_of, query_of, rows_of, entry_of, plain}
+use Rattle.name_faults.specs.Faults.{Noted, least}
 use Rattle.sql_names.specs.declared.fault.NameFault.{NameFault}
 use Rattle.sql_names.specs.declared.fault.NameFault.TheVariants as fault
 use Rattle.sql_names.specs.declared.sight.Sight.{Sight}
@@ -12,16 +13,17 @@ use Rattle.sql_names.specs.declared.expr.BoundLinks.{BoundLinks}
 use Rattle.sql_names.specs.declared.statement.BoundStmt.{BoundStmt}
 use Rattle.sql_names.specs.declared.statement.BoundStmt.TheVariants as bound
 use Rattle.sql_names.specs.Statements.{Statement, Creates, Inserts, Asks}
-use Rattle.sql_names.specs.Sight.{Seen, parameter_names}
+use Rattle.sql_names.specs.Sight.{Seen, parameter_names, names_of}
 use Rattle.sql_names.specs.Names.{Resolved, ResolvedAll, ResolvedLinks}
 
-abbrev pub Binds : {A B : Type 0} → Option A → (B → A) → Result B NameFault → Type 0
-Binds resolved view (Ok b) = resolved ≡ Some (view b)
-Binds resolved view (Err fault.NotValid) = resolved ≡ None
-Binds resolved view (Err fault.NoMemory) = Unit {0}
+-- want of memory says nothing of the statement
+abbrev pub Binds : {A B : Type 0} → Noted A → (B → A) → Result B NameFault → Type 0
+Binds noted view (Ok b) = (noted.faults ≡ []) × (noted.value ≡ view b)
+Binds noted view (Err (fault.Fault f)) = least noted.faults ≡ Some f
+Binds noted view (Err fault.NoMemory) = Unit {0}
 
 abbrev pub seen_by : Sight → Seen
-seen_by s = record { columns = s.columns.now; parameters = parameter_names s.parameters.now; catalog = plain s.catalog.now }
+seen_by s = record { columns = names_of s.columns.now; any_column = s.any_column; parameters = parameter_names s.parameters.now; catalog = plain s.catalog.now }
 
 abbrev pub bound_view : Sight → Bound → Resolved
 bound_view s b = record { tree = tree_of (routines (plain s.catalog.now)) b.expr; height = b.height }

@@ -1,151 +1,174 @@
-//! CREATE TABLE and CREATE FUNCTION.
+//! CREATE TABLE.
 
-ghost use Rattle.std.specs.Prelude.{◌≡◌, length, IfOk};
+ghost use Rattle.std.specs.Prelude.{◌≡◌, ◌||◌, false, [], map, position, IfOk, OnOk};
 ghost use Rattle.std.specs.List.{list_any};
 ghost use Rattle.std.specs.Str.{bytes_eq};
 ghost use Rattle.catalog_store.specs.Catalog.{routines};
 ghost use Rattle.catalog_store.specs.View.{plain, entry_of};
-ghost use Rattle.sql_names.specs.Sight.{parameter_names};
-ghost use Rattle.sql_names.specs.Statements.{resolved_table, resolved_function, column_names, repeats_name, is_taken, key_places, sole, function_with, in_function};
-ghost use Rattle.sql_names.specs.Names.{resolved};
-ghost use Rattle.sql_names.specs.Binds.{Binds};
+ghost use Rattle.name_faults.specs.Faults.{noted};
+ghost use Rattle.sql_names.specs.Statements.{resolved_table, taken, repeated, later_keys, keys_of};
+ghost use Rattle.sql_names.specs.Statements as spec;
 
-use crate::expr::bind_expr;
-use crate::fault::NameFault;
-use crate::sight::Sight;
-use catalog_store::{Entry, FunctionEntry, Object, TableEntry, find};
+use catalog_store::{Entry, Object, TableEntry, find};
+use name_faults::{Fault, FaultKind, note_if};
+use row_types::ColumnType;
 use sql_values::{Name, NoMemory};
 use sqlite_items::Items;
 use std::alloc::Global;
-use syntax_trees::{Column, CreateFunction, CreateTable, Parameter};
+use syntax_trees::{Column, Constraint, CreateTable, Ident};
 
-const MOST_HEIGHT: u32 = 8;
-
-fn is_taken(name: &Name, catalog: &[Entry]) -> bool
-    ensures { result ≡ is_taken name.now (plain catalog.now) }
+/// Whether what is to be made has a name that stands for something already.
+pub(crate) fn note_taken(ident: &Ident, catalog: &[Entry], least: &mut Option<Fault>)
+    ensures { least.new ≡ noted least.old (taken (plain catalog.now) ident.now) }
 {
-    match find(catalog, name) {
-        Some(_) => true,
-        None => false,
+    if let Some(_) = find(catalog, &ident.name) {
+        note_if(true, FaultKind::DuplicateName, ident.anchor, least);
     }
 }
 
-fn is_among(name: &Name, names: &[Name]) -> bool
-    ensures { result ≡ list_any (λ n. bytes_eq n name.now) names.now }
+fn is_not_null(constraint: Constraint) -> bool
+    ensures { result ≡ spec.is_not_null constraint }
 {
-    names.iter().any(|other| other.is(name))
+    match constraint {
+        Constraint::NotNull => true,
+        Constraint::PrimaryKey(_) => false,
+    }
 }
 
-// Whether some name is an earlier one.
-fn repeats(names: &[Name]) -> bool
-    ensures { result ≡ repeats_name names.now }
+fn is_primary_key(constraint: Constraint) -> bool
+    ensures { result ≡ spec.is_primary_key constraint }
 {
-    let mut rest = names;
-    'rest: while let [name, others @ ..] = rest {
-        if is_among(name, others) {
-            return true;
+    match constraint {
+        Constraint::NotNull => false,
+        Constraint::PrimaryKey(_) => true,
+    }
+}
+
+fn is_key(column: &Column) -> bool
+    ensures { result ≡ spec.is_key column.now }
+{
+    column
+        .constraints
+        .as_slice()
+        .iter()
+        .any(|constraint| is_primary_key(*constraint))
+}
+
+// Whether there is a key with this column, where there may be one already.
+fn has_key(has: bool, column: &Column) -> bool
+    ensures { result ≡ (has || spec.is_key column.now) }
+{
+    has || is_key(column)
+}
+
+// The place of the first column that is a key.
+fn key_place(columns: &[Column]) -> Option<usize>
+    ensures { result ≡ position spec.is_key columns.now }
+{
+    columns.iter().position(|column| is_key(column))
+}
+
+fn has_column(columns: &[Column], name: &Name) -> bool
+    ensures { result ≡ list_any (λ c. bytes_eq c.name.name name.now) columns.now }
+{
+    columns.iter().any(|column| column.name.name.is(name))
+}
+
+// Columns of a name that an earlier one has.
+fn note_repeated(columns: &[Column], least: &mut Option<Fault>)
+    ensures { least.new ≡ noted least.old (repeated [] (map (λ c. c.name) columns.now)) }
+{
+    for (place, column) in columns.iter().enumerate() {
+        let again = has_column(&columns[..place], &column.name.name);
+        note_if(again, FaultKind::DuplicateName, column.name.anchor, least);
+    }
+}
+
+// The primary keys of a column, where there may be one already.
+fn note_later_keys(has: bool, constraints: &[Constraint], least: &mut Option<Fault>)
+    ensures { least.new ≡ noted least.old (later_keys has constraints.now) }
+{
+    let mut has = has;
+    for constraint in constraints {
+        if let Constraint::PrimaryKey(anchor) = *constraint {
+            note_if(has, FaultKind::DuplicateName, anchor, least);
+            has = true;
         }
-        rest = others;
     }
-    false
 }
 
-fn copied_columns(alloc: Global, columns: &[Column]) -> Result<Items<Name>, NoMemory>
-    ensures { IfOk result (λ names. names ≡ column_names columns.now) }
+// A second primary key of the table, and each further one.
+fn note_keys(columns: &[Column], least: &mut Option<Fault>)
+    ensures { least.new ≡ noted least.old (keys_of false columns.now) }
 {
-    let mut names = Items::new(alloc);
+    let mut has = false;
     for column in columns {
-        names.push(column.name.name.copied()?)?;
+        note_later_keys(has, column.constraints.as_slice(), least);
+        has = has_key(has, column);
     }
-    Ok(names)
 }
 
-fn copied_parameters(alloc: Global, parameters: &[Parameter]) -> Result<Items<Name>, NoMemory>
-    ensures { IfOk result (λ names. names ≡ parameter_names parameters.now) }
+fn takes_no_null(column: &Column) -> bool
+    ensures { result ≡ list_any spec.is_not_null column.now.constraints }
 {
-    let mut names = Items::new(alloc);
-    for parameter in parameters {
-        names.push(parameter.name.name.copied()?)?;
-    }
-    Ok(names)
+    column
+        .constraints
+        .as_slice()
+        .iter()
+        .any(|constraint| is_not_null(*constraint))
 }
 
-/// A new table's entry. NotValid: the name is taken, two columns have one name, or there is not one primary key.
-pub fn bind_table(
+fn column_type(column: &Column) -> Result<ColumnType, NoMemory>
+    ensures { IfOk result (λ c. c ≡ spec.column_type column.now) }
+{
+    Ok(ColumnType {
+        name: column.name.name.copied()?,
+        data_type: column.data_type,
+        not_null: takes_no_null(column),
+    })
+}
+
+fn column_types(alloc: Global, columns: &[Column]) -> Result<Items<ColumnType>, NoMemory>
+    ensures { IfOk result (λ cs. cs ≡ map spec.column_type columns.now) }
+{
+    let mut found = Items::new(alloc);
+    for column in columns {
+        found.push(column_type(column)?)?;
+    }
+    Ok(found)
+}
+
+// All that is asked of the columns; the place of the key, 0 where there is none.
+fn judge_columns(create: &CreateTable, least: &mut Option<Fault>) -> usize
+    ensures key { result ≡ spec.key_or_first (position spec.is_key create.now.columns) }
+    ensures faults { least.new ≡ noted least.old (spec.column_faults create.now) }
+{
+    let columns = create.columns.as_slice();
+    note_repeated(columns, least);
+    note_keys(columns, least);
+    match key_place(columns) {
+        Some(place) => place,
+        None => {
+            note_if(true, FaultKind::NotPermitted, create.name.anchor, least);
+            0
+        }
+    }
+}
+
+/// A new table's entry, with its faults noted: the name is taken, two columns have one name, there is a second primary key, or none.
+pub(crate) fn bind_table(
     alloc: Global,
     create: &CreateTable,
     catalog: &[Entry],
-) -> Result<Entry, NameFault>
-    ensures { Binds (resolved_table (plain catalog.now) create.now) (entry_of (routines (plain catalog.now))) result }
+    least: &mut Option<Fault>,
+) -> Result<Entry, NoMemory>
+    ensures value { IfOk result (λ e. entry_of (routines (plain catalog.now)) e ≡ (resolved_table (plain catalog.now) create.now).value) }
+    ensures faults { OnOk result (least.new ≡ noted least.old (resolved_table (plain catalog.now) create.now).faults) }
 {
-    let columns = copied_columns(alloc, create.columns.as_slice())?;
-    if is_taken(&create.name.name, catalog) || repeats(columns.as_slice()) {
-        return Err(NameFault::NotValid);
-    }
-    match sole_key(create.columns.as_slice()) {
-        Some(key) => {
-            let name = create.name.name.copied()?;
-            let object = Object::Table(TableEntry { columns, key });
-            Ok(Entry { name, object })
-        }
-        None => Err(NameFault::NotValid),
-    }
-}
-
-// The place of the primary key, where there is one alone.
-fn sole_key(columns: &[Column]) -> Option<usize>
-    ensures { result ≡ sole (key_places 0 columns.now) }
-{
-    let mut key = None;
-    for (place, column) in columns.iter().enumerate() {
-        if column.primary_key.is_some() {
-            if key.is_some() {
-                return None;
-            }
-            key = Some(place);
-        }
-    }
-    key
-}
-
-// The function's result, within the limit of heights.
-fn bind_result(
-    alloc: Global,
-    create: &CreateFunction,
-    catalog: &[Entry],
-) -> Result<Entry, NameFault>
-    ensures { Binds (function_with create.now.name.name (length create.now.parameters) (resolved (in_function (parameter_names create.now.parameters) (plain catalog.now)) create.now.result)) (entry_of (routines (plain catalog.now))) result }
-{
-    let sight = Sight {
-        columns: &[],
-        parameters: create.parameters.as_slice(),
-        catalog,
-    };
-    let bound = bind_expr(alloc, &create.result, &sight)?;
-    if bound.height >= MOST_HEIGHT {
-        return Err(NameFault::NotValid);
-    }
+    note_taken(&create.name, catalog, least);
+    let key = judge_columns(create, least);
+    let columns = column_types(alloc, create.columns.as_slice())?;
     let name = create.name.name.copied()?;
-    let object = Object::Function(FunctionEntry {
-        parameters: create.parameters.len(),
-        height: bound.height + 1,
-        body: bound.expr,
-    });
+    let object = Object::Table(TableEntry { columns, key });
     Ok(Entry { name, object })
-}
-
-/// A new function's entry. NotValid: the name is taken, two parameters have one name, a name in its result stands for nothing, or its height is
-/// over 8.
-pub fn bind_function(
-    alloc: Global,
-    create: &CreateFunction,
-    catalog: &[Entry],
-) -> Result<Entry, NameFault>
-    ensures { Binds (resolved_function (plain catalog.now) create.now) (entry_of (routines (plain catalog.now))) result }
-{
-    let parameters = copied_parameters(alloc, create.parameters.as_slice())?;
-    if is_taken(&create.name.name, catalog) || repeats(parameters.as_slice()) {
-        return Err(NameFault::NotValid);
-    }
-    bind_result(alloc, create, catalog)
 }

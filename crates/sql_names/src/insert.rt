@@ -1,72 +1,47 @@
 //! INSERT.
 
-ghost use Rattle.std.specs.Prelude.{◌≡◌, map, IfOk};
+ghost use Rattle.std.specs.Prelude.{◌≡◌, IfOk, OnOk};
 ghost use Rattle.catalog_store.specs.Catalog.{routines};
-ghost use Rattle.catalog_store.specs.View.{plain, exprs_of, rows_of};
-ghost use Rattle.sql_names.specs.Statements.{resolved_insert, resolved_rows, all_rows};
-ghost use Rattle.sql_names.specs.Binds.{Binds};
+ghost use Rattle.catalog_store.specs.View.{plain, rows_of};
+ghost use Rattle.name_faults.specs.Faults.{noted};
+ghost use Rattle.sql_names.specs.Statements.{resolved_insert, table_faults, columns_of};
 
-use crate::expr::bind_exprs;
-use crate::fault::NameFault;
-use crate::sight::{Sight, table_columns};
-use bound_trees::{BoundExpr, BoundInsert};
+use crate::sight::table_columns;
+use crate::values::{bind_values, width_of};
+use bound_trees::BoundInsert;
 use catalog_store::Entry;
-use sqlite_items::Items;
+use name_faults::{Fault, FaultKind, note_if};
+use sql_values::NoMemory;
 use std::alloc::Global;
-use syntax_trees::{Expr, Insert};
+use syntax_trees::Insert;
 
-// The rows, each with so many expressions, in which no name is in sight but the catalog's functions.
-fn bind_rows(
-    alloc: Global,
-    rows: &[Items<Expr>],
-    width: usize,
-    catalog: &[Entry],
-) -> Result<Items<Items<BoundExpr>>, NameFault>
-    ensures { Binds (resolved_rows (plain catalog.now) width rows.now) (λ rs. map (exprs_of (routines (plain catalog.now))) rs) result }
-{
-    let sight = Sight {
-        columns: &[],
-        parameters: &[],
-        catalog,
-    };
-    let mut found = Items::new(alloc);
-    for row in rows {
-        let bound = bind_exprs(alloc, row.as_slice(), &sight)?;
-        if bound.exprs.len() != width {
-            return Err(NameFault::NotValid);
-        }
-        found.push(bound.exprs)?;
-    }
-    Ok(found)
-}
-
-/// An INSERT with its names resolved. NotValid: no table has the name, a row has not as many expressions as the table has columns, or a name
-/// stands for nothing.
-pub fn bind_insert(
-    alloc: Global,
-    insert: &Insert,
-    catalog: &[Entry],
-) -> Result<BoundInsert, NameFault>
-    ensures table { IfOk result (λ b. b.table ≡ insert.now.table.name) }
-    ensures rows { Binds (resolved_insert (plain catalog.now) insert.now) (λ b. rows_of (routines (plain catalog.now)) b.rows) result }
+// Whether the table is known, and has as many columns as the first row has expressions.
+fn judge_table(insert: &Insert, catalog: &[Entry], least: &mut Option<Fault>)
+    ensures { least.new ≡ noted least.old (table_faults (columns_of insert.now.table.name (plain catalog.now)) insert.now) }
 {
     match table_columns(catalog, &insert.table.name) {
-        Some(columns) => bind_into(alloc, insert, columns.len(), catalog),
-        None => Err(NameFault::NotValid),
+        Some(columns) => {
+            let wrong = width_of(insert.values.rows.as_slice()) != columns.len();
+            note_if(wrong, FaultKind::WrongCount, insert.values.anchor, least);
+        }
+        None => note_if(true, FaultKind::UnknownName, insert.table.anchor, least),
     }
 }
 
-// The rows of an INSERT into a table with so many columns.
-fn bind_into(
+/// An INSERT with its names resolved, and its faults noted: the table is not known, or has another number of columns than the first row has
+/// expressions; a later row has another length than the first; a name in it stands for nothing.
+pub(crate) fn bind_insert(
     alloc: Global,
     insert: &Insert,
-    width: usize,
     catalog: &[Entry],
-) -> Result<BoundInsert, NameFault>
+    least: &mut Option<Fault>,
+) -> Result<BoundInsert, NoMemory>
     ensures table { IfOk result (λ b. b.table ≡ insert.now.table.name) }
-    ensures rows { Binds (all_rows (resolved_rows (plain catalog.now) width insert.now.rows)) (λ b. rows_of (routines (plain catalog.now)) b.rows) result }
+    ensures rows { IfOk result (λ b. rows_of (routines (plain catalog.now)) b.rows ≡ (resolved_insert (plain catalog.now) insert.now).value) }
+    ensures faults { OnOk result (least.new ≡ noted least.old (resolved_insert (plain catalog.now) insert.now).faults) }
 {
-    let rows = bind_rows(alloc, insert.rows.as_slice(), width, catalog)?;
+    judge_table(insert, catalog, least);
+    let rows = bind_values(alloc, &insert.values, catalog, least)?;
     let table = insert.table.name.copied()?;
     Ok(BoundInsert { table, rows })
 }

@@ -8,10 +8,10 @@ use Rattle.token_grammar.specs.Grammar.{inside}
 use Rattle.token_grammar.specs.Reading.{nullable}
 use Rattle.token_grammar.specs.Statement.{SpellsWithin, Answers, most_open}
 use Rattle.token_grammar.proofs.Shapes.{least, spells_shorter, inside_shorter}
-use Rattle.sql_grammar.specs.Sql.{rules, statement, unended, insert, query, select_word}
+use Rattle.sql_grammar.specs.Sql.{rules, statement, unended, ddl, dml, insert, query, select, select_word, values, values_word}
 
 ends : nullable statement ≡ false
-unfolding statement unended insert query select_word
+unfolding statement unended ddl dml insert query select select_word values values_word
 ends = refl
 
 spelled_behind : (tokens : List Token) (i : ℕ) (tree : Stmt) (j : ℕ) → SpellsWithin rules most_open statement tokens i tree j → i < j

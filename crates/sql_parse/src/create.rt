@@ -1,43 +1,86 @@
 //! CREATE TABLE and CREATE FUNCTION.
 
 ghost use Rattle.std.specs.Prelude.{◌≡◌};
-ghost use Rattle.token_grammar.specs.Reading.{reading};
+ghost use Rattle.token_grammar.specs.Reading.{begins, first, reading};
 ghost use Rattle.token_grammar.specs.Reads.{Reads};
 ghost use Rattle.sql_grammar.specs.Sql as g;
 ghost use Rattle.sql_grammar.specs.Sql.{rules};
 
 use crate::expr::{expr, with_first};
-use crate::place::{anchor, ident, integer};
+use crate::place::{anchor_in, ident, integer};
 use sql_lex::{Kind, Sign, Word};
 use sql_values::SqlType;
 use sqlite_items::Items;
 use std::alloc::Global;
-use syntax_trees::{Anchor, Column, CreateFunction, CreateTable, Expr, Parameter, Stmt};
+use syntax_trees::{Column, Constraint, CreateFunction, CreateTable, Expr, Parameter, Stmt};
 use token_grammar::{Input, ParseError};
 
+#[tactic(auto, unfolding(sql_grammar::specs::Sql::not_null))]
+fn not_null(input: &mut Input<'_>, room: u32) -> Result<Constraint, ParseError>
+    ensures { Reads (reading rules room g.not_null input.old.rest.now) result input.new.rest.now }
+{
+    input.expect(Kind::Word(Word::Not))?;
+    input.expect(Kind::Word(Word::Null))?;
+    Ok(Constraint::NotNull)
+}
+
 #[tactic(auto, unfolding(sql_grammar::specs::Sql::primary_key))]
-fn primary_key(input: &mut Input<'_>, room: u32) -> Result<Option<Anchor>, ParseError>
+fn primary_key(input: &mut Input<'_>, room: u32) -> Result<Constraint, ParseError>
     ensures { Reads (reading rules room g.primary_key input.old.rest.now) result input.new.rest.now }
 {
-    let anchor = anchor(input);
-    if input.eat(Kind::Word(Word::Primary)) {
-        input.expect(Kind::Word(Word::Key))?;
-        return Ok(Some(anchor));
+    let token = input.expect(Kind::Word(Word::Primary))?;
+    let anchor = anchor_in(token);
+    input.expect(Kind::Word(Word::Key))?;
+    Ok(Constraint::PrimaryKey(anchor))
+}
+
+#[tactic(auto, unfolding(sql_grammar::specs::Sql::column_constraint, sql_grammar::specs::Sql::not_null))]
+fn column_constraint(input: &mut Input<'_>, room: u32) -> Result<Constraint, ParseError>
+    ensures { Reads (reading rules room g.column_constraint input.old.rest.now) result input.new.rest.now }
+{
+    if input.sees(Kind::Word(Word::Not)) {
+        not_null(input, room)
+    } else {
+        primary_key(input, room)
     }
-    Ok(None)
+}
+
+#[tactic(auto, unfolding(sql_grammar::specs::Sql::column_constraint, sql_grammar::specs::Sql::not_null, sql_grammar::specs::Sql::primary_key))]
+fn begins_constraint(input: &Input<'_>) -> bool
+    ensures { result ≡ begins (first g.column_constraint) input.now.rest.now }
+{
+    input.sees(Kind::Word(Word::Not)) || input.sees(Kind::Word(Word::Primary))
+}
+
+#[tactic(auto, unfolding(sql_grammar::specs::Sql::constraints, sql_grammar::specs::Sql::column_constraint))]
+fn constraints(
+    alloc: Global,
+    input: &mut Input<'_>,
+    room: u32,
+) -> Result<Items<Constraint>, ParseError>
+    ensures { Reads (reading rules room g.constraints input.old.rest.now) result input.new.rest.now }
+{
+    let mut found = Items::new(alloc);
+    'more: while begins_constraint(input) {
+        match column_constraint(input, room) {
+            Ok(next) => found.push(next)?,
+            Err(error) => return Err(error),
+        }
+    }
+    Ok(found)
 }
 
 #[tactic(auto, unfolding(sql_grammar::specs::Sql::column))]
-fn column(input: &mut Input<'_>, room: u32) -> Result<Column, ParseError>
+fn column(alloc: Global, input: &mut Input<'_>, room: u32) -> Result<Column, ParseError>
     ensures { Reads (reading rules room g.column input.old.rest.now) result input.new.rest.now }
 {
     let name = ident(input, room)?;
     let data_type = integer(input, room)?;
-    let primary_key = primary_key(input, room)?;
+    let constraints = constraints(alloc, input, room)?;
     Ok(Column {
         name,
         data_type,
-        primary_key,
+        constraints,
     })
 }
 
@@ -51,7 +94,7 @@ fn more_columns(
 {
     let mut found = Items::new(alloc);
     'more: while input.eat(Kind::Sign(Sign::Comma)) {
-        match column(input, room) {
+        match column(alloc, input, room) {
             Ok(next) => found.push(next)?,
             Err(error) => return Err(error),
         }
@@ -63,7 +106,7 @@ fn more_columns(
 fn columns(alloc: Global, input: &mut Input<'_>, room: u32) -> Result<Items<Column>, ParseError>
     ensures { Reads (reading rules room g.columns input.old.rest.now) result input.new.rest.now }
 {
-    let first = column(input, room)?;
+    let first = column(alloc, input, room)?;
     let more = more_columns(alloc, input, room)?;
     Ok(with_first(alloc, first, more)?)
 }
@@ -227,9 +270,9 @@ fn create_function(
     function_definition(alloc, input, room)
 }
 
-/// What stands behind CREATE.
+// What stands behind CREATE.
 #[tactic(auto, unfolding(sql_grammar::specs::Sql::created, sql_grammar::specs::Sql::create_table))]
-pub(crate) fn created(alloc: Global, input: &mut Input<'_>, room: u32) -> Result<Stmt, ParseError>
+fn created(alloc: Global, input: &mut Input<'_>, room: u32) -> Result<Stmt, ParseError>
     ensures { Reads (reading rules room g.created input.old.rest.now) result input.new.rest.now }
 {
     if input.sees(Kind::Word(Word::Table)) {
@@ -237,4 +280,13 @@ pub(crate) fn created(alloc: Global, input: &mut Input<'_>, room: u32) -> Result
     } else {
         Ok(Stmt::CreateFunction(create_function(alloc, input, room)?))
     }
+}
+
+/// A statement of data definition.
+#[tactic(auto, unfolding(sql_grammar::specs::Sql::ddl))]
+pub(crate) fn ddl(alloc: Global, input: &mut Input<'_>, room: u32) -> Result<Stmt, ParseError>
+    ensures { Reads (reading rules room g.ddl input.old.rest.now) result input.new.rest.now }
+{
+    input.expect(Kind::Word(Word::Create))?;
+    created(alloc, input, room)
 }

@@ -11,7 +11,7 @@ use sql_lex::{Kind, Sign, Word};
 use sql_values::Operator;
 use sqlite_items::{Boxed, Items};
 use std::alloc::{AllocError, Global};
-use syntax_trees::{Expr, Link};
+use syntax_trees::{Anchor, Expr, Link, UnarySign};
 use token_grammar::{Input, ParseError, number_in};
 
 /// A list with one more in front.
@@ -39,11 +39,16 @@ fn chained(alloc: Global, first: Expr, links: Items<Link>) -> Result<Expr, Alloc
     }
 }
 
-#[tactic(auto, unfolding(token_grammar::specs::Reading::same_kind, sql_grammar::specs::Sql::exprs, sql_grammar::specs::Sql::expr, sql_grammar::specs::Sql::term, sql_grammar::specs::Sql::primary, sql_grammar::specs::Sql::named, sql_grammar::specs::Sql::ident))]
+#[tactic(auto, unfolding(token_grammar::specs::Reading::same_kind, sql_grammar::specs::Sql::exprs, sql_grammar::specs::Sql::expr, sql_grammar::specs::Sql::term, sql_grammar::specs::Sql::signed, sql_grammar::specs::Sql::if_sign, sql_grammar::specs::Sql::unary_sign, sql_grammar::specs::Sql::primary, sql_grammar::specs::Sql::named, sql_grammar::specs::Sql::ident, sql_grammar::specs::Sql::bracketed))]
 fn begins_exprs(input: &Input<'_>) -> bool
     ensures { result ≡ begins (first g.exprs) input.now.rest.now }
 {
-    input.sees(Kind::Number) || input.sees(Kind::Word(Word::Null)) || input.sees(Kind::Name)
+    input.sees(Kind::Sign(Sign::Plus))
+        || input.sees(Kind::Sign(Sign::Minus))
+        || input.sees(Kind::Number)
+        || input.sees(Kind::Word(Word::Null))
+        || input.sees(Kind::Name)
+        || input.sees(Kind::Sign(Sign::LeftParen))
 }
 
 #[tactic(auto, unfolding(sql_grammar::specs::Sql::factor_operator, sql_grammar::specs::Sql::factor))]
@@ -73,7 +78,68 @@ fn primary(alloc: Global, input: &mut Input<'_>, room: u32) -> Result<Expr, Pars
         let token = input.expect(Kind::Word(Word::Null))?;
         return Ok(Expr::Null(anchor_in(token)));
     }
-    named(alloc, input, room)
+    if input.sees(Kind::Name) {
+        return named(alloc, input, room);
+    }
+    in_brackets(alloc, input, room)
+}
+
+#[tactic(auto, unfolding(sql_grammar::specs::Sql::bracketed))]
+#[cycle(parser)]
+fn in_brackets(alloc: Global, input: &mut Input<'_>, room: u32) -> Result<Expr, ParseError>
+    ensures { Reads (reading rules room (g.bracketed g.Bracketed) input.old.rest.now) result input.new.rest.now }
+{
+    let left = input.open(room, Kind::Sign(Sign::LeftParen))?;
+    let inner = expr(alloc, input, left)?;
+    input.close(Kind::Sign(Sign::RightParen), inner)
+}
+
+// A sign, with its anchor.
+#[tactic(auto, unfolding(sql_grammar::specs::Sql::unary_sign))]
+fn unary_sign(input: &mut Input<'_>, room: u32) -> Result<(UnarySign, Anchor), ParseError>
+    ensures { Reads (reading rules room g.unary_sign input.old.rest.now) result input.new.rest.now }
+{
+    let anchor = anchor(input);
+    if input.eat(Kind::Sign(Sign::Plus)) {
+        return Ok((UnarySign::Plus, anchor));
+    }
+    input.expect(Kind::Sign(Sign::Minus))?;
+    Ok((UnarySign::Minus, anchor))
+}
+
+#[tactic(auto, unfolding(sql_grammar::specs::Sql::if_sign, sql_grammar::specs::Sql::unary_sign))]
+fn if_sign(input: &mut Input<'_>, room: u32) -> Result<Option<(UnarySign, Anchor)>, ParseError>
+    ensures { Reads (reading rules room g.if_sign input.old.rest.now) result input.new.rest.now }
+{
+    if input.sees(Kind::Sign(Sign::Plus)) || input.sees(Kind::Sign(Sign::Minus)) {
+        Ok(Some(unary_sign(input, room)?))
+    } else {
+        Ok(None)
+    }
+}
+
+// An operand behind its sign, if it has one.
+fn with_sign(
+    alloc: Global,
+    sign: Option<(UnarySign, Anchor)>,
+    operand: Expr,
+) -> Result<Expr, AllocError>
+    ensures { IfOk result (λ e. e ≡ g.with_sign sign operand) }
+{
+    match sign {
+        None => Ok(operand),
+        Some((sign, anchor)) => Ok(Expr::Signed(anchor, sign, Boxed::new(alloc, operand)?)),
+    }
+}
+
+#[tactic(auto, unfolding(sql_grammar::specs::Sql::signed))]
+#[cycle(parser)]
+fn signed(alloc: Global, input: &mut Input<'_>, room: u32) -> Result<Expr, ParseError>
+    ensures { Reads (reading rules room g.signed input.old.rest.now) result input.new.rest.now }
+{
+    let sign = if_sign(input, room)?;
+    let operand = primary(alloc, input, room)?;
+    Ok(with_sign(alloc, sign, operand)?)
 }
 
 #[tactic(auto, unfolding(sql_grammar::specs::Sql::named, sql_grammar::specs::Sql::bracketed))]
@@ -121,7 +187,7 @@ fn factor(alloc: Global, input: &mut Input<'_>, room: u32) -> Result<Link, Parse
         input.expect(Kind::Sign(Sign::Solidus))?;
         Operator::Divide
     };
-    let operand = primary(alloc, input, room)?;
+    let operand = signed(alloc, input, room)?;
     Ok(Link {
         operator,
         anchor,
@@ -149,7 +215,7 @@ fn factors(alloc: Global, input: &mut Input<'_>, room: u32) -> Result<Items<Link
 fn term(alloc: Global, input: &mut Input<'_>, room: u32) -> Result<Expr, ParseError>
     ensures { Reads (reading rules room g.term input.old.rest.now) result input.new.rest.now }
 {
-    let first = primary(alloc, input, room)?;
+    let first = signed(alloc, input, room)?;
     let links = factors(alloc, input, room)?;
     Ok(chained(alloc, first, links)?)
 }

@@ -6,69 +6,20 @@ ghost use Rattle.token_grammar.specs.Reads.{Reads};
 ghost use Rattle.sql_grammar.specs.Sql as g;
 ghost use Rattle.sql_grammar.specs.Sql.{rules};
 
-use crate::expr::{exprs, with_first};
 use crate::place::ident;
-use sql_lex::{Kind, Sign, Word};
-use sqlite_items::Items;
+use crate::values::values;
+use sql_lex::{Kind, Word};
 use std::alloc::Global;
-use syntax_trees::{Expr, Insert};
+use syntax_trees::Insert;
 use token_grammar::{Input, ParseError};
-
-#[tactic(auto, unfolding(sql_grammar::specs::Sql::row, sql_grammar::specs::Sql::bracketed))]
-fn row(alloc: Global, input: &mut Input<'_>, room: u32) -> Result<Items<Expr>, ParseError>
-    ensures { Reads (reading rules room g.row input.old.rest.now) result input.new.rest.now }
-{
-    let left = input.open(room, Kind::Sign(Sign::LeftParen))?;
-    let inner = exprs(alloc, input, left)?;
-    input.close(Kind::Sign(Sign::RightParen), inner)
-}
-
-#[tactic(auto, unfolding(sql_grammar::specs::Sql::more_rows))]
-fn more_rows(
-    alloc: Global,
-    input: &mut Input<'_>,
-    room: u32,
-) -> Result<Items<Items<Expr>>, ParseError>
-    ensures { Reads (reading rules room g.more_rows input.old.rest.now) result input.new.rest.now }
-{
-    let mut found = Items::new(alloc);
-    'more: while input.eat(Kind::Sign(Sign::Comma)) {
-        match row(alloc, input, room) {
-            Ok(next) => found.push(next)?,
-            Err(error) => return Err(error),
-        }
-    }
-    Ok(found)
-}
-
-#[tactic(auto, unfolding(sql_grammar::specs::Sql::rows))]
-fn rows(alloc: Global, input: &mut Input<'_>, room: u32) -> Result<Items<Items<Expr>>, ParseError>
-    ensures { Reads (reading rules room g.rows input.old.rest.now) result input.new.rest.now }
-{
-    let first = row(alloc, input, room)?;
-    let more = more_rows(alloc, input, room)?;
-    Ok(with_first(alloc, first, more)?)
-}
-
-#[tactic(auto, unfolding(sql_grammar::specs::Sql::inserted_rows))]
-fn inserted_rows(
-    alloc: Global,
-    input: &mut Input<'_>,
-    room: u32,
-) -> Result<Items<Items<Expr>>, ParseError>
-    ensures { Reads (reading rules room g.inserted_rows input.old.rest.now) result input.new.rest.now }
-{
-    input.expect(Kind::Word(Word::Values))?;
-    rows(alloc, input, room)
-}
 
 #[tactic(auto, unfolding(sql_grammar::specs::Sql::insertion))]
 fn insertion(alloc: Global, input: &mut Input<'_>, room: u32) -> Result<Insert, ParseError>
     ensures { Reads (reading rules room g.insertion input.old.rest.now) result input.new.rest.now }
 {
     let table = ident(input, room)?;
-    let rows = inserted_rows(alloc, input, room)?;
-    Ok(Insert { table, rows })
+    let values = values(alloc, input, room)?;
+    Ok(Insert { table, values })
 }
 
 #[tactic(auto, unfolding(sql_grammar::specs::Sql::into_table))]

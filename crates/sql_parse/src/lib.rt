@@ -9,5 +9,6 @@ mod parse;
 mod place;
 mod query;
 mod statement;
+mod values;
 
-pub use parse::parse_statement;
+pub use parse::{parse_ddl, parse_dml, parse_query, parse_statement};

@@ -50,6 +50,9 @@ pub(crate) fn ident(input: &mut Input<'_>, room: u32) -> Result<Ident, ParseErro
 pub(crate) fn integer(input: &mut Input<'_>, room: u32) -> Result<SqlType, ParseError>
     ensures { Reads (reading rules room g.integer input.old.rest.now) result input.new.rest.now }
 {
-    input.expect(Kind::Word(Word::Integer))?;
+    if input.eat(Kind::Word(Word::Integer)) {
+        return Ok(SqlType::Integer);
+    }
+    input.expect(Kind::Word(Word::Int))?;
     Ok(SqlType::Integer)
 }

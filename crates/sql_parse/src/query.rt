@@ -8,11 +8,12 @@ ghost use Rattle.sql_grammar.specs.Sql.{rules};
 
 use crate::expr::{expr, exprs};
 use crate::place::{anchor, anchor_in, ident};
+use crate::values::values;
 use sql_lex::{Kind, Sign, Word};
 use sql_values::Comparison;
 use sqlite_items::Items;
 use std::alloc::Global;
-use syntax_trees::{Anchor, Expr, Ident, Query, Test};
+use syntax_trees::{Anchor, Expr, Ident, Query, Select, Test};
 use token_grammar::{Input, ParseError};
 
 // A comparison, with its anchor.
@@ -110,18 +111,29 @@ fn select_word(input: &mut Input<'_>, room: u32) -> Result<Anchor, ParseError>
     Ok(anchor_in(token))
 }
 
-/// A query.
-#[tactic(auto, unfolding(sql_grammar::specs::Sql::query))]
-pub(crate) fn query(alloc: Global, input: &mut Input<'_>, room: u32) -> Result<Query, ParseError>
-    ensures { Reads (reading rules room g.query input.old.rest.now) result input.new.rest.now }
+#[tactic(auto, unfolding(sql_grammar::specs::Sql::select))]
+fn select(alloc: Global, input: &mut Input<'_>, room: u32) -> Result<Select, ParseError>
+    ensures { Reads (reading rules room g.select input.old.rest.now) result input.new.rest.now }
 {
     let anchor = select_word(input, room)?;
     let selected = selection(alloc, input, room)?;
     let source = selected.1;
-    Ok(Query {
+    Ok(Select {
         anchor,
         items: selected.0,
         table: source.0,
         filter: source.1,
     })
+}
+
+/// A query.
+#[tactic(auto, unfolding(sql_grammar::specs::Sql::query, sql_grammar::specs::Sql::select, sql_grammar::specs::Sql::select_word))]
+pub(crate) fn query(alloc: Global, input: &mut Input<'_>, room: u32) -> Result<Query, ParseError>
+    ensures { Reads (reading rules room g.query input.old.rest.now) result input.new.rest.now }
+{
+    if input.sees(Kind::Word(Word::Select)) {
+        Ok(Query::Select(select(alloc, input, room)?))
+    } else {
+        Ok(Query::Values(values(alloc, input, room)?))
+    }
 }

@@ -6,7 +6,7 @@ ghost use Rattle.token_grammar.specs.Reads.{Reads};
 ghost use Rattle.sql_grammar.specs.Sql as g;
 ghost use Rattle.sql_grammar.specs.Sql.{rules};
 
-use crate::create::created;
+use crate::create::ddl;
 use crate::insert::insert;
 use crate::query::query;
 use sql_lex::{Kind, Sign, Word};
@@ -14,15 +14,23 @@ use std::alloc::Global;
 use syntax_trees::Stmt;
 use token_grammar::{Input, ParseError};
 
-#[tactic(auto, unfolding(sql_grammar::specs::Sql::unended, sql_grammar::specs::Sql::insert))]
+/// A statement that changes data.
+#[tactic(auto, unfolding(sql_grammar::specs::Sql::dml))]
+pub(crate) fn dml(alloc: Global, input: &mut Input<'_>, room: u32) -> Result<Stmt, ParseError>
+    ensures { Reads (reading rules room g.dml input.old.rest.now) result input.new.rest.now }
+{
+    Ok(Stmt::Insert(insert(alloc, input, room)?))
+}
+
+#[tactic(auto, unfolding(sql_grammar::specs::Sql::unended, sql_grammar::specs::Sql::ddl, sql_grammar::specs::Sql::dml, sql_grammar::specs::Sql::insert))]
 fn unended(alloc: Global, input: &mut Input<'_>, room: u32) -> Result<Stmt, ParseError>
     ensures { Reads (reading rules room g.unended input.old.rest.now) result input.new.rest.now }
 {
-    if input.eat(Kind::Word(Word::Create)) {
-        return created(alloc, input, room);
+    if input.sees(Kind::Word(Word::Create)) {
+        return ddl(alloc, input, room);
     }
     if input.sees(Kind::Word(Word::Insert)) {
-        return Ok(Stmt::Insert(insert(alloc, input, room)?));
+        return dml(alloc, input, room);
     }
     Ok(Stmt::Query(query(alloc, input, room)?))
 }

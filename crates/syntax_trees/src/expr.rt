@@ -4,6 +4,13 @@ use crate::{Anchor, Ident};
 use sql_values::Operator;
 use sqlite_items::{Boxed, Items};
 
+/// A sign before an operand.
+#[derive(Clone, Copy, Debug, PartialEq, Eq)]
+pub enum UnarySign {
+    Plus,
+    Minus,
+}
+
 /// A value expression (ISO/IEC 9075-2, 6.26).
 #[cycle(tree)]
 #[derive(Drop)]
@@ -16,6 +23,8 @@ pub enum Expr {
     Name(Ident),
     /// A call of a function, with its arguments. Its anchor is the function's name.
     Call(Ident, Items<Expr>),
+    /// A sign and its operand. Its anchor is the sign.
+    Signed(Anchor, UnarySign, Boxed<Expr>),
     /// A chain of operators, read from the left, with at least one. Its anchor is the first operator.
     Chain(Boxed<Expr>, Items<Link>),
 }

@@ -7,6 +7,6 @@ mod query;
 mod statement;
 
 pub use anchor::{Anchor, Ident};
-pub use expr::{Expr, Link};
-pub use query::{Query, Test};
-pub use statement::{Column, CreateFunction, CreateTable, Insert, Parameter, Stmt};
+pub use expr::{Expr, Link, UnarySign};
+pub use query::{Query, Select, Test, Values};
+pub use statement::{Column, Constraint, CreateFunction, CreateTable, Insert, Parameter, Stmt};

@@ -1,6 +1,6 @@
 //! Statements.
 
-use crate::{Anchor, Expr, Ident, Query};
+use crate::{Anchor, Expr, Ident, Query, Values};
 use sql_values::SqlType;
 use sqlite_items::Items;
 
@@ -20,12 +20,20 @@ pub struct CreateTable {
     pub columns: Items<Column>,
 }
 
-/// A column of a table, with the first word of its PRIMARY KEY where it has one.
+/// A column of a table, with its constraints in their order.
 #[derive(Drop)]
 pub struct Column {
     pub name: Ident,
     pub data_type: SqlType,
-    pub primary_key: Option<Anchor>,
+    pub constraints: Items<Constraint>,
+}
+
+/// A constraint of a column (ISO/IEC 9075-2, 11.4).
+#[derive(Clone, Copy, Debug, PartialEq, Eq)]
+pub enum Constraint {
+    NotNull,
+    /// With its first word.
+    PrimaryKey(Anchor),
 }
 
 /// `CREATE FUNCTION name (parameters) RETURNS type RETURN result` (ISO/IEC 9075-4, 9.20, and 14.34 for RETURN).
@@ -48,5 +56,5 @@ pub struct Parameter {
 #[derive(Drop)]
 pub struct Insert {
     pub table: Ident,
-    pub rows: Items<Items<Expr>>,
+    pub values: Values,
 }

@@ -4,3 +4,4 @@ pub mod Greatest
 pub mod Steps
 pub mod Whole
 pub mod Names
+pub mod Lacking

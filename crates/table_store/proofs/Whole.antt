@@ -24,7 +24,7 @@ if_none : {A : Type 0} (b : Bool) (x : A) → b ≡ true → None ≡ cond b Non
 if_none b x h = sym (ap (λ t. cond t None (Some x)) h)
 
 -- new rows that go in alone
-alone_some : (key : ℕ) (new s : List Row) → Some s ≡ inserted key [] new → (list_any (has_null_key key) new ≡ false) × (repeats_key key new ≡ false) × (s ≡ in_key_order key new)
+alone_some : (key : ℕ) (new s : List Row) → Some s ≡ inserted [] key [] new → (list_any (has_null_key key) new ≡ false) × (repeats_key key new ≡ false) × (s ≡ in_key_order key new)
 alone_some key new s h =
     let n = list_any (has_null_key key) new in
     let r = repeats_key key new in
@@ -54,13 +54,13 @@ repeats_first : (key : ℕ) (xs ys : List Row) → repeats_key key xs ≡ true �
 repeats_first key xs ys h = repeats-append key xs ys ∙ first_of_two (repeats_key key xs) (repeats_key key ys || meets key xs ys) h
 
 -- into rows
-pub refused_alone : (key : ℕ) (rows new : List Row) → None ≡ inserted key [] new → None ≡ inserted key rows new
+pub refused_alone : (key : ℕ) (rows new : List Row) → None ≡ inserted [] key [] new → None ≡ inserted [] key rows new
 refused_alone key rows new h =
     let n = list_any (has_null_key key) new in
     if_none (n || repeats_key key (rows ++ new)) (in_key_order key (rows ++ new))
     (or_right n (repeats_key key new) (repeats_key key (rows ++ new)) (none_if (n || repeats_key key new) (in_key_order key new) h) (repeats_second key rows new))
 
-pub into_rows : (key : ℕ) (rows new s : List Row) → Some s ≡ inserted key [] new → united key rows s ≡ inserted key rows new
+pub into_rows : (key : ℕ) (rows new s : List Row) → Some s ≡ inserted [] key [] new → united key rows s ≡ inserted [] key rows new
 into_rows key rows new s h =
     let k = alone_some key new s h in
     ap (united key rows) (k.2)
@@ -69,7 +69,7 @@ into_rows key rows new s h =
     ∙ sym (ap (λ b. cond (b || repeats_key key (rows ++ new)) None (Some (in_key_order key (rows ++ new)))) (k.0))
 
 -- by halves
-pub refused_first : (key : ℕ) (front behind : List Row) → None ≡ inserted key [] front → None ≡ inserted key [] (front ++ behind)
+pub refused_first : (key : ℕ) (front behind : List Row) → None ≡ inserted [] key [] front → None ≡ inserted [] key [] (front ++ behind)
 refused_first key front behind h =
     let n = list_any (has_null_key key) front in
     if_none (list_any (has_null_key key) (front ++ behind) || repeats_key key (front ++ behind)) (in_key_order key (front ++ behind))
@@ -78,7 +78,7 @@ refused_first key front behind h =
     (λ t. list_any-append (has_null_key key) front behind ∙ first_of_two n (list_any (has_null_key key) behind) t)
     (repeats_first key front behind))
 
-pub refused_second : (key : ℕ) (front behind : List Row) → None ≡ inserted key [] behind → None ≡ inserted key [] (front ++ behind)
+pub refused_second : (key : ℕ) (front behind : List Row) → None ≡ inserted [] key [] behind → None ≡ inserted [] key [] (front ++ behind)
 refused_second key front behind h =
     let n = list_any (has_null_key key) behind in
     if_none (list_any (has_null_key key) (front ++ behind) || repeats_key key (front ++ behind)) (in_key_order key (front ++ behind))
@@ -87,7 +87,7 @@ refused_second key front behind h =
     (λ t. list_any-append (has_null_key key) front behind ∙ second_of_two (list_any (has_null_key key) front) n t)
     (repeats_second key front behind))
 
-pub by_halves : (key : ℕ) (front behind a b : List Row) → Some a ≡ inserted key [] front → Some b ≡ inserted key [] behind → united key a b ≡ inserted key [] (front ++ behind)
+pub by_halves : (key : ℕ) (front behind a b : List Row) → Some a ≡ inserted [] key [] front → Some b ≡ inserted [] key [] behind → united key a b ≡ inserted [] key [] (front ++ behind)
 by_halves key front behind a b h k =
     let p = alone_some key front a h in
     let q = alone_some key behind b k in
@@ -100,9 +100,9 @@ by_halves key front behind a b h k =
     (in_order-before key front (in_key_order key behind) (p.0) (p.1) ∙ in_order-behind key front behind (q.0) (q.1))
     ∙ sym (ap (λ t. cond (t || repeats_key key (front ++ behind)) None (Some (in_key_order key (front ++ behind)))) none)
 
-pub halves : (key n : ℕ) (new front behind : List Row) (o : Option (List Row)) → front ≡ take n new → behind ≡ drop n new → o ≡ inserted key [] (front ++ behind) → o ≡ inserted key [] new
+pub halves : (key n : ℕ) (new front behind : List Row) (o : Option (List Row)) → front ≡ take n new → behind ≡ drop n new → o ≡ inserted [] key [] (front ++ behind) → o ≡ inserted [] key [] new
 halves key n new front behind o e f h =
-    h ∙ ap (inserted key []) (ap (λ (zs : List Row). zs ++ behind) e ∙ ap (λ (zs : List Row). take n new ++ zs) f ∙ take-append-drop n new)
+    h ∙ ap (inserted [] key []) (ap (λ (zs : List Row). zs ++ behind) e ∙ ap (λ (zs : List Row). take n new ++ zs) f ∙ take-append-drop n new)
 
 -- what an answer tells
 pub stored_is : (o : Option (List Row)) (rows s : List Row) → Stored ≡ answer_to o → s ≡ rows_with o rows → Some s ≡ o

@@ -19,7 +19,7 @@ table_with (Some rows) t = record t { rows = rows }
 -- the tables with new rows in one of them; none where it refuses them. Where there is no table, nothing is stored.
 abbrev pub stored_at : Option Table → List ℕ → List Row → Tables → Option Tables
 stored_at None name new tables = Some tables
-stored_at (Some t) name new tables = option_map (λ rows. with_rows name rows tables) (inserted t.key t.rows new)
+stored_at (Some t) name new tables = option_map (λ rows. with_rows name rows tables) (inserted t.columns t.key t.rows new)
 
 -- the tables with new rows in the table of a name
 abbrev pub stored_in : List ℕ → List Row → Tables → Option Tables

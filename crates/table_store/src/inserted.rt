@@ -5,6 +5,6 @@
 pub enum Inserted {
     /// All are stored.
     Stored,
-    /// None is stored, since a key is NULL, or stands twice.
+    /// None is stored, since a row has NULL in a column that takes none, or a key is NULL, or stands twice.
     Refused,
 }

@@ -1,10 +1,12 @@
-//! Rows and their keys.
+//! Rows, their keys, and the values that they lack.
 
-ghost use Rattle.std.specs.Prelude.{◌≡◌, ◌<◌, ◌++◌, IsTrue, length, false};
+ghost use Rattle.std.specs.Prelude.{◌≡◌, ◌<◌, ◌++◌, ◌&&◌, IsTrue, length, false};
 ghost use Rattle.std.specs.Bool.{MatchBool};
-ghost use Rattle.rel_algebra.specs.Tables.{has_null_key as has_null_key_by, repeats_key};
+ghost use Rattle.std.specs.List.{list_any};
+ghost use Rattle.rel_algebra.specs.Tables.{is_null, lacks_value as lacks_value_by, has_null_key as has_null_key_by, repeats_key};
 ghost use Rattle.table_store.specs.Keys.{precedes as precedes_by, rises, Tops};
 
+use row_types::ColumnType;
 use sql_values::{Comparison, Value};
 use sqlite_items::Items;
 
@@ -30,6 +32,40 @@ pub fn has_null_key(row: &Row, key: usize) -> bool
         Some(Value::Null) => true,
         None => true,
     }
+}
+
+// Whether a column takes no NULL and the value is NULL.
+fn lacks(column: &ColumnType, value: &Value) -> bool
+    ensures { result ≡ (column.now.not_null && is_null value.now) }
+{
+    match value {
+        Value::Null => column.not_null,
+        Value::Int(_) => false,
+    }
+}
+
+// Whether a row has NULL in a column that takes none.
+fn lacks_value(row: &[Value], columns: &[ColumnType]) -> bool
+    ensures { result ≡ lacks_value_by columns.now row.now }
+{
+    for (column, value) in columns.iter().zip(row) {
+        if lacks(column, value) {
+            return true;
+        }
+    }
+    false
+}
+
+// Whether some row has NULL in a column that takes none.
+pub fn any_lacks_value(rows: &[Row], columns: &[ColumnType]) -> bool
+    ensures { result ≡ list_any (lacks_value_by columns.now) rows.now }
+{
+    for row in rows {
+        if lacks_value(row.as_slice(), columns) {
+            return true;
+        }
+    }
+    false
 }
 
 // Whether rows in key order stay so with more behind them.

@@ -12,9 +12,9 @@ use crate::merge::add;
 use sql_values::NoMemory;
 use std::alloc::Global;
 
-// The rows in key order, by halves; none where a key is NULL, or stands twice.
+// The rows in key order, by halves; none where a key is NULL, or stands twice. No column is looked at.
 pub fn in_order(alloc: Global, new: Vec<Row>, key: usize) -> Result<Option<Vec<Row>>, NoMemory>
-    ensures value { IfOk result (λ o. option_map (λ v. v.items) o ≡ inserted key [] new.items) }
+    ensures value { IfOk result (λ o. option_map (λ v. v.items) o ≡ inserted [] key [] new.items) }
     ensures order { IfOk result (λ o. AllRise key (option_map (λ v. v.items) o)) }
 {
     let mut front = new;
@@ -37,7 +37,7 @@ pub fn in_order(alloc: Global, new: Vec<Row>, key: usize) -> Result<Option<Vec<R
 // One row or none, unless its key is NULL.
 fn alone(new: Vec<Row>, key: usize) -> Option<Vec<Row>>
     requires { vec_len new < 2 }
-    ensures value { option_map (λ v. v.items) result ≡ inserted key [] new.items }
+    ensures value { option_map (λ v. v.items) result ≡ inserted [] key [] new.items }
     ensures order { AllRise key (option_map (λ v. v.items) result) }
 {
     if new.len() == 1 && has_null_key(&new[0], key) {

@@ -6,19 +6,20 @@ ghost use Rattle.table_store.specs.Keys.{rises};
 ghost use Rattle.table_store.specs.Inserting.{answer_to, table_with};
 
 use crate::Inserted;
-use crate::keys::Row;
+use crate::keys::{Row, any_lacks_value};
 use crate::merge::add;
 use crate::sort::in_order;
-use sql_values::{Name, NoMemory};
+use row_types::ColumnType;
+use sql_values::NoMemory;
 use sqlite_items::Items;
 use std::alloc::Global;
 use std::marker::Model;
 
-/// A table (ISO/IEC 9075-2, 4.14): its columns' names, the place of its key column, and its rows in increasing order of
+/// A table (ISO/IEC 9075-2, 4.14): its columns, the place of its key column, and its rows in increasing order of
 /// their keys, none of which is NULL.
 #[derive(Drop)]
 pub struct Table {
-    names: Items<Name>,
+    types: Items<ColumnType>,
     place: usize,
     stored: Vec<Row>,
 }
@@ -30,28 +31,28 @@ impl Model for Table {
 
     ghost Value = { PlainTable };
 
-    ghost view = { λ t. record { columns = t.names; key = t.place; rows = t.stored.items } };
+    ghost view = { λ t. record { columns = t.types; key = t.place; rows = t.stored.items } };
 
     ghost invariant = { λ t. IsTrue (rises t.place t.stored.items) };
 }
 
 impl Table {
     /// A table without rows.
-    pub fn new(alloc: Global, columns: Items<Name>, key: usize) -> Table
+    pub fn new(alloc: Global, columns: Items<ColumnType>, key: usize) -> Table
         ensures { result ≡ record { columns = columns; key = key; rows = [] } }
     {
         Table {
-            names: columns,
+            types: columns,
             place: key,
             stored: Vec::new(alloc),
         }
     }
 
-    /// The names of the columns.
-    pub fn columns(&self) -> &[Name]
+    /// The columns, in the order of a row's values.
+    pub fn columns(&self) -> &[ColumnType]
         ensures { result.now ≡ self.now.columns }
     {
-        self.names.as_slice()
+        self.types.as_slice()
     }
 
     /// The place of the key column.
@@ -69,13 +70,16 @@ impl Table {
         self.stored.as_slice()
     }
 
-    /// Stores all new rows (ISO/IEC 9075-2, 14.11), or refuses them all: exactly where a key among them is NULL, or a key
-    /// stands twice in the rows with the new ones. Without memory nothing changes.
+    /// Stores all new rows (ISO/IEC 9075-2, 14.11), or refuses them all: exactly where one of them has NULL in a column
+    /// that takes none, or as its key, or a key stands twice in the rows with the new ones. Without memory nothing changes.
     pub fn insert(&mut self, alloc: Global, new: Vec<Row>) -> Result<Inserted, NoMemory>
-        ensures answer { IfOk result (λ i. i ≡ answer_to (inserted self.old.key self.old.rows new.items)) }
-        ensures rows { IfOk result (λ i. self.new ≡ table_with (inserted self.old.key self.old.rows new.items) self.old) }
+        ensures answer { IfOk result (λ i. i ≡ answer_to (inserted self.old.columns self.old.key self.old.rows new.items)) }
+        ensures rows { IfOk result (λ i. self.new ≡ table_with (inserted self.old.columns self.old.key self.old.rows new.items) self.old) }
         ensures unchanged { OnErr result (self.new ≡ self.old) }
     {
+        if any_lacks_value(&new, self.types.as_slice()) {
+            return Ok(Inserted::Refused);
+        }
         let Some(more) = in_order(alloc, new, self.place)? else {
             return Ok(Inserted::Refused);
         };

@@ -55,8 +55,8 @@ impl Named {
     }
 
     fn insert(&mut self, alloc: Global, new: Vec<Row>) -> Result<Inserted, NoMemory>
-        ensures answer { IfOk result (λ i. i ≡ answer_to (inserted self.old.table.key self.old.table.rows new.items)) }
-        ensures rows { IfOk result (λ i. self.new ≡ record self.old { table = table_with (inserted self.old.table.key self.old.table.rows new.items) self.old.table }) }
+        ensures answer { IfOk result (λ i. i ≡ answer_to (inserted self.old.table.columns self.old.table.key self.old.table.rows new.items)) }
+        ensures rows { IfOk result (λ i. self.new ≡ record self.old { table = table_with (inserted self.old.table.columns self.old.table.key self.old.table.rows new.items) self.old.table }) }
         ensures unchanged { OnErr result (self.new ≡ self.old) }
     {
         self.held.insert(alloc, new)

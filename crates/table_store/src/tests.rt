@@ -1,7 +1,8 @@
 //! Rows go in where memory is there.
 
 use crate::{Inserted, Row, Table, Tables};
-use sql_values::{Name, NoMemory, Value};
+use row_types::ColumnType;
+use sql_values::{Name, NoMemory, SqlType, Value};
 use sqlite_items::Items;
 use std::alloc::Global;
 
@@ -72,4 +73,29 @@ fn rows_go_in(rt: HostRuntime) {
     assert!(rt; give(alloc, &[5, 1], &[], &[1, 5]) == Ok(true));
     assert!(rt; give(alloc, &[5, 1], &[9, 7], &[1, 5, 7, 9]) == Ok(true));
     assert!(rt; give(alloc, &[5, 1], &[9, 5], &[]) == Ok(false));
+}
+
+// Whether NULL goes in at a column beside the key.
+fn takes_null(alloc: Global, not_null: bool) -> Result<Inserted, NoMemory> {
+    let mut columns = Items::new(alloc);
+    for not_null in [true, not_null] {
+        columns.push(ColumnType {
+            name: Name::folded(alloc, b"a")?,
+            data_type: SqlType::Integer,
+            not_null,
+        })?;
+    }
+    let mut new = row(alloc, 1)?;
+    new.push(Value::Null)?;
+    let mut rows = Vec::new(alloc);
+    rows.push(new)?;
+    let mut table = Table::new(alloc, columns, 0);
+    table.insert(alloc, rows)
+}
+
+#[test]
+fn null_goes_in_where_it_may(rt: HostRuntime) {
+    let alloc = rt.alloc();
+    assert!(rt; takes_null(alloc, false) == Ok(Inserted::Stored));
+    assert!(rt; takes_null(alloc, true) == Ok(Inserted::Refused));
 }

@@ -2,7 +2,7 @@ use Rattle.std.proofs.Common.{rules, arith}
 use Rattle.catalog_store.specs.Catalog.{routines}
 use Rattle.catalog_store.specs.View.{plain}
 use Rattle.psm_interp.specs.Sight.{in_sight}
-use Rattle.psm_interp.proofs.Cases.{chain_goes_on, call_goes_on, call_stops}
+use Rattle.psm_interp.proofs.Cases.{sign_turns, chain_goes_on, call_goes_on, call_stops}
 use Rattle.psm_interp.proofs.Steps.{all_step, all_stops, costs_step, links_step, links_stop, links_cost_step}
 use Rattle.psm_interp.proofs.expr.+eval.Goals as goal
 
@@ -16,10 +16,15 @@ eval-returns-in_ok-values-in-Call t c w =
     call_goes_on (routines (plain c.args.catalog.now)) c.args.expr.now c.in-Call.place c.in-Call.arguments c.as_slice-in-Call.result.now c.in_ok-values-in-Call.values c.as_slice-in-Call-2.result.now
     (in_sight c.args.row) c.args.frame.now w c.call.result c.in-Call.is c.as_slice-in-Call.ensures (search rules) (c.in_ok-values-in-Call.ensures w) (c.call.ensures w)
 
+pub eval-returns-in_ok-value-in-Negate : goal.eval-returns-in_ok-value-in-Negate
+eval-returns-in_ok-value-in-Negate t c w =
+    sign_turns (routines (plain c.args.catalog.now)) c.args.expr.now c.in-Negate.operand c.get.result.now c.in_ok-value-in-Negate.value
+    (in_sight c.args.row) c.args.frame.now w c.negated.result c.in-Negate.is c.get.ensures (c.in_ok-value-in-Negate.ensures w) (c.negated.ensures w)
+
 pub eval-returns-in_ok-value-in-Chain : goal.eval-returns-in_ok-value-in-Chain
 eval-returns-in_ok-value-in-Chain t c w =
-    chain_goes_on (routines (plain c.args.catalog.now)) c.args.expr.now c.in-Chain.first c.get.result.now c.in-Chain.links c.as_slice.result.now c.in_ok-value-in-Chain.value
-    (in_sight c.args.row) c.args.frame.now w c.eval_links.result c.in-Chain.is c.get.ensures c.as_slice.ensures (c.in_ok-value-in-Chain.ensures w) (c.eval_links.ensures w)
+    chain_goes_on (routines (plain c.args.catalog.now)) c.args.expr.now c.in-Chain.first c.get-in-Chain.result.now c.in-Chain.links c.as_slice.result.now c.in_ok-value-in-Chain.value
+    (in_sight c.args.row) c.args.frame.now w c.eval_links.result c.in-Chain.is c.get-in-Chain.ensures c.as_slice.ensures (c.in_ok-value-in-Chain.ensures w) (c.eval_links.ensures w)
 
 pub eval_all-returns-in_err-value : goal.eval_all-returns-in_err-value
 eval_all-returns-in_err-value t c w =

@@ -15,29 +15,35 @@ decreases-arguments l = l.room * 16 + 2
 abbrev pub decreases-in_arguments : goal.decreases-in_arguments
 decreases-in_arguments l = l.room * 16 + 14
 
+abbrev pub decreases-in_brackets : goal.decreases-in_brackets
+decreases-in_brackets l = l.room * 16 + 2
+
+abbrev pub decreases-signed : goal.decreases-signed
+decreases-signed l = l.room * 16 + 5
+
 abbrev pub decreases-factor : goal.decreases-factor
-decreases-factor l = l.room * 16 + 5
+decreases-factor l = l.room * 16 + 6
 
 abbrev pub decreases-factors : goal.decreases-factors
-decreases-factors l = l.room * 16 + 6
+decreases-factors l = l.room * 16 + 7
 
 abbrev pub decreases-term : goal.decreases-term
-decreases-term l = l.room * 16 + 7
+decreases-term l = l.room * 16 + 8
 
 abbrev pub decreases-addend : goal.decreases-addend
-decreases-addend l = l.room * 16 + 8
+decreases-addend l = l.room * 16 + 9
 
 abbrev pub decreases-addends : goal.decreases-addends
-decreases-addends l = l.room * 16 + 9
+decreases-addends l = l.room * 16 + 10
 
 abbrev pub decreases-expr : goal.decreases-expr
-decreases-expr l = l.room * 16 + 10
+decreases-expr l = l.room * 16 + 11
 
 abbrev pub decreases-more_exprs : goal.decreases-more_exprs
-decreases-more_exprs l = l.room * 16 + 11
+decreases-more_exprs l = l.room * 16 + 12
 
 abbrev pub decreases-exprs : goal.decreases-exprs
-decreases-exprs l = l.room * 16 + 12
+decreases-exprs l = l.room * 16 + 13
 
 abbrev pub decreases-factors-more : goal.decreases-factors-more
 decreases-factors-more l = length l.input.rest.now

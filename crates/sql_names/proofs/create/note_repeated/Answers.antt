@@ -1,0 +1,8 @@
+use Rattle.std.proofs.Common.{rules, ◌∙◌, arith}
+use Rattle.sql_names.proofs.Steps.{repeated-more}
+use Rattle.sql_names.proofs.create.note_repeated.Goals as goal
+
+pub loop-place-preserved : goal.loop-place-preserved
+loop-place-preserved c =
+    repeated-more (λ x. x.name) c.args.columns.now c.loop-place.place c.index-columns-place.result c.loop-place.least _
+    (omega arith) c.index-columns-place.is (search rules) ∙ c.loop-place.invariant

@@ -1,0 +1,69 @@
+//! VALUES.
+
+ghost use Rattle.std.specs.Prelude.{◌≡◌};
+ghost use Rattle.token_grammar.specs.Reading.{reading};
+ghost use Rattle.token_grammar.specs.Reads.{Reads};
+ghost use Rattle.sql_grammar.specs.Sql as g;
+ghost use Rattle.sql_grammar.specs.Sql.{rules};
+
+use crate::expr::{exprs, with_first};
+use crate::place::anchor_in;
+use sql_lex::{Kind, Sign, Word};
+use sqlite_items::Items;
+use std::alloc::Global;
+use syntax_trees::{Anchor, Expr, Values};
+use token_grammar::{Input, ParseError};
+
+#[tactic(auto, unfolding(sql_grammar::specs::Sql::row, sql_grammar::specs::Sql::bracketed))]
+fn row(alloc: Global, input: &mut Input<'_>, room: u32) -> Result<Items<Expr>, ParseError>
+    ensures { Reads (reading rules room g.row input.old.rest.now) result input.new.rest.now }
+{
+    let left = input.open(room, Kind::Sign(Sign::LeftParen))?;
+    let inner = exprs(alloc, input, left)?;
+    input.close(Kind::Sign(Sign::RightParen), inner)
+}
+
+#[tactic(auto, unfolding(sql_grammar::specs::Sql::more_rows))]
+fn more_rows(
+    alloc: Global,
+    input: &mut Input<'_>,
+    room: u32,
+) -> Result<Items<Items<Expr>>, ParseError>
+    ensures { Reads (reading rules room g.more_rows input.old.rest.now) result input.new.rest.now }
+{
+    let mut found = Items::new(alloc);
+    'more: while input.eat(Kind::Sign(Sign::Comma)) {
+        match row(alloc, input, room) {
+            Ok(next) => found.push(next)?,
+            Err(error) => return Err(error),
+        }
+    }
+    Ok(found)
+}
+
+#[tactic(auto, unfolding(sql_grammar::specs::Sql::rows))]
+fn rows(alloc: Global, input: &mut Input<'_>, room: u32) -> Result<Items<Items<Expr>>, ParseError>
+    ensures { Reads (reading rules room g.rows input.old.rest.now) result input.new.rest.now }
+{
+    let first = row(alloc, input, room)?;
+    let more = more_rows(alloc, input, room)?;
+    Ok(with_first(alloc, first, more)?)
+}
+
+#[tactic(auto, unfolding(sql_grammar::specs::Sql::values_word))]
+fn values_word(input: &mut Input<'_>, room: u32) -> Result<Anchor, ParseError>
+    ensures { Reads (reading rules room g.values_word input.old.rest.now) result input.new.rest.now }
+{
+    let token = input.expect(Kind::Word(Word::Values))?;
+    Ok(anchor_in(token))
+}
+
+/// VALUES with its rows.
+#[tactic(auto, unfolding(sql_grammar::specs::Sql::values))]
+pub(crate) fn values(alloc: Global, input: &mut Input<'_>, room: u32) -> Result<Values, ParseError>
+    ensures { Reads (reading rules room g.values input.old.rest.now) result input.new.rest.now }
+{
+    let anchor = values_word(input, room)?;
+    let rows = rows(alloc, input, room)?;
+    Ok(Values { anchor, rows })
+}
