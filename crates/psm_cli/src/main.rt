@@ -25,9 +25,9 @@ use psm_session::Database;
 use sql_values::NoMemory;
 pub use status::Status;
 use std::alloc::Global;
-use std::env;
 use std::io::ErrorKind;
 use std::process::ExitCode;
+use std::{env, mem};
 
 // The words of the command line, and none where one of them is no text.
 fn given_words(rt: &HostRuntime, alloc: Global) -> Result<Vec<String>, NoMemory> {
@@ -46,7 +46,10 @@ fn run_words(rt: &HostRuntime, alloc: Global) -> Result<Status, NoMemory> {
     let mut out = StdSink::new(rt.stdout());
     let mut err = StdSink::new(rt.stderr());
     let mut db = Database::new(alloc);
-    Ok(run_program(alloc, &words, &mut src, &mut out, &mut err, &mut db))
+    let status = run_program(alloc, &words, &mut src, &mut out, &mut err, &mut db);
+    // The process ends here, and its memory with it: no table is taken apart row by row.
+    mem::forget(db);
+    Ok(status)
 }
 
 fn main(rt: HostRuntime) -> ExitCode {

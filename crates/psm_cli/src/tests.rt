@@ -111,7 +111,16 @@ fn edges_that_fail(rt: HostRuntime) -> Result<(), Fail> {
     assert_eq!(rt; unread.status, Status::ReadFault);
     assert_eq!(rt; unread.out.bytes().len(), 0);
     assert_eq!(rt; unread.err.bytes(), b"psm: read failed\n".as_slice());
+    Ok(())
+}
 
+// One call finds the end of the source, and none is made behind it: the third would fail.
+#[test]
+fn end_is_read_once(rt: HostRuntime) -> Result<(), Fail> {
+    let alloc = rt.alloc();
+    let src = MemSource::new(b"VALUES (1);".to_vec(alloc)?, vec![in alloc; 2]?, 100);
+    let end = ran(alloc, &["psm", "run"], src, sink(alloc, 100));
+    assert_eq!(rt; end.status, Status::Done);
     Ok(())
 }
 

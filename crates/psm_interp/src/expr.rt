@@ -79,7 +79,7 @@ pub fn eval_all(
 ) -> Result<Items<Value>, Stop>
     ensures { (w : World) → Tells w result (ev_all (exprs_of (routines (plain catalog.now)) exprs.now) (in_sight row.entry) frame.now w) }
 {
-    let mut values = Items::new(alloc);
+    let mut values = Items::from_vec(Vec::with_capacity(alloc, exprs.len())?);
     for expr in exprs {
         let value = eval(alloc, expr, row, frame, catalog)?;
         values.push(value)?;

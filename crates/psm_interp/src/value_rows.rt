@@ -23,7 +23,7 @@ pub fn eval_rows(
 ) -> Result<Vec<Row>, Stop>
     ensures { (w : World) → TellsRows w result (ev_rows (rows_of (routines (plain catalog.now)) rows.now) w) }
 {
-    let mut new = Vec::new(alloc);
+    let mut new = Vec::with_capacity(alloc, rows.len())?;
     for row in rows {
         let values = eval_all(alloc, row.as_slice(), None, &[], catalog)?;
         new.push(values)?;

@@ -19,6 +19,8 @@ use Rattle.token_grammar.specs.Reading.{same_kind}
 use Rattle.token_grammar.specs.Statement.{Answers, OpensAt, most_open}
 use Rattle.token_grammar.proofs.Ahead.{same_is}
 use Rattle.sql_grammar.specs.Openings.{opens_by, OpensWhereTooDeep}
+use Rattle.sql_grammar.specs.Constructs.{told_by_tokens, TellOpen}
+use Rattle.sql_grammar.proofs.Constructs.{told_open}
 use Rattle.sql_grammar.specs.Sql as g
 use Rattle.sql_grammar.specs.Sql.{Rule, Columns, Parameters, Arguments, Row, Bracketed, bracketed, ident, integer, named, primary, unary_sign, if_sign, signed, factor_operator, factor, factors, term, addend_operator, addend, addends, expr, more_exprs, exprs, comparison, predicate, filter, from_table, source, selection, select_word, select, row, more_rows, rows, values_word, values, query, insertion, into_table, insert, not_null, primary_key, column_constraint, constraints, column, more_columns, columns, parameter, more_parameters, parameters, table_definition, create_table, returns_type, return_value, body, function_definition, create_function, created, ddl, dml, unended, statement}
 
@@ -75,3 +77,39 @@ opens_where_too_deep tokens i (Ok p) a = tt
 opens_where_too_deep tokens i (Err fault.NoMemory) a = tt
 opens_where_too_deep tokens i (Err (fault.NoStatement k)) a = tt
 opens_where_too_deep tokens i (Err (fault.TooDeep k)) a = opens tokens k a.0.2
+
+rules_told : (r : Rule) → told_by_tokens (g.rules r) ≡ true
+unfolding bracketed ident integer named primary unary_sign if_sign signed factor_operator factor factors term addend_operator addend addends expr more_exprs exprs comparison predicate filter from_table source selection select_word select row more_rows rows values_word values query insertion into_table insert not_null primary_key column_constraint constraints column more_columns columns parameter more_parameters parameters table_definition create_table returns_type return_value body function_definition create_function created ddl dml unended statement
+rules_told Columns = refl
+rules_told Parameters = refl
+rules_told Arguments = refl
+rules_told Row = refl
+rules_told Bracketed = refl
+
+statement_told : told_by_tokens statement ≡ true
+unfolding bracketed ident integer named primary unary_sign if_sign signed factor_operator factor factors term addend_operator addend addends expr more_exprs exprs comparison predicate filter from_table source selection select_word select row more_rows rows values_word values query insertion into_table insert not_null primary_key column_constraint constraints column more_columns columns parameter more_parameters parameters table_definition create_table returns_type return_value body function_definition create_function created ddl dml unended statement
+statement_told = refl
+
+query_told : told_by_tokens query ≡ true
+unfolding bracketed ident integer named primary unary_sign if_sign signed factor_operator factor factors term addend_operator addend addends expr more_exprs exprs comparison predicate filter from_table source selection select_word select row more_rows rows values_word values query insertion into_table insert not_null primary_key column_constraint constraints column more_columns columns parameter more_parameters parameters table_definition create_table returns_type return_value body function_definition create_function created ddl dml unended statement
+query_told = refl
+
+dml_told : told_by_tokens dml ≡ true
+unfolding bracketed ident integer named primary unary_sign if_sign signed factor_operator factor factors term addend_operator addend addends expr more_exprs exprs comparison predicate filter from_table source selection select_word select row more_rows rows values_word values query insertion into_table insert not_null primary_key column_constraint constraints column more_columns columns parameter more_parameters parameters table_definition create_table returns_type return_value body function_definition create_function created ddl dml unended statement
+dml_told = refl
+
+ddl_told : told_by_tokens ddl ≡ true
+unfolding bracketed ident integer named primary unary_sign if_sign signed factor_operator factor factors term addend_operator addend addends expr more_exprs exprs comparison predicate filter from_table source selection select_word select row more_rows rows values_word values query insertion into_table insert not_null primary_key column_constraint constraints column more_columns columns parameter more_parameters parameters table_definition create_table returns_type return_value body function_definition create_function created ddl dml unended statement
+ddl_told = refl
+
+pub of_statement : TellOpen g.rules statement
+of_statement = told_open g.rules rules_told statement statement_told
+
+pub of_query : TellOpen g.rules query
+of_query = told_open g.rules rules_told query query_told
+
+pub of_dml : TellOpen g.rules dml
+of_dml = told_open g.rules rules_told dml dml_told
+
+pub of_ddl : TellOpen g.rules ddl
+of_ddl = told_open g.rules rules_told ddl ddl_told

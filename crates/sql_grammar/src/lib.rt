@@ -38,9 +38,19 @@ ghost use Rattle.syntax_trees.specs.declared.statement.Stmt.{Stmt};
 ghost use Rattle.token_grammar.specs.declared.fault.ParseFault.{ParseFault};
 ghost use Rattle.token_grammar.specs.Statement.{Answers, most_open};
 ghost use Rattle.sql_grammar.specs.Openings.{OpensWhereTooDeep};
-ghost use Rattle.sql_grammar.specs.Sql.{rules, statement};
+ghost use Rattle.sql_grammar.specs.Constructs.{TellOpen};
+ghost use Rattle.sql_grammar.specs.Sql.{rules, statement, query, dml, ddl};
 
 /// Where a statement is too deep, the token there opens a construct by the tokens alone.
 pub fn opens_where_too_deep()
     ensures { (tokens : List Token) (i : ℕ) (r : Result (Stmt × ℕ) ParseFault) → Answers rules most_open statement tokens i r → OpensWhereTooDeep tokens r }
+{}
+
+/// At each place, the constructs that are open by the tokens alone are those that the grammar has open there: for the
+/// statements of a script, and for each part that a parser reads by itself.
+pub fn open_constructs()
+    ensures statement { TellOpen rules statement }
+    ensures query { TellOpen rules query }
+    ensures dml { TellOpen rules dml }
+    ensures ddl { TellOpen rules ddl }
 {}

@@ -6,7 +6,7 @@ use Rattle.table_store.specs.Keys.{precedes, precedes_first, rises, all_below}
 use Rattle.table_store.proofs.Order.{cases, precedes-trans, precedes-asym, has_key-below, has_key-above}
 use Rattle.table_store.proofs.Puts.{left, right, both, to_not, put-front, put-past, tail-rises, head-rises, null-rises}
 
-abbrev all_above : ℕ → Row → List Row → Bool
+abbrev pub all_above : ℕ → Row → List Row → Bool
 all_above key x rows = list_all (λ r. precedes key x r) rows
 
 and_swap : (a b c : Bool) → (a && (b && c)) ≡ (b && (a && c))
@@ -101,7 +101,7 @@ pub last-null : (key : ℕ) (xs : List Row) (x : Row) → rises key (xs ++ x ∷
 last-null key [] x h = null-rises key x [] h
 last-null key (y ∷ ys) x h = last-null key ys x (tail-rises key y (ys ++ x ∷ []) h)
 
-first-above : (key : ℕ) (x : Row) (xs : List Row) → rises key (x ∷ xs) ≡ true → all_above key x xs ≡ true
+pub first-above : (key : ℕ) (x : Row) (xs : List Row) → rises key (x ∷ xs) ≡ true → all_above key x xs ≡ true
 first-above key x [] h = refl
 first-above key x (y ∷ ys) h =
     both (precedes key x y) (all_above key x ys) (head-rises key x (y ∷ ys) h)

@@ -5,3 +5,4 @@ pub mod Steps
 pub mod Whole
 pub mod Names
 pub mod Lacking
+pub mod Sorted

@@ -3,7 +3,7 @@ use Rattle.std.proofs.Common.{ℕ, ◌≡◌, Bool, true, false, List, [], ◌�
 use Rattle.std.specs.List.{list_any}
 use Rattle.rel_algebra.specs.Tables.{Row, key_of, has_key, has_null_key, repeats_key, put, in_key_order}
 use Rattle.table_store.specs.Keys.{precedes, precedes_first, rises}
-use Rattle.table_store.proofs.Order.{cases, precedes-trans, precedes-asym, has_key-swapped, above}
+use Rattle.table_store.proofs.Order.{cases, has_key-swapped, above}
 
 -- Tests.
 pub left : (a b : Bool) → (a && b) ≡ true → a ≡ true
@@ -120,13 +120,6 @@ repeats-behind key xs ys =
     ∙ ap (λ t. repeats_key key xs || (repeats_key key ys || t)) (meets-in_order key xs ys)
     ∙ sym (repeats-append key xs ys)
 
-pub repeats-before : (key : ℕ) (xs ys : List Row) → repeats_key key (in_key_order key xs ++ ys) ≡ repeats_key key (xs ++ ys)
-repeats-before key xs ys =
-    repeats-append key (in_key_order key xs) ys
-    ∙ ap (λ t. t || (repeats_key key ys || meets key (in_key_order key xs) ys)) (repeats-in_order key xs)
-    ∙ ap (λ t. repeats_key key xs || (repeats_key key ys || t)) (any-in_order (λ x. list_any (has_key key (key_of key x)) ys) key xs)
-    ∙ sym (repeats-append key xs ys)
-
 -- Where a row is put.
 pub put-front : (key : ℕ) (r x : Row) (xs : List Row) → precedes key r x ≡ true → put key r (x ∷ xs) ≡ r ∷ x ∷ xs
 put-front key r x xs t = ap (λ b. cond b (r ∷ x ∷ xs) (x ∷ put key r xs)) t
@@ -195,36 +188,3 @@ pub in_order-behind : (key : ℕ) (xs ys : List Row) → list_any (has_null_key 
     in_key_order key (xs ++ in_key_order key ys) ≡ in_key_order key (xs ++ ys)
 in_order-behind key [] ys n d = in_order-rises key (in_key_order key ys) (rises-in_order key ys n d)
 in_order-behind key (x ∷ xs) ys n d = ap (put key x) (in_order-behind key xs ys n d)
-
-put-put : (key : ℕ) (a b : Row) (xs : List Row) → precedes key a b ≡ true → put key a (put key b xs) ≡ put key b (put key a xs)
-put-put key a b [] h = put-front key a b [] h ∙ sym (put-past key b a [] (precedes-asym key a b h))
-put-put key a b (x ∷ xs) h =
-    let past = precedes-asym key a b h in
-    cases (precedes key b x)
-    (λ t. ap (put key a) (put-front key b x xs t) ∙ put-front key a b (x ∷ xs) h
-    ∙ sym (ap (put key b) (put-front key a x xs (precedes-trans key a b x h t)) ∙ put-past key b a (x ∷ xs) past ∙ ap (λ ys. a ∷ ys) (put-front key b x xs t)))
-    (λ f. cases (precedes key a x)
-    (λ t. ap (put key a) (put-past key b x xs f) ∙ put-front key a x (put key b xs) t
-    ∙ sym (ap (put key b) (put-front key a x xs t) ∙ put-past key b a (x ∷ xs) past ∙ ap (λ ys. a ∷ ys) (put-past key b x xs f)))
-    (λ g. ap (put key a) (put-past key b x xs f) ∙ put-past key a x (put key b xs) g ∙ ap (λ ys. x ∷ ys) (put-put key a b xs h)
-    ∙ sym (ap (put key b) (put-past key a x xs g) ∙ put-past key b x (put key a xs) f)))
-
-in_order-put : (key : ℕ) (r : Row) (xs ys : List Row) → has_null_key key r ≡ false → list_any (has_null_key key) xs ≡ false → list_any (has_key key (key_of key r)) xs ≡ false →
-    in_key_order key (put key r xs ++ ys) ≡ put key r (in_key_order key (xs ++ ys))
-in_order-put key r [] ys n m d = refl
-in_order-put key r (x ∷ xs) ys n m d = cases (precedes key r x)
-    (λ t. ap (λ zs. in_key_order key (zs ++ ys)) (put-front key r x xs t))
-    (λ f. ap (λ zs. in_key_order key (zs ++ ys)) (put-past key r x xs f)
-    ∙ ap (put key x) (in_order-put key r xs ys n (no_right (has_null_key key x) (list_any (has_null_key key) xs) m) (no_right (has_key key (key_of key r) x) (list_any (has_key key (key_of key r)) xs) d))
-    ∙ put-put key x r (in_key_order key (xs ++ ys))
-    (above key r x n (no_left (has_null_key key x) (list_any (has_null_key key) xs) m) (no_left (has_key key (key_of key r) x) (list_any (has_key key (key_of key r)) xs) d) f))
-
-pub in_order-before : (key : ℕ) (xs ys : List Row) → list_any (has_null_key key) xs ≡ false → repeats_key key xs ≡ false →
-    in_key_order key (in_key_order key xs ++ ys) ≡ in_key_order key (xs ++ ys)
-in_order-before key [] ys n d = refl
-in_order-before key (x ∷ xs) ys n d =
-    let own = list_any (has_key key (key_of key x)) xs in
-    let m = no_right (has_null_key key x) (list_any (has_null_key key) xs) n in
-    in_order-put key x (in_key_order key xs) ys (no_left (has_null_key key x) (list_any (has_null_key key) xs) n)
-    (any-in_order (has_null_key key) key xs ∙ m) (any-in_order (has_key key (key_of key x)) key xs ∙ no_left own (repeats_key key xs) d)
-    ∙ ap (put key x) (in_order-before key xs ys m (no_right own (repeats_key key xs) d))

@@ -1,6 +1,6 @@
--- What an insert leaves, by halves.
-use Rattle.std.proofs.Common.{ℕ, ◌≡◌, Bool, true, false, List, [], ◌∷◌, ◌++◌, refl, sym, ap, ◌∙◌, arith, cond, ◌||◌, Option, Some, None, take, drop, reverse, length, ◌≤◌}
-use Rattle.std.proofs.lemmas.List.{append-nil, take-append-drop}
+-- What an insert leaves: new rows that go in alone, and rows with more among them.
+use Rattle.std.proofs.Common.{ℕ, ◌≡◌, Bool, true, false, List, [], ◌∷◌, ◌++◌, refl, sym, ap, ◌∙◌, arith, cond, ◌||◌, Option, Some, None, reverse, length, ◌≤◌}
+use Rattle.std.proofs.lemmas.List.{append-nil}
 use Rattle.std.specs.List.{list_any}
 use Rattle.std.specs.Option.{option_map}
 use Rattle.std.specs.declared.vec.Vec.{Vec}
@@ -8,9 +8,8 @@ use Rattle.std.specs.declared.alloc.Global.{Global}
 use Rattle.sql_values.specs.declared.value.Value.{Value}
 use Rattle.rel_algebra.specs.Tables.{Row, Table, has_null_key, repeats_key, in_key_order, inserted}
 use Rattle.table_store.specs.Keys.{rises}
-use Rattle.table_store.specs.Inserting.{answer_to, rows_with, table_with, united}
-use Rattle.table_store.specs.declared.inserted.Inserted.TheVariants.{Stored, Refused}
-use Rattle.table_store.proofs.Puts.{no_left, no_right, list_any-append, meets, repeats-append, repeats-before, repeats-behind, in_order-before, in_order-behind, in_order-rises, nulls-rises, rises-in_order}
+use Rattle.table_store.specs.Inserting.{rows_with, table_with, united}
+use Rattle.table_store.proofs.Puts.{no_left, no_right, list_any-append, meets, repeats-append, repeats-behind, in_order-behind, in_order-rises, nulls-rises, rises-in_order}
 
 some_if : {A : Type 0} (b : Bool) (x s : A) → Some s ≡ cond b None (Some x) → (b ≡ false) × (s ≡ x)
 some_if true x s h = absurd cc
@@ -35,11 +34,6 @@ or_right : (n r t : Bool) → (n || r) ≡ true → (r ≡ true → t ≡ true) 
 or_right true r t h f = refl
 or_right false r t h f = f h
 
-or_both : (n m r t : Bool) → (n || r) ≡ true → (n ≡ true → m ≡ true) → (r ≡ true → t ≡ true) → (m || t) ≡ true
-or_both true m r t h f g = ap (λ b. b || t) (f refl)
-or_both false true r t h f g = refl
-or_both false false r t h f g = g h
-
 first_of_two : (a b : Bool) → a ≡ true → (a || b) ≡ true
 first_of_two a b h = ap (λ t. t || b) h
 
@@ -49,9 +43,6 @@ second_of_two false b h = h
 
 repeats_second : (key : ℕ) (xs ys : List Row) → repeats_key key ys ≡ true → repeats_key key (xs ++ ys) ≡ true
 repeats_second key xs ys h = repeats-append key xs ys ∙ second_of_two (repeats_key key xs) (repeats_key key ys || meets key xs ys) (first_of_two (repeats_key key ys) (meets key xs ys) h)
-
-repeats_first : (key : ℕ) (xs ys : List Row) → repeats_key key xs ≡ true → repeats_key key (xs ++ ys) ≡ true
-repeats_first key xs ys h = repeats-append key xs ys ∙ first_of_two (repeats_key key xs) (repeats_key key ys || meets key xs ys) h
 
 -- into rows
 pub refused_alone : (key : ℕ) (rows new : List Row) → None ≡ inserted [] key [] new → None ≡ inserted [] key rows new
@@ -67,51 +58,6 @@ into_rows key rows new s h =
     ∙ ap (λ b. cond b None (Some (in_key_order key (rows ++ in_key_order key new)))) (repeats-behind key rows new)
     ∙ ap (λ (zs : List Row). cond (repeats_key key (rows ++ new)) None (Some zs)) (in_order-behind key rows new (k.0) (k.1))
     ∙ sym (ap (λ b. cond (b || repeats_key key (rows ++ new)) None (Some (in_key_order key (rows ++ new)))) (k.0))
-
--- by halves
-pub refused_first : (key : ℕ) (front behind : List Row) → None ≡ inserted [] key [] front → None ≡ inserted [] key [] (front ++ behind)
-refused_first key front behind h =
-    let n = list_any (has_null_key key) front in
-    if_none (list_any (has_null_key key) (front ++ behind) || repeats_key key (front ++ behind)) (in_key_order key (front ++ behind))
-    (or_both n (list_any (has_null_key key) (front ++ behind)) (repeats_key key front) (repeats_key key (front ++ behind))
-    (none_if (n || repeats_key key front) (in_key_order key front) h)
-    (λ t. list_any-append (has_null_key key) front behind ∙ first_of_two n (list_any (has_null_key key) behind) t)
-    (repeats_first key front behind))
-
-pub refused_second : (key : ℕ) (front behind : List Row) → None ≡ inserted [] key [] behind → None ≡ inserted [] key [] (front ++ behind)
-refused_second key front behind h =
-    let n = list_any (has_null_key key) behind in
-    if_none (list_any (has_null_key key) (front ++ behind) || repeats_key key (front ++ behind)) (in_key_order key (front ++ behind))
-    (or_both n (list_any (has_null_key key) (front ++ behind)) (repeats_key key behind) (repeats_key key (front ++ behind))
-    (none_if (n || repeats_key key behind) (in_key_order key behind) h)
-    (λ t. list_any-append (has_null_key key) front behind ∙ second_of_two (list_any (has_null_key key) front) n t)
-    (repeats_second key front behind))
-
-pub by_halves : (key : ℕ) (front behind a b : List Row) → Some a ≡ inserted [] key [] front → Some b ≡ inserted [] key [] behind → united key a b ≡ inserted [] key [] (front ++ behind)
-by_halves key front behind a b h k =
-    let p = alone_some key front a h in
-    let q = alone_some key behind b k in
-    let none : list_any (has_null_key key) (front ++ behind) ≡ false =
-    list_any-append (has_null_key key) front behind ∙ ap (λ t. t || list_any (has_null_key key) behind) (p.0) ∙ q.0 in
-    ap (λ (zs : List Row). united key zs b) (p.2) ∙ ap (united key (in_key_order key front)) (q.2)
-    ∙ ap (λ t. cond t None (Some (in_key_order key (in_key_order key front ++ in_key_order key behind))))
-    (repeats-before key front (in_key_order key behind) ∙ repeats-behind key front behind)
-    ∙ ap (λ (zs : List Row). cond (repeats_key key (front ++ behind)) None (Some zs))
-    (in_order-before key front (in_key_order key behind) (p.0) (p.1) ∙ in_order-behind key front behind (q.0) (q.1))
-    ∙ sym (ap (λ t. cond (t || repeats_key key (front ++ behind)) None (Some (in_key_order key (front ++ behind)))) none)
-
-pub halves : (key n : ℕ) (new front behind : List Row) (o : Option (List Row)) → front ≡ take n new → behind ≡ drop n new → o ≡ inserted [] key [] (front ++ behind) → o ≡ inserted [] key [] new
-halves key n new front behind o e f h =
-    h ∙ ap (inserted [] key []) (ap (λ (zs : List Row). zs ++ behind) e ∙ ap (λ (zs : List Row). take n new ++ zs) f ∙ take-append-drop n new)
-
--- what an answer tells
-pub stored_is : (o : Option (List Row)) (rows s : List Row) → Stored ≡ answer_to o → s ≡ rows_with o rows → Some s ≡ o
-stored_is None rows s h k = cc
-stored_is (Some r) rows s h k = ap Some k
-
-pub refused_is : (o : Option (List Row)) → Refused ≡ answer_to o → None ≡ o
-refused_is None h = refl
-refused_is (Some r) h = cc
 
 pub rows_in_table : (o : Option (List Row)) (t : Table) (s : List Row) → s ≡ rows_with o t.rows → record t { rows = s } ≡ table_with o t
 rows_in_table None t s h = ap (λ (zs : List Row). record t { rows = zs }) h

@@ -4,7 +4,7 @@ ghost use Rattle.std.specs.Prelude.{◌≡◌, ◌<◌, ◌++◌, ◌&&◌, IsTr
 ghost use Rattle.std.specs.Bool.{MatchBool};
 ghost use Rattle.std.specs.List.{list_any};
 ghost use Rattle.rel_algebra.specs.Tables.{is_null, lacks_value as lacks_value_by, has_null_key as has_null_key_by, repeats_key};
-ghost use Rattle.table_store.specs.Keys.{precedes as precedes_by, rises, Tops};
+ghost use Rattle.table_store.specs.Keys.{number_of, precedes as precedes_by, rises, Tops};
 
 use row_types::ColumnType;
 use sql_values::{Comparison, Value};
@@ -20,6 +20,17 @@ pub fn precedes(a: &Row, b: &Row, key: usize) -> bool
     match (a.get(key), b.get(key)) {
         (Some(x), Some(y)) => Comparison::LessThan.holds(x, y),
         _ => false,
+    }
+}
+
+// The number that is a row's key, by which it is sorted; 0 for a NULL, which is refused wherever it stands.
+pub fn number(row: &Row, key: usize) -> i64
+    ensures { result ≡ number_of key row.now }
+{
+    match row.get(key) {
+        Some(Value::Int(n)) => *n,
+        Some(Value::Null) => 0,
+        None => 0,
     }
 }
 
@@ -66,6 +77,23 @@ pub fn any_lacks_value(rows: &[Row], columns: &[ColumnType]) -> bool
         }
     }
     false
+}
+
+// Whether no key is NULL and each is below the next; they are gone through from behind.
+pub fn all_rise(rows: &[Row], key: usize) -> bool
+    ensures { result ≡ rises key rows.now }
+{
+    let mut i = rows.len();
+    while i > 0 {
+        i -= 1;
+        if has_null_key(&rows[i], key) {
+            return false;
+        }
+        if i + 1 < rows.len() && !precedes(&rows[i], &rows[i + 1], key) {
+            return false;
+        }
+    }
+    true
 }
 
 // Whether rows in key order stay so with more behind them.

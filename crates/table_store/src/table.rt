@@ -80,7 +80,7 @@ impl Table {
         if any_lacks_value(&new, self.types.as_slice()) {
             return Ok(Inserted::Refused);
         }
-        let Some(more) = in_order(alloc, new, self.place)? else {
+        let Some(more) = in_order(new, self.place)? else {
             return Ok(Inserted::Refused);
         };
         let answer = add(alloc, &mut self.stored, more, self.place)?;

@@ -29,7 +29,7 @@ eval-returns-in_ok-value-in-Chain t c w =
 pub eval_all-returns-in_err-value : goal.eval_all-returns-in_err-value
 eval_all-returns-in_err-value t c w =
     all_stops (routines (plain c.args.catalog.now)) c.args.exprs.now c.loop-expr.expr-index c.expr-item.result c.in_err-value.field-0.0 c.loop-expr.values (in_sight c.args.row) c.args.frame.now w _
-    c.from_residual.result (omega arith) c.expr-item.is (c.in_err-value.ensures w) (c.loop-expr.invariant.value w) (search rules)
+    c.from_residual-in_err-value.result (omega arith) c.expr-item.is (c.in_err-value.ensures w) (c.loop-expr.invariant.value w) (search rules)
 
 pub eval_all-loop-expr-preserved : goal.eval_all-loop-expr-preserved
 eval_all-loop-expr-preserved t c =
