@@ -1,20 +1,22 @@
 -- Rows sorted by their keys: the same rows, so that they are in key order, or a key is NULL or stands twice.
-use Rattle.std.proofs.Common.{ℕ, ℤ, ◌≡◌, ◌≤◌, ◌<◌, ◌+◌, zero, suc, get_or, Bool, true, false, List, [], ◌∷◌, refl, sym, ap, ◌∙◌, subst, inl, inr, ◌⊎◌, arith, cond, not, ◌&&◌, ◌||◌, Some, None, length, IsPermutation}
-use Rattle.std.specs.List.Sorted.{IsSortedBy}
+use Rattle.std.proofs.Common.{ℕ, ℤ, ◌≡◌, ◌≤◌, ◌<◌, ◌+◌, zero, suc, get_or, take, drop, ⊎_elim, Bool, true, false, List, [], ◌∷◌, ◌++◌, refl, sym, ap, ◌∙◌, subst, inl, inr, ◌⊎◌, arith, cond, not, ◌&&◌, ◌||◌, Some, None, length, IsPermutation}
+use Rattle.std.specs.List.Sorted.{IsSortedBy, IsPartitionedBy, IsPartitionPoint}
 use Rattle.std.specs.Ordering.{is_lt, int_cmp}
 use Rattle.std.proofs.lemmas.Int.{ints}
 use Rattle.std.proofs.lemmas.List.Sums.{sum_by-cons}
-use Rattle.std.proofs.lemmas.List.Sorted.{sum_by-IsPermutation, list_any-IsPermutation, IsPermutation-sym, All-permutation}
+use Rattle.std.proofs.lemmas.List.Sorted.{sum_by-IsPermutation, list_any-IsPermutation, IsPermutation-sym, IsPermutation-trans, IsPermutation-to_front, IsPermutation-insert, All-permutation}
+use Rattle.std.proofs.lemmas.Bool.{cases_eq}
 use Rattle.std.proofs.lemmas.List.Elements.{All-from_recursion, recursion_from_All}
-use Rattle.std.specs.List.{list_any, sum_by, AllByRecursion}
+use Rattle.std.specs.List.{list_any, list_all, sum_by, AllByRecursion, insert}
 use Rattle.sql_values.specs.declared.value.Value.{Value}
 use Rattle.sql_values.specs.declared.value.Value.TheVariants.{Null, Int}
 use Rattle.sql_values.specs.declared.operators.Comparison.TheVariants.{Equals, LessThan}
 use Rattle.sql_values.specs.Operators.{compared}
 use Rattle.rel_algebra.specs.Tables.{Row, key_of, has_key, has_null_key, repeats_key, put, in_key_order, inserted, is_null}
-use Rattle.table_store.specs.Keys.{number_in, number_of, precedes, rises}
-use Rattle.table_store.proofs.Order.{cases, precedes-asym, has_key-same}
-use Rattle.table_store.proofs.Puts.{left, right, put-front, put-past, nulls-rises, head-rises, tail-rises, rises-in_order}
+use Rattle.table_store.specs.Keys.{number_in, number_of, precedes, precedes_first, rises}
+use Rattle.table_store.specs.Inserting.{united}
+use Rattle.table_store.proofs.Order.{cases, precedes-asym, precedes-trans, has_key-same}
+use Rattle.table_store.proofs.Puts.{left, right, put-front, put-past, nulls-rises, null-rises, both, to_not, repeats-append, head-rises, tail-rises, rises-in_order}
 use Rattle.table_store.proofs.Greatest.{all_above, first-above, repeats-rises}
 
 -- ---- how often a key stands
@@ -311,3 +313,79 @@ module _ (key : ℕ) where
   pub fall_breaks : (xs : List Row) (i : ℕ) (x y : Row) → i + 1 < length xs → x ≡ get_or xs i x → y ≡ get_or xs (i + 1) y → precedes key x y ≡ false → false ≡ rises key xs
   fall_breaks xs i x y l ex ey h = false_unless (rises key xs)
       (λ r. let p = ap (λ z. precedes key z y) ex ∙ ap (precedes key (get_or xs i x)) ey ∙ rises_at xs i x y l r in cc)
+
+  -- ---- one row among others
+
+  all_at : (p : Row → Bool) (xs : List Row) (i : ℕ) (d : Row) → i < length xs → list_all p xs ≡ true → p (get_or xs i d) ≡ true
+  all_at p [] i d l h = absurd (omega arith)
+  all_at p (x ∷ xs) zero d l h = left (p x) (list_all p xs) h
+  all_at p (x ∷ xs) (suc i) d l h = all_at p xs i d (omega arith) (right (p x) (list_all p xs) h)
+
+  rises_before : (xs : List Row) (i j : ℕ) (d : Row) → rises key xs ≡ true → i < j → j < length xs → precedes key (get_or xs i d) (get_or xs j d) ≡ true
+  rises_before [] i j d h k l = absurd (omega arith)
+  rises_before (x ∷ xs) i zero d h k l = absurd (omega arith)
+  rises_before (x ∷ xs) zero (suc j) d h k l = all_at (λ r. precedes key x r) xs j d (omega arith) (first-above key x xs h)
+  rises_before (x ∷ xs) (suc i) (suc j) d h k l = rises_before xs i j d (tail-rises key x xs h) (omega arith) (omega arith)
+
+  abbrev StandsAt : Row → List Row → ℕ → Type 0
+  StandsAt row xs place = IsPartitionPoint (λ r. precedes key r row ≡ true) (λ r. precedes key r row ≡ false) xs place
+
+  pub parted : (row : Row) (xs : List Row) → rises key xs ≡ true → IsPartitionedBy (λ r. precedes key r row) xs
+  parted row xs h i j d k l t = ⊎_elim
+      (λ e. ap (λ n. precedes key (get_or xs n d) row) e ∙ t)
+      (λ n. precedes-trans key (get_or xs i d) (get_or xs j d) row (rises_before xs i j d h (omega arith) l) t)
+      (cases_eq i j)
+
+  no_null_at : (xs : List Row) (i : ℕ) (d : Row) → i < length xs → rises key xs ≡ true → has_null_key key (get_or xs i d) ≡ false
+  no_null_at [] i d l h = absurd (omega arith)
+  no_null_at (x ∷ xs) zero d l h = null-rises key x xs h
+  no_null_at (x ∷ xs) (suc i) d l h = no_null_at xs i d (omega arith) (tail-rises key x xs h)
+
+  rises_with : (row : Row) (xs : List Row) (place : ℕ) → rises key xs ≡ true → has_null_key key row ≡ false → place ≤ length xs
+      → ((k : ℕ) → k < place → precedes key (get_or xs k row) row ≡ true) → precedes_first key row (drop place xs) ≡ true → rises key (take place xs ++ row ∷ drop place xs) ≡ true
+  rises_with row xs zero h n l below f = both (not (has_null_key key row)) (precedes_first key row xs && rises key xs) (to_not (has_null_key key row) n) (both (precedes_first key row xs) (rises key xs) f h)
+  rises_with row [] (suc place) h n l below f = absurd (omega arith)
+  rises_with row (x ∷ xs) (suc place) h n l below f =
+      both (not (has_null_key key x)) (precedes_first key x (take place xs ++ row ∷ drop place xs) && rises key (take place xs ++ row ∷ drop place xs)) (to_not (has_null_key key x) (null-rises key x xs h))
+      (both (precedes_first key x (take place xs ++ row ∷ drop place xs)) (rises key (take place xs ++ row ∷ drop place xs))
+      (next_is x xs place (omega arith) (below 0 (omega arith)) (head-rises key x xs h))
+      (rises_with row xs place (tail-rises key x xs h) n (omega arith) (λ k m. below (suc k) (omega arith)) f))
+    where
+      next_is : (x : Row) (xs : List Row) (place : ℕ) → place ≤ length xs → precedes key x row ≡ true → precedes_first key x xs ≡ true → precedes_first key x (take place xs ++ row ∷ drop place xs) ≡ true
+      next_is x xs zero l p q = p
+      next_is x [] (suc place) l p q = absurd (omega arith)
+      next_is x (y ∷ ys) (suc place) l p q = q
+
+  first_of_rest : (row : Row) (xs : List Row) (place : ℕ) → ((place < length xs) → precedes key row (get_or xs place row) ≡ true) → precedes_first key row (drop place xs) ≡ true
+  first_of_rest row [] zero h = refl
+  first_of_rest row [] (suc place) h = refl
+  first_of_rest row (x ∷ xs) zero h = h (omega arith)
+  first_of_rest row (x ∷ xs) (suc place) h = first_of_rest row xs place (λ l. h (omega arith))
+
+  pub rises_at_place : (row : Row) (xs : List Row) (place : ℕ) → rises key xs ≡ true → has_null_key key row ≡ false → place ≤ length xs → StandsAt row xs place
+      → ((place < length xs) → precedes key row (get_or xs place row) ≡ true) → rises key (insert xs place row) ≡ true
+  rises_at_place row xs place h n l at f = rises_with row xs place h n l (λ k m. at.0 k row (omega arith) m) (first_of_rest row xs place f)
+
+  pub united_is : (xs more ys : List Row) → IsPermutation (xs ++ more) ys → rises key ys ≡ true → Some ys ≡ united key xs more
+  united_is xs more ys p r =
+      let n : list_any (has_null_key key) (xs ++ more) ≡ false = list_any-IsPermutation (has_null_key key) (xs ++ more) ys p ∙ nulls-rises key ys r in
+      let d : repeats_key key (xs ++ more) ≡ false = repeats_same (xs ++ more) ys p ∙ repeats-rises key ys r in
+      ap Some (sym (in_order_is (xs ++ more) ys p n d r)) ∙ sym (ap (λ b. cond b None (Some (in_key_order key (xs ++ more)))) d)
+
+  pub one_is : (row : Row) (xs : List Row) (place : ℕ) → rises key (insert xs place row) ≡ true → Some (insert xs place row) ≡ united key xs (row ∷ [])
+  one_is row xs place r = united_is xs (row ∷ []) (insert xs place row)
+      (IsPermutation-trans (xs ++ row ∷ []) (row ∷ xs) (insert xs place row) (IsPermutation-to_front xs row) (IsPermutation-insert xs place row)) r
+
+  pub stands_there : (row y : Row) (xs : List Row) (place : ℕ) → rises key xs ≡ true → has_null_key key row ≡ false → place < length xs → y ≡ get_or xs place y → StandsAt row xs place
+      → precedes key row y ≡ false → repeats_key key (xs ++ row ∷ []) ≡ true
+  stands_there row y xs place h n l e at f =
+      let own = λ (x : Row). list_any (has_key key (key_of key x)) (row ∷ []) in
+      let m : has_null_key key y ≡ false = ap (has_null_key key) e ∙ no_null_at xs place y l h in
+      let g : precedes key y row ≡ false = ap (λ z. precedes key z row) e ∙ at.1 place y (omega arith) l in
+      let same : has_key key (key_of key y) row ≡ true = has_key-same key y row m n g f in
+      let some : list_any own xs ≡ true = any_at own xs place y l (ap own (sym e) ∙ ap (λ b. b || false) same) in
+      repeats-append key xs (row ∷ []) ∙ ap (λ b. repeats_key key xs || (repeats_key key (row ∷ []) || b)) some ∙ or_last (repeats_key key xs)
+    where
+      or_last : (a : Bool) → (a || true) ≡ true
+      or_last true = refl
+      or_last false = refl

@@ -1,8 +1,8 @@
 //! Rows, their keys, and the values that they lack.
 
-ghost use Rattle.std.specs.Prelude.{◌≡◌, ◌<◌, ◌++◌, ◌&&◌, IsTrue, length, false};
+ghost use Rattle.std.specs.Prelude.{◌≡◌, ◌<◌, ◌≤◌, ◌++◌, ◌∷◌, [], ◌&&◌, IfSome, IsNone, IsTrue, length, true, false};
 ghost use Rattle.std.specs.Bool.{MatchBool};
-ghost use Rattle.std.specs.List.{list_any};
+ghost use Rattle.std.specs.List.{list_any, insert};
 ghost use Rattle.rel_algebra.specs.Tables.{is_null, lacks_value as lacks_value_by, has_null_key as has_null_key_by, repeats_key};
 ghost use Rattle.table_store.specs.Keys.{number_of, precedes as precedes_by, rises, Tops};
 
@@ -94,6 +94,26 @@ pub fn all_rise(rows: &[Row], key: usize) -> bool
         }
     }
     true
+}
+
+// Where a row goes among rows in key order: behind all whose key is below its own, found by halving. There is no place where its key
+// stands there already.
+pub fn free_place(rows: &[Row], row: &Row, key: usize) -> Option<usize>
+    requires first { IsTrue (rises key rows.now) }
+    requires second { IsTrue (rises key (row.now ∷ [])) }
+    ensures within { IfSome result (λ place. place ≤ length rows.now) }
+    ensures place { IfSome result (λ place. IsTrue (rises key (insert rows.now place row.now))) }
+    ensures none { IsNone result → repeats_key key (rows.now ++ row.now ∷ []) ≡ true }
+{
+    let place = rows.partition_point(|other| precedes(other, row, key));
+    let Some(other) = rows.get(place) else {
+        return Some(place);
+    };
+    if precedes(row, other, key) {
+        Some(place)
+    } else {
+        None
+    }
 }
 
 // Whether rows in key order stay so with more behind them.

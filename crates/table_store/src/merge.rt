@@ -6,7 +6,7 @@ ghost use Rattle.table_store.specs.Keys.{rises};
 ghost use Rattle.table_store.specs.Inserting.{answer_to, rows_with, united};
 
 use crate::Inserted;
-use crate::keys::{Row, last_is_above, stand_behind, stands_twice};
+use crate::keys::{Row, free_place, last_is_above, stand_behind, stands_twice};
 use sql_values::NoMemory;
 use std::alloc::Global;
 
@@ -24,6 +24,10 @@ pub fn add(
     ensures unchanged { OnErr result (rows.new.items ≡ rows.old.items) }
     ensures order { IsTrue (rises key rows.new.items) }
 {
+    if more.len() == 1 {
+        let mut more = more;
+        return add_one(rows, take_last(&mut more), key);
+    }
     if stands_twice(rows, &more, key) {
         return Ok(Inserted::Refused);
     }
@@ -35,6 +39,22 @@ pub fn add(
     let behind = Vec::with_capacity(alloc, rows.len() + more.len())?;
     rows.reserve(more.len())?;
     merge(rows, more, behind, key);
+    Ok(Inserted::Stored)
+}
+
+// Puts one row at its place among rows in key order, or refuses it where its key stands there.
+fn add_one(rows: &mut Vec<Row>, row: Row, key: usize) -> Result<Inserted, NoMemory>
+    requires first { IsTrue (rises key rows.old.items) }
+    requires second { IsTrue (rises key (row ∷ [])) }
+    ensures answer { IfOk result (λ i. i ≡ answer_to (united key rows.old.items (row ∷ []))) }
+    ensures rows { IfOk result (λ i. rows.new.items ≡ rows_with (united key rows.old.items (row ∷ [])) rows.old.items) }
+    ensures unchanged { OnErr result (rows.new.items ≡ rows.old.items) }
+    ensures order { IsTrue (rises key rows.new.items) }
+{
+    let Some(place) = free_place(rows, &row, key) else {
+        return Ok(Inserted::Refused);
+    };
+    rows.insert(place, row)?;
     Ok(Inserted::Stored)
 }
 
