@@ -1,8 +1,8 @@
-//! Bound trees: statements whose names are resolved. A column, a variable and a function stand by their places.
+//! Bound trees: statements whose names are resolved. A column and a parameter stand by their places, a table and a function by their names.
 #![tactic(auto)]
 
 mod expr;
 mod statement;
 
 pub use expr::{BoundExpr, BoundLink};
-pub use statement::{BoundInsert, BoundQuery, BoundSelect, BoundTest};
+pub use statement::{BoundFrom, BoundInsert, BoundQuery, BoundRow, BoundSelect};

@@ -1,36 +1,41 @@
 //! Bound statements: the query and the INSERT.
 
 use crate::BoundExpr;
-use sql_values::{Comparison, Name};
+use sql_values::Name;
 use sqlite_items::Items;
 
-/// The test of a WHERE (ISO/IEC 9075-2, 8.2): two operands and the comparison between them.
+/// A row of VALUES (ISO/IEC 9075-2, 7.3).
 #[derive(Drop)]
-pub struct BoundTest {
-    pub left: BoundExpr,
-    pub comparison: Comparison,
-    pub right: BoundExpr,
+pub struct BoundRow {
+    pub values: Items<BoundExpr>,
 }
 
-/// A query (ISO/IEC 9075-2, 7.17).
+/// What stands behind FROM (7.5).
+#[derive(Drop)]
+pub enum BoundFrom {
+    /// A table, by its name.
+    Table(Name),
+}
+
+/// A query (7.17).
 #[derive(Drop)]
 pub enum BoundQuery {
     Select(BoundSelect),
-    /// The rows of VALUES, in which no column is in sight.
-    Values(Items<Items<BoundExpr>>),
+    /// The rows of VALUES.
+    Values(Items<BoundRow>),
 }
 
-/// A query over one table (ISO/IEC 9075-2, 7.16): the select list, the table's name, and the WHERE, if there is one.
+/// A query over FROM (7.16): the select list, FROM, and the top conjuncts of WHERE.
 #[derive(Drop)]
 pub struct BoundSelect {
     pub items: Items<BoundExpr>,
-    pub table: Name,
-    pub filter: Option<BoundTest>,
+    pub from: BoundFrom,
+    pub conjuncts: Items<BoundExpr>,
 }
 
-/// An INSERT (ISO/IEC 9075-2, 14.11): the table's name, and rows with an expression for each of its columns, in the table's order.
+/// An INSERT (14.11): the table's name, and a query with a column for each of the table's, in the table's order.
 #[derive(Drop)]
 pub struct BoundInsert {
     pub table: Name,
-    pub rows: Items<Items<BoundExpr>>,
+    pub source: BoundQuery,
 }

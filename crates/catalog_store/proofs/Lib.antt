@@ -1,1 +1,6 @@
-pub mod Entries
+pub mod Trees
+pub mod Called
+pub mod Named
+pub mod Sound
+pub mod Dropped
+pub mod Laws

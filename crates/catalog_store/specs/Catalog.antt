@@ -1,19 +1,25 @@
--- The catalog: what its names stand for, in the order of their making.
-use Rattle.std.specs.Prelude.{ℕ, List, [], ◌∷◌, if◌then◌else◌, Option, Some, None}
+-- The catalog: what its names stand for, in the order of their making. ISO/IEC 9075-2, 4.17
+-- (schemas).
+use Rattle.std.specs.Prelude.{ℕ, List, [], ◌∷◌, map, false, if◌then◌else◌, Option, Some, None}
 use Rattle.std.specs.Str.{bytes_eq}
 use Rattle.sql_values.specs.declared.value.Value.TheVariants.{Null}
-use Rattle.row_types.specs.declared.ColumnType.{ColumnType}
-use Rattle.rel_algebra.specs.Tree.{Literal, Routine, Returns}
+use Rattle.sql_values.specs.declared.value.SqlType.{SqlType}
+use Rattle.sql_values.specs.declared.value.SqlType.TheVariants.{Integer}
+use Rattle.row_types.specs.declared.RowType.{RowType}
+use Rattle.rel_algebra.specs.Tree.{Literal, Routine, Function as FunctionTree}
 
--- a function: how many parameters it has, its height, and its tree
+-- a function: the types of its parameters, that of its result, its height, the names that it uses,
+-- and its tree
 pub record Function : Type 0 where
-  pub parameters : ℕ
+  pub parameters : List SqlType
+  pub returns : SqlType
   pub height : ℕ
+  pub uses : List (List ℕ)
   pub routine : Routine
 
--- a table with its columns and the place of its key, or a function
+-- a table by the type of its rows, or a function
 pub data Object : Type 0 where
-  TableObject : List ColumnType → ℕ → Object
+  TableObject : RowType → Object
   FunctionObject : Function → Object
 
 pub record Entry : Type 0 where
@@ -23,20 +29,23 @@ pub record Entry : Type 0 where
 abbrev pub Catalog : Type 0
 Catalog = List Entry
 
--- what a name stands for: the first entry of that name
+abbrev pub names_of : Catalog → List (List ℕ)
+names_of catalog = map (λ e. e.name) catalog
+
+-- what a name stands for
 abbrev pub object_named : List ℕ → Catalog → Option Object
 object_named name [] = None
 object_named name (e ∷ es) = if bytes_eq e.name name then Some e.object else object_named name es
 
--- the tree that a call of an entry runs; a table's gives NULL
+-- the tree that a call runs where there is no function
 abbrev pub missing : Routine
-missing = Returns (Literal Null)
+missing = FunctionTree false [] Integer (Literal Null)
 
-abbrev pub routine_in : Object → Routine
-routine_in (TableObject columns key) = missing
-routine_in (FunctionObject f) = f.routine
+abbrev pub routine_in : Option Object → Routine
+routine_in None = missing
+routine_in (Some (TableObject row_type)) = missing
+routine_in (Some (FunctionObject f)) = f.routine
 
--- the routine of each entry
-abbrev pub routines : Catalog → List Routine
-routines [] = []
-routines (e ∷ es) = routine_in e.object ∷ routines es
+-- the tree that a call of a name runs
+abbrev pub routine_named : List ℕ → Catalog → Routine
+routine_named name catalog = routine_in (object_named name catalog)

@@ -1,3 +1,8 @@
 pub mod Catalog
 pub mod View
-pub mod Growth
+pub mod Calls
+pub mod Entries
+pub mod Users
+pub mod Laws
+pub mod Codes
+pub mod Examples

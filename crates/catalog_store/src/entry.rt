@@ -1,36 +1,69 @@
 //! What the catalog knows of each name.
 
+ghost use Rattle.std.specs.Prelude.{◌≡◌, Some};
+ghost use Rattle.std.specs.Option.{option_copied};
+
 use bound_trees::BoundExpr;
-use row_types::ColumnType;
-use sql_values::Name;
+use row_types::RowType;
+use sql_values::{Name, SqlType};
 use sqlite_items::Items;
+use std::marker::Model;
 
-/// A table: its columns in order, and the place of the key column among them.
+/// What is known of a function beside its body: the types of its parameters, that of its result,
+/// its height (one more than that of the highest function that it calls, and one for a function
+/// that calls none), and the names of the functions that it calls.
 #[derive(Drop)]
-pub struct TableEntry {
-    pub columns: Items<ColumnType>,
-    pub key: usize,
-}
-
-/// A function: how many parameters it has, its height (one more than that of the highest function that it calls, and one
-/// for a function that calls none), and the expression that it returns. Calls in it name entries that stand before it.
-#[derive(Drop)]
-pub struct FunctionEntry {
-    pub parameters: usize,
+pub struct Head {
+    pub parameters: Items<SqlType>,
+    pub returns: SqlType,
     pub height: u32,
-    pub body: BoundExpr,
+    pub uses: Items<Name>,
 }
 
 /// What a name stands for.
 #[derive(Drop)]
 pub enum Object {
-    Table(TableEntry),
-    Function(FunctionEntry),
+    Table(RowType),
+    Function(RoutineRecord),
 }
 
-/// A name with what it stands for. Tables and functions share one space of names.
+/// A function: its head, and what it returns.
 #[derive(Drop)]
-pub struct Entry {
-    pub name: Name,
-    pub object: Object,
+pub struct RoutineRecord {
+    pub head: Head,
+    pub body: Body,
+}
+
+/// What a function returns. Contracts see its tree; a program sees it by `tree` alone.
+#[derive(Drop)]
+pub struct Body {
+    returned: BoundExpr,
+}
+
+impl Model for Body {
+    ghost use Rattle.bound_trees.specs.declared.expr.BoundExpr.{BoundExpr};
+    ghost use Rattle.bound_trees.specs.contracts.expr.BoundExpr as tree;
+    ghost use Rattle.std.specs.Coded.{codes};
+
+    ghost Value = { BoundExpr };
+
+    ghost coded = { Prim.hlevel (codes, tree.the_row.coded) };
+
+    ghost view = { λ b. b.returned };
+}
+
+impl Body {
+    /// A body whose tree is there to run.
+    pub fn shown(tree: BoundExpr) -> Body
+        ensures { result ≡ tree }
+    {
+        Body { returned: tree }
+    }
+
+    /// The tree.
+    pub fn tree(&self) -> Option<&BoundExpr>
+        ensures { option_copied result ≡ Some self.now }
+    {
+        Some(&self.returned)
+    }
 }

@@ -1,15 +1,15 @@
 //! The catalog: tables and functions by their names, in the order of their making.
 #![tactic(auto)]
 
-ghost use Rattle.catalog_store.specs.Growth.{GrowsAtItsEnd};
-
+mod catalog;
 mod entry;
-mod lookup;
+mod names;
+#[cfg(test)]
+mod tests;
 
-pub use entry::{Entry, FunctionEntry, Object, TableEntry};
-pub use lookup::{Callee, Found, callee_at, find};
-
-/// What a catalog's entries stand for stays as entries are added behind them.
-pub fn grows_at_its_end()
-    ensures { GrowsAtItsEnd }
-{}
+pub use catalog::Catalog;
+pub use entry::{Body, Head, Object, RoutineRecord};
+pub use names::{
+    adding_leaves_the_others, calls_after_a_drop, dropping_leaves_the_others, objects_by_name,
+    users_of_names,
+};

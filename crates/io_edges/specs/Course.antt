@@ -1,9 +1,10 @@
 -- How the calls of an edge in memory go: which of them fail, and how much one takes.
-use Rattle.std.specs.Prelude.{◌≡◌, ℕ, ◌+◌, ◌-◌, ◌^◌, min, Bool, true, false, List, nat_eq, refl, [], ◌∷◌, Result, MatchResult}
+use Rattle.std.specs.Prelude.{◌≡◌, ℕ, ◌+◌, ◌-◌, ◌^◌, min, Bool, true, false, List, nat_eq, Result, MatchResult}
 use Rattle.std.specs.List.{list_any}
 use Rattle.io_edges.specs.declared.calls.Calls.{Calls}
 
--- the numbers of the calls that fail, from 0; how many bytes a call takes at most; how many calls there were
+-- the numbers of the calls that fail, from 0; how many bytes a call takes at most; how many calls
+-- there were
 pub record Course : Type 0 where
   pub failing : List ℕ
   pub per_call : ℕ
@@ -20,22 +21,7 @@ fails_now c = list_any (λ n. nat_eq n c.calls) c.failing
 abbrev pub one_later : Course → Course
 one_later c = record { failing = c.failing; per_call = c.per_call; calls = min (c.calls + 1) (2 ^ 64 - 1) }
 
--- the call fails exactly where it is listed; else it takes what there is, up to the most that a call takes
+-- the call fails exactly where it is listed; else it takes what there is, up to the most that a
+-- call takes
 abbrev pub TakesBy : {E : Type 0} → Course → ℕ → Result ℕ E → Type 0
 TakesBy c there r = MatchResult r (λ n. (fails_now c ≡ false) × (n ≡ min there c.per_call)) (λ _. fails_now c ≡ true)
-
--- the second call fails, and no other
-pub only_second : Course
-only_second = record { failing = 1 ∷ []; per_call = 5; calls = 0 }
-
-pub first_goes : fails_now only_second ≡ false
-unfolding only_second
-first_goes = refl
-
-pub second_fails : fails_now (one_later only_second) ≡ true
-unfolding only_second
-second_fails = refl
-
-pub third_goes : fails_now (one_later (one_later only_second)) ≡ false
-unfolding only_second
-third_goes = refl

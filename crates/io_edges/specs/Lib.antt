@@ -1,5 +1,8 @@
 pub mod Causes
+pub mod EmptyReads
 pub mod Told
 pub mod Course
 pub mod Sources
 pub mod Sinks
+pub mod Events
+pub mod Examples

@@ -23,7 +23,8 @@ std_sink_faults s = s.faults
 abbrev pub writer_of : {W : Type 0} → StdSink W → W
 writer_of s = s.inner
 
--- a write that is listed fails; else it takes what the piece has, up to the most that a call takes, or finds no memory
+-- a write that is listed fails; else it takes what the piece has, up to the most that a call takes,
+-- or finds no memory
 abbrev pub MemWrites : {E : Type 0} → Course → ℕ → Result ℕ E → Type 0
 MemWrites c there r = IfOk r (λ n. (fails_now c ≡ false) × (n ≡ min there c.per_call))
 

@@ -1,4 +1,5 @@
-//! The calls of an edge in memory: a test says beforehand which of them fail, and how much a call takes.
+//! The calls of an edge in memory: a test says beforehand which of them fail, and how much a call
+//! takes.
 ghost use Rattle.std.specs.Prelude.{◌≡◌, ◌<◌, length};
 
 /// Which calls fail, how many bytes a call takes at most, and how many calls were made.

@@ -1,9 +1,11 @@
-//! The edges of the program: where bytes come from and where they go. A source and a sink each count their faults,
-//! tell what they took where they can, and answer `Failed` only where the count rose. This crate knows nothing of
-//! what the bytes mean.
+//! The edges of the program: where bytes come from and where they go. A source and a sink each
+//! count their faults, tell what they took where they can, and answer `Failed` only where the count
+//! rose. This crate knows nothing of what the bytes mean.
 #![tactic(auto)]
 
 mod calls;
+mod empty;
+mod log;
 mod memory;
 mod sink;
 mod source;

@@ -1,41 +1,46 @@
-//! A source and a sink in memory, for tests: which of their calls fail, and how much a call takes, is said
-//! beforehand.
-ghost use Rattle.std.specs.Prelude.{◌≡◌, ◌<◌, ◌≤◌, [], Some, vec_len, length, IfSome, min};
+//! A source and a sink in memory, for tests: which of their calls fail, and how much a call takes,
+//! is said beforehand.
+ghost use Rattle.std.specs.Prelude.{◌≡◌, ◌<◌, ◌≤◌, ◌+◌, [], Some, vec_len, length, IfSome, min};
 ghost use Rattle.std.specs.Io.{ReadsAtMost};
 ghost use Rattle.std.specs.Io.KnownBytes.{ReadConsumes};
 ghost use Rattle.io_edges.specs.Causes.{HasCause, Counts};
 ghost use Rattle.io_edges.specs.Told.{WriteTakes, WritesSome, FlushTells};
 
 use crate::calls::Calls;
+use crate::empty::EmptyReads;
 use crate::{Failed, Sink, Source};
 use std::alloc::Global;
 
-/// A source over bytes in memory. A call takes at most so many bytes, and the calls that are listed fail.
+/// A source over bytes in memory. A call takes at most so many bytes, and the calls that are listed
+/// fail.
 #[derive(Drop)]
 pub struct MemSource {
     bytes: Vec<u8>,
     at: usize,
     calls: Calls,
     faults: u64,
+    empty: EmptyReads,
     ghost at_within: { at ≤ vec_len bytes },
 }
 
 impl MemSource {
-    ghost use Rattle.io_edges.specs.Sources.{mem_left, mem_source_course, mem_source_faults};
+    ghost use Rattle.io_edges.specs.Sources.{mem_left, mem_source_course, mem_source_faults, mem_empty_reads};
 
-    /// A source that has these bytes, and no fault so far. The calls that fail are named by number, from 0;
-    /// every other call takes at most `per_call` bytes.
+    /// A source that has these bytes, and no fault so far. The calls that fail are named by number,
+    /// from 0; every other call takes at most `per_call` bytes.
     pub fn new(bytes: Vec<u8>, failing: Vec<u64>, per_call: usize) -> Self
         requires { 0 < per_call }
         ensures left { mem_left result ≡ Some bytes.items }
         ensures course { mem_source_course result ≡ record { failing = failing.items; per_call = per_call; calls = 0 } }
         ensures faults { mem_source_faults result ≡ 0 }
+        ensures empty { mem_empty_reads result ≡ 0 }
     {
         MemSource {
             bytes,
             at: 0,
             calls: Calls::new(failing, per_call),
             faults: 0,
+            empty: EmptyReads::new(),
         }
     }
 
@@ -49,22 +54,27 @@ impl MemSource {
 
 impl Source for MemSource {
     ghost use Rattle.io_edges.specs.Course.{TakesBy, one_later};
-    ghost use Rattle.io_edges.specs.Sources.{mem_left, mem_bytes_left, mem_source_course, mem_source_faults};
+    ghost use Rattle.io_edges.specs.EmptyReads.{empty_by};
+    ghost use Rattle.io_edges.specs.Sources.{mem_left, mem_bytes_left, mem_source_course, mem_source_faults, mem_empty_reads};
 
     ghost left = { mem_left };
 
     ghost faults = { mem_source_faults };
+
+    ghost empty_reads = { mem_empty_reads };
 
     fn read(&mut self, buf: &mut [u8]) -> Result<usize, Failed>
         ensures bound { ReadsAtMost result buf.new }
         ensures bytes { ReadConsumes (mem_left self.old) (mem_left self.new) result buf.new }
         ensures cause { HasCause (mem_source_faults self.old) (mem_source_faults self.new) result }
         ensures counts { Counts (mem_source_faults self.old) (mem_source_faults self.new) result }
+        ensures empty { mem_empty_reads self.new ≡ mem_empty_reads self.old + empty_by result }
         ensures takes { TakesBy (mem_source_course self.old)
             (min (length (mem_bytes_left self.old)) (length buf.old)) result }
         ensures course { mem_source_course self.new ≡ one_later (mem_source_course self.old) }
     {
         if self.calls.fails_now() {
+            self.empty.count(0);
             return Err(Failed::counted(&mut self.faults));
         }
         let count = (self.bytes.len() - self.at)
@@ -72,6 +82,7 @@ impl Source for MemSource {
             .min(self.calls.per_call());
         buf[..count].copy_from_slice(&self.bytes[self.at..self.at + count]);
         self.at += count;
+        self.empty.count(count);
         Ok(count)
     }
 }
@@ -89,8 +100,8 @@ pub struct MemSink {
 impl MemSink {
     ghost use Rattle.io_edges.specs.Sinks.{mem_told, mem_sink_course, mem_sink_faults};
 
-    /// A sink that has taken nothing, with no fault so far. The calls that fail, writes and flushes alike, are named
-    /// by number, from 0; every other write takes at most `per_call` bytes.
+    /// A sink that has taken nothing, with no fault so far. The calls that fail, writes and flushes
+    /// alike, are named by number, from 0; every other write takes at most `per_call` bytes.
     pub fn new(alloc: Global, failing: Vec<u64>, per_call: usize) -> Self
         requires { 0 < per_call }
         ensures told { mem_told result ≡ Some (record { bytes = []; flushed = 0 }) }

@@ -13,15 +13,16 @@ pub trait Sink {
     /// How often it has failed. The number never falls, and stays at 2^64 - 1.
     ghost faults: { Self → ℕ };
 
-    /// Takes the first bytes of the piece, at least one where it has one, and says how many. The number of flushed
-    /// bytes stays. `Failed` comes only where the count of faults rose, and then nothing was taken.
+    /// Takes the first bytes of the piece, at least one where it has one, and says how many. The
+    /// number of flushed bytes stays. `Failed` comes only where the count of faults rose, and then
+    /// nothing was taken.
     fn write(&mut self, piece: &[u8]) -> Result<usize, Failed>
         ensures some { WritesSome result piece.now }
         ensures bytes { WriteTakes (told self.old) (told self.new) result piece.now }
         ensures cause { HasCause (faults self.old) (faults self.new) result };
 
-    /// Flushes all that was taken. `Failed` comes only where the count of faults rose, and then the number of
-    /// flushed bytes stays.
+    /// Flushes all that was taken. `Failed` comes only where the count of faults rose, and then the
+    /// number of flushed bytes stays.
     fn flush(&mut self) -> Result<(), Failed>
         ensures bytes { FlushTells (told self.old) (told self.new) result }
         ensures cause { HasCause (faults self.old) (faults self.new) result };

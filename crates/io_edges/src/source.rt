@@ -3,6 +3,7 @@ ghost use Rattle.std.specs.Prelude.{◌≡◌, ◌≤◌, ◌+◌, ◌-◌, ◌^
 ghost use Rattle.std.specs.Io.{ReadsAtMost};
 ghost use Rattle.std.specs.Io.KnownBytes.{ReadConsumes};
 ghost use Rattle.io_edges.specs.Causes.{HasCause};
+ghost use Rattle.io_edges.specs.EmptyReads.{empty_by};
 
 /// A call of a source or a sink failed, and took nothing.
 #[derive(Clone, Copy, Debug, PartialEq, Eq)]
@@ -27,10 +28,15 @@ pub trait Source {
     /// How often it has failed. The number never falls, and stays at 2^64 - 1.
     ghost faults: { Self → ℕ };
 
-    /// Takes the next bytes into the first places of the buffer, and says how many. 0 for a buffer that is not
-    /// empty means the end. `Failed` comes only where the count of faults rose, and then nothing was taken.
+    /// How many reads took nothing: they gave no byte, or failed.
+    ghost empty_reads: { Self → ℕ };
+
+    /// Takes the next bytes into the first places of the buffer, and says how many. 0 for a buffer
+    /// that is not empty means the end. `Failed` comes only where the count of faults rose, and
+    /// then nothing was taken.
     fn read(&mut self, buf: &mut [u8]) -> Result<usize, Failed>
         ensures bound { ReadsAtMost result buf.new }
         ensures bytes { ReadConsumes (left self.old) (left self.new) result buf.new }
-        ensures cause { HasCause (faults self.old) (faults self.new) result };
+        ensures cause { HasCause (faults self.old) (faults self.new) result }
+        ensures empty { empty_reads self.new ≡ empty_reads self.old + empty_by result };
 }

@@ -1,11 +1,12 @@
-//! A source over a reader of std and a sink over a writer of std: the trusted edge. They count each error, and tell
-//! nothing of bytes.
-ghost use Rattle.std.specs.Prelude.{◌≡◌, None};
+//! A source over a reader of std and a sink over a writer of std: the trusted edge. They count each
+//! error, and tell nothing of bytes.
+ghost use Rattle.std.specs.Prelude.{◌≡◌, ◌+◌, None};
 ghost use Rattle.std.specs.Io.{ReadsAtMost};
 ghost use Rattle.std.specs.Io.KnownBytes.{ReadConsumes, WriteAppends};
 ghost use Rattle.io_edges.specs.Causes.{HasCause, Counts};
 ghost use Rattle.io_edges.specs.Told.{WritesSome};
 
+use crate::empty::EmptyReads;
 use crate::{Failed, Sink, Source};
 use std::io::{Read, Write};
 
@@ -14,17 +15,23 @@ use std::io::{Read, Write};
 pub struct StdSource<R: Read + Drop> {
     inner: R,
     faults: u64,
+    empty: EmptyReads,
 }
 
 impl<R: Read + Drop> StdSource<R> {
-    ghost use Rattle.io_edges.specs.Sources.{std_source_faults, reader_of};
+    ghost use Rattle.io_edges.specs.Sources.{std_source_faults, std_empty_reads, reader_of};
 
     /// A source over this reader, with no fault so far.
     pub fn new(inner: R) -> Self
         ensures reader { reader_of result ≡ inner }
         ensures faults { std_source_faults result ≡ 0 }
+        ensures empty { std_empty_reads result ≡ 0 }
     {
-        StdSource { inner, faults: 0 }
+        StdSource {
+            inner,
+            faults: 0,
+            empty: EmptyReads::new(),
+        }
     }
 
     /// How often it has failed.
@@ -36,11 +43,14 @@ impl<R: Read + Drop> StdSource<R> {
 }
 
 impl<R: Read + Drop> Source for StdSource<R> {
-    ghost use Rattle.io_edges.specs.Sources.{std_source_faults, reader_of};
+    ghost use Rattle.io_edges.specs.EmptyReads.{empty_by};
+    ghost use Rattle.io_edges.specs.Sources.{std_source_faults, std_empty_reads, reader_of};
 
     ghost left = { λ _. None };
 
     ghost faults = { std_source_faults };
+
+    ghost empty_reads = { std_empty_reads };
 
     // Each error of the reader is a fault.
     fn read(&mut self, buf: &mut [u8]) -> Result<usize, Failed>
@@ -48,11 +58,18 @@ impl<R: Read + Drop> Source for StdSource<R> {
         ensures bytes { ReadConsumes None None result buf.new }
         ensures cause { HasCause (std_source_faults self.old) (std_source_faults self.new) result }
         ensures counts { Counts (std_source_faults self.old) (std_source_faults self.new) result }
+        ensures empty { std_empty_reads self.new ≡ std_empty_reads self.old + empty_by result }
         ensures reader { ReadConsumes (R.remaining (reader_of self.old)) (R.remaining (reader_of self.new)) result buf.new }
     {
         match self.inner.read(buf) {
-            Ok(count) => Ok(count),
-            Err(_) => Err(Failed::counted(&mut self.faults)),
+            Ok(count) => {
+                self.empty.count(count);
+                Ok(count)
+            }
+            Err(_) => {
+                self.empty.count(0);
+                Err(Failed::counted(&mut self.faults))
+            }
         }
     }
 }
@@ -100,7 +117,8 @@ impl<W: Write + Drop> Sink for StdSink<W> {
 
     ghost within = { λ s. nothing_told };
 
-    // Each error of the writer is a fault, and so is a write that takes nothing of a piece that has a byte.
+    // Each error of the writer is a fault, and so is a write that takes nothing of a piece that has
+    // a byte.
     fn write(&mut self, piece: &[u8]) -> Result<usize, Failed>
         ensures some { WritesSome result piece.now }
         ensures bytes { WriteTakes None None result piece.now }

@@ -1,5 +1,6 @@
-//! What no clause can say: that the edges over std pass bytes on, and how those in memory are made to fail.
-use crate::{Failed, MemSink, MemSource, Sink, Source, StdSink, StdSource};
+//! What no clause can say: that the edges over std pass bytes on, and how those in memory are made
+//! to fail.
+use crate::{Failed, MemSink, MemSource, Sink, Source, StdSink, StdSource, SureSink, SureSource};
 use std::io::{Error, ErrorKind, Read, Write};
 use std::test::Fail;
 
@@ -84,5 +85,20 @@ fn calls_that_fail(rt: HostRuntime) -> Result<(), Fail> {
     assert_eq!(rt; source.faults(), 1);
     assert_eq!(rt; source.read(&mut buf), Ok(2));
     assert_eq!(rt; source.read(&mut buf), Ok(0));
+    Ok(())
+}
+
+// They never fail, and take and give all that fits.
+#[test]
+fn sure_edges(rt: HostRuntime) -> Result<(), Fail> {
+    let mut source = SureSource::new(b"abc".to_vec(rt.alloc())?);
+    let mut sink = SureSink::new();
+    let mut buf = [0; 2];
+    assert_eq!(rt; source.read(&mut buf), Ok(2));
+    assert_eq!(rt; sink.write(&buf), Ok(2));
+    assert_eq!(rt; source.read(&mut buf), Ok(1));
+    assert_eq!(rt; buf, *b"cb");
+    assert_eq!(rt; source.read(&mut buf), Ok(0));
+    assert_eq!(rt; sink.flush(), Ok(()));
     Ok(())
 }

@@ -1,3 +1,3 @@
-pub mod Noting
+pub mod Laws
 pub mod Order
 pub mod Sooner

@@ -3,6 +3,7 @@ use Rattle.std.specs.Prelude.{ℕ, Bool, true, false, ◌&&◌, ◌||◌, nat_lt
 use Rattle.syntax_trees.specs.declared.anchor.Anchor.{Anchor}
 use Rattle.name_faults.specs.declared.fault.Fault.{Fault}
 use Rattle.name_faults.specs.declared.fault.FaultKind.{FaultKind}
+use Rattle.name_faults.specs.declared.notes.Notes.{Notes}
 use Rattle.name_faults.specs.declared.fault.FaultKind.TheVariants.{UnknownName, DuplicateName, TypeMismatch, WrongCount, NotPermitted, TooHigh}
 
 -- which kind decides at one place
@@ -30,23 +31,51 @@ noted least (f ∷ fs) = noted (lesser least f) fs
 abbrev pub least : List Fault → Option Fault
 least fs = noted None fs
 
--- a value with the faults that were found on the way to it
+-- a value, the faults that were found on the way to it, and the names of the functions that are
+-- called on the way
 pub record Noted (A : Type 0) : Type 0 where
   pub value : A
   pub faults : List Fault
+  pub uses : List (List ℕ)
 
 abbrev pub give : {A : Type 0} → A → Noted A
-give a = record { value = a; faults = [] }
+give a = record { value = a; faults = []; uses = [] }
 
+-- the second, with what the first left beside its value
+abbrev pub behind : {A B : Type 0} → Noted A → Noted B → Noted B
+behind x y = record { value = y.value; faults = x.faults ++ y.faults; uses = x.uses ++ y.uses }
+
+-- one after another
 infixl 1 ◌>>=◌
 abbrev pub ◌>>=◌ : {A B : Type 0} → Noted A → (A → Noted B) → Noted B
-◌>>=◌ x go = record { value = (go x.value).value; faults = x.faults ++ (go x.value).faults }
+◌>>=◌ x go = behind x (go x.value)
 
+-- faults first
 infixr 1 ◌>>◌
 abbrev pub ◌>>◌ : {B : Type 0} → List Fault → Noted B → Noted B
-◌>>◌ fs y = record { value = y.value; faults = fs ++ y.faults }
+◌>>◌ fs y = record { value = y.value; faults = fs ++ y.faults; uses = y.uses }
+
+-- another value of the same
+abbrev pub as_value : {A B : Type 0} → (A → B) → Noted A → Noted B
+as_value f x = record { value = f x.value; faults = x.faults; uses = x.uses }
+
+-- what two make
+abbrev pub both : {A B C : Type 0} → (A → B → C) → Noted A → Noted B → Noted C
+both f x y = behind x (as_value (f x.value) y)
 
 -- a fault where the test holds
 abbrev pub fault_if : Bool → FaultKind → Anchor → List Fault
 fault_if false kind place = []
 fault_if true kind place = record { at = place; kind = kind } ∷ []
+
+-- what the code keeps of that: the least fault, and the names in use
+abbrev pub taken : {A : Type 0} → Notes → Noted A → Notes
+taken n x = record { least = noted n.least x.faults; uses = n.uses ++ x.uses }
+
+-- nothing but the least fault so far
+abbrev pub noted_before : Option Fault → Notes
+noted_before least = record { least = least; uses = [] }
+
+-- a name more
+abbrev pub using_name : List ℕ → Notes → Notes
+using_name name n = record { least = n.least; uses = n.uses ++ name ∷ [] }

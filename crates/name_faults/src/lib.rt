@@ -6,9 +6,11 @@ ghost use Rattle.name_faults.specs.Least.{LeastStandsFirst, NoneIsLeastOfNone, K
 
 mod fault;
 mod least;
+mod notes;
 
 pub use fault::{Fault, FaultKind};
 pub use least::{note, note_if};
+pub use notes::Notes;
 
 /// The least fault is one of the faults, and none stands before it, by place and then kind.
 pub fn least_stands_first()

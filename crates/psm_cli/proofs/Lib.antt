@@ -2,5 +2,6 @@ pub mod WriteLemmas
 pub mod ReadLemmas
 pub mod LowerLaws
 pub mod RunLemmas
+pub mod Runs
 pub mod OneRun
 pub mod ProgramLemmas

@@ -1,10 +1,10 @@
 -- The laws on tokens and statements that the laws on scripts rest on.
-use Rattle.std.proofs.Common.{◌≡◌, ℕ, List}
+use Rattle.std.proofs.Common.{◌≡◌, ◌<◌, ◌≤◌, ℕ, List, length}
 use Rattle.sql_lex.specs.Tokens.{Lexing, IsTokens}
-use Rattle.sql_lex.proofs.Lists as lists
+use Rattle.sql_lex.proofs.Laws as lists
 use Rattle.psm_session.specs.Database.{Plain}
 use Rattle.psm_session.specs.Statement.{Statement}
-use Rattle.psm_session.proofs.One.{Statement-one}
+use Rattle.psm_session.proofs.Laws as session
 
 -- bytes have one list of tokens
 pub one_lexing : (bytes : List ℕ) (t t' : Lexing) → IsTokens bytes t → IsTokens bytes t' → t ≡ t'
@@ -17,4 +17,9 @@ some_lexing = lists.one_lexing
 -- a statement at a token has one outcome
 pub one_statement : (t : Lexing) (at : ℕ) (before : Plain) (r r' : List ℕ) (to to' : ℕ) (after after' : Plain)
     → Statement t at before r to after → Statement t at before r' to' after' → (r ≡ r') × (to ≡ to') × (after ≡ after')
-one_statement = Statement-one
+one_statement = session.one_statement
+
+-- and it always has one before the end
+pub some_statement : (t : Lexing) (at : ℕ) (before : Plain) → at < length t.tokens
+    → (reply : List ℕ) × (to : ℕ) × (after : Plain) × Statement t at before reply to after × (at < to) × (to ≤ length t.tokens)
+some_statement = session.some_statement

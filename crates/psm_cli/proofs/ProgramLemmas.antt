@@ -1,30 +1,30 @@
 -- Laws on what a call of the program says of its edges.
-use Rattle.std.proofs.Common.{◌≡◌, ℕ, ◌≤◌, List, [], ◌++◌, refl, sym, ◌∙◌, ap, subst, arith, length, length-append, ◌⊎◌, inl, inr}
-use Rattle.std.specs.Prelude.{Option, Some, None, IfSome}
+use Rattle.std.proofs.Common.{◌≡◌, ℕ, ◌≤◌, ◌+◌, List, [], ◌++◌, refl, sym, ◌∙◌, ap, subst, arith, length, length-append, ◌⊎◌, inl, inr}
+use Rattle.std.specs.Prelude.{Option, Some, None}
 use Rattle.std.specs.Io.KnownBytes.{Consumes}
 use Rattle.io_edges.specs.Told.{Told}
-use Rattle.io_edges.proofs.ToldLemmas.{Takes-nil}
+use Rattle.io_edges.proofs.Laws.{Takes-nil}
 use Rattle.psm_session.specs.Database.{Plain}
 use Rattle.psm_cli.specs.Reading.{TakesCount}
-use Rattle.psm_cli.specs.Whole.{IsFirstFew, EndsOn}
+use Rattle.psm_cli.specs.Whole.{EndsOn}
+use Rattle.psm_cli.specs.declared.command.Command.{Command}
+use Rattle.psm_cli.specs.declared.read.TheConstants.{LIMIT}
 use Rattle.psm_cli.specs.declared.status.Status.{Status}
 use Rattle.psm_cli.specs.declared.status.Status.TheVariants.{NoMemory, ScriptTooLong}
 use Rattle.psm_cli.proofs.LowerLaws.{some_lexing}
 
+-- the command that was found is the one that the words are
+pub same_command : (found words : Option Command) (k command : Command) → found ≡ words → found ≡ Some k → words ≡ Some command → k ≡ command
+same_command found words k command is some taken = let e : Some k ≡ Some command = sym some ∙ is ∙ taken in cc
+
+pub no_command : (found words : Option Command) (command : Command) → found ≡ words → found ≡ None → words ≡ Some command → ⊥
+no_command found words command is none taken = let e : None ≡ Some command = sym none ∙ is ∙ taken in cc
+
 -- before anything was run
-pub none_ran : (script : List ℕ) (told : Option Told) (db : Plain) → EndsOn script told told db db NoMemory
-none_ran script told db =
+pub none_ran : (command : Command) (script : List ℕ) (told : Option Told) (db : Plain) → EndsOn command script told told db db NoMemory
+none_ran command script told db =
     let t = some_lexing script in
     record { lexing = t.0; lexed = t.1; ends = record { replies = []; to = 0; ran = (refl, refl); written = Takes-nil told } }
-
-none_run_of : (script : List ℕ) (left : Option (List ℕ)) (told : Option Told) (db : Plain) → IfSome left (λ bytes. script ≡ bytes) → IsFirstFew left told told db db
-none_run_of script left told db is =
-    let r = none_ran script told db in
-    record { script = script; is = is; lexing = r.lexing; lexed = r.lexed; first = r.ends }
-
-pub none_run : (left : Option (List ℕ)) (told : Option Told) (db : Plain) → IsFirstFew left told told db db
-none_run None told db = none_run_of [] None told db tt
-none_run (Some bytes) told db = none_run_of bytes (Some bytes) told db refl
 
 -- how many bytes were taken, from what was left before and after
 pub taken : (left left' : Option (List ℕ)) (bytes rest bs : List ℕ) → left ≡ Some (bytes ++ rest) → left' ≡ Some rest → Consumes left left' bs → length bs ≡ length bytes
@@ -34,8 +34,8 @@ taken left left' bytes rest bs before now used =
     omega (arith, length-append bytes rest, length-append bs rest, ap length both)
 
 -- where one byte more than the limit was taken, the script was too long
-pub too_long_there : (left left' : Option (List ℕ)) (status : Status) → (status ≡ ScriptTooLong) ⊎ TakesCount left left' (λ n. n ≤ 16777216)
-    → (bytes rest : List ℕ) → left ≡ Some (bytes ++ rest) → left' ≡ Some rest → length bytes ≡ 16777217 → status ≡ ScriptTooLong
+pub too_long_there : (left left' : Option (List ℕ)) (status : Status) → (status ≡ ScriptTooLong) ⊎ TakesCount left left' (λ n. n ≤ LIMIT)
+    → (bytes rest : List ℕ) → left ≡ Some (bytes ++ rest) → left' ≡ Some rest → length bytes ≡ LIMIT + 1 → status ≡ ScriptTooLong
 too_long_there left left' status (inl long) bytes rest before now size = long
 too_long_there left left' status (inr few) bytes rest before now size =
     let same : length few.0 ≡ length bytes = taken left left' bytes rest few.0 before now few.1 in

@@ -1,10 +1,11 @@
 -- How a run goes on by a statement, and how it ends.
-use Rattle.std.proofs.Common.{◌≡◌, ℕ, List, [], ◌∷◌, ◌++◌, Bool, true, false, refl, sym, ◌∙◌, ap, subst, append-nil, inr, ◌||◌}
+use Rattle.std.proofs.Common.{◌≡◌, ℕ, List, [], ◌∷◌, ◌++◌, Bool, refl, sym, ◌∙◌, ap, subst, append-nil, inr, ◌||◌}
+use Rattle.std.proofs.Math.Bool.{or-false}
 use Rattle.std.proofs.lemmas.Grind.{flat_map-append}
 use Rattle.std.proofs.lemmas.List.Folds.{list_any-append}
 use Rattle.std.specs.Prelude.{Option, Some, None}
 use Rattle.io_edges.specs.Told.{Told, Takes, TakesFlushed, with_bytes, all_flushed}
-use Rattle.io_edges.proofs.ToldLemmas.{Takes-trans}
+use Rattle.io_edges.proofs.Laws.{Takes-trans}
 use Rattle.psm_cli.specs.Script.{Step, Runs, whole, has_exception, is_exception}
 use Rattle.psm_cli.specs.Outcome.{RanTo, Stepped, StepStopped, Stopped, Finishes, Ends}
 use Rattle.psm_cli.specs.declared.run.Stop.{Stop}
@@ -12,15 +13,11 @@ use Rattle.psm_cli.specs.declared.run.Stop.TheVariants as stop
 use Rattle.psm_cli.specs.declared.status.Status.{Status}
 use Rattle.psm_cli.specs.declared.status.Status.TheVariants.{Done, DoneWithExceptions, Usage, ReadFault, WriteFault, NoMemory, ScriptTooLong}
 
-or_false : (b : Bool) → (b || false) ≡ b
-or_false true = refl
-or_false false = refl
-
 pub whole-more : (replies : List (List ℕ)) (reply : List ℕ) → whole (replies ++ reply ∷ []) ≡ whole replies ++ reply
 whole-more replies reply = flat_map-append (λ r. r) replies (reply ∷ []) ∙ ap (λ x. whole replies ++ x) (append-nil reply)
 
 pub has_exception-more : (replies : List (List ℕ)) (reply : List ℕ) → has_exception (replies ++ reply ∷ []) ≡ (has_exception replies || is_exception reply)
-has_exception-more replies reply = list_any-append is_exception replies (reply ∷ []) ∙ ap (λ x. has_exception replies || x) (or_false (is_exception reply))
+has_exception-more replies reply = list_any-append is_exception replies (reply ∷ []) ∙ ap (λ x. has_exception replies || x) (or-false (is_exception reply))
 
 module _ {D : Type 0} (step : Step D) where
   pub runs_on : (at : ℕ) (before : D) (replies : List (List ℕ)) (mid : ℕ) (between : D) (reply : List ℕ) (to : ℕ) (after : D)
@@ -61,14 +58,14 @@ module _ {D : Type 0} (step : Step D) (told mid told' : Option Told) (before bet
     written = subst (λ (t : Option Told). Takes told t (whole r.replies)) (sym s.0) r.written;
   }
 
-flushed_behind : (a b c : Option Told) (xs : List ℕ) → Takes a b xs → TakesFlushed b c [] → TakesFlushed a c xs
-flushed_behind None b c xs p q = tt
-flushed_behind (Some t) b c xs p q =
+flushed_after : (a b c : Option Told) (xs : List ℕ) → Takes a b xs → TakesFlushed b c [] → TakesFlushed a c xs
+flushed_after None b c xs p q = tt
+flushed_after (Some t) b c xs p q =
     let r : TakesFlushed (Some (with_bytes t xs)) c [] = subst (λ (o : Option Told). TakesFlushed o c []) p q in
     r ∙ ap (λ bs. Some (all_flushed (record { bytes = bs; flushed = t.flushed }))) (append-nil (t.bytes ++ xs))
 
-unflushed_behind : (a b c : Option Told) (xs : List ℕ) → Takes a b xs → Takes b c [] → Takes a c xs
-unflushed_behind a b c xs p q = subst (λ (bs : List ℕ). Takes a c bs) (append-nil xs) (Takes-trans a b c xs [] p q)
+unflushed_after : (a b c : Option Told) (xs : List ℕ) → Takes a b xs → Takes b c [] → Takes a c xs
+unflushed_after a b c xs p q = subst (λ (bs : List ℕ). Takes a c bs) (append-nil xs) (Takes-trans a b c xs [] p q)
 
 module _ {D : Type 0} (step : Step D) (end : ℕ) (told mid told' : Option Told) (before after : D) where
   pub ends : (excepts : Bool) (status : Status) → RanTo step end told mid before after excepts → Finishes excepts mid told' status
@@ -77,18 +74,18 @@ module _ {D : Type 0} (step : Step D) (end : ℕ) (told mid told' : Option Told)
     replies = r.replies;
     ran = r.ran;
     kind = r.kind ∙ f.0;
-    written = flushed_behind told mid told' (whole r.replies) r.written f.1;
+    written = flushed_after told mid told' (whole r.replies) r.written f.1;
   }
   ends excepts DoneWithExceptions r f = record {
     replies = r.replies;
     ran = r.ran;
     kind = r.kind ∙ f.0;
-    written = flushed_behind told mid told' (whole r.replies) r.written f.1;
+    written = flushed_after told mid told' (whole r.replies) r.written f.1;
   }
   ends excepts WriteFault r f = inr (record {
     replies = r.replies;
     ran = r.ran;
-    written = unflushed_behind told mid told' (whole r.replies) r.written f;
+    written = unflushed_after told mid told' (whole r.replies) r.written f;
   })
   ends excepts NoMemory r f = absurd f
   ends excepts Usage r f = absurd f

@@ -3,7 +3,7 @@ use Rattle.std.proofs.Common.{◌≡◌, ℕ, ◌-◌, List, ◌++◌, length, t
 use Rattle.std.proofs.lemmas.Grind.{common_steps}
 use Rattle.std.specs.Prelude.{Option}
 use Rattle.io_edges.specs.Told.{Told, Takes}
-use Rattle.io_edges.proofs.ToldLemmas.{Takes-trans}
+use Rattle.io_edges.proofs.Laws.{Takes-trans}
 use Rattle.psm_cli.specs.Writing.{Went}
 
 to_end : (xs : List ℕ) (n : ℕ) → take (length xs - n) (drop n xs) ≡ drop n xs

@@ -1,8 +1,8 @@
 pub mod Script
 pub mod Session
-pub mod Words
+pub mod Command
 pub mod Reading
 pub mod Writing
 pub mod Outcome
 pub mod Whole
-pub mod Rows
+pub mod Examples

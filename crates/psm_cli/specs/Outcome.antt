@@ -1,5 +1,5 @@
--- How far a run over a step came: what was written, and the database that is left. `told` and `told'` are what the
--- sink tells before and after.
+-- How far a run over a step came: what was written, and the database that is left. `told` and
+-- `told'` are what the sink tells before and after.
 use Rattle.std.specs.Prelude.{◌≡◌, ◌⊎◌, ℕ, Bool, true, false, List, [], ◌∷◌, ◌++◌, Option}
 use Rattle.io_edges.specs.Told.{Told, Takes, TakesFlushed}
 use Rattle.psm_cli.specs.Script.{Step, Runs, whole, has_exception, is_exception}
@@ -71,7 +71,7 @@ abbrev pub Stopped : {D : Type 0} → Stop → Step D → Option Told → Option
 Stopped stop.Write step told told' before after = CutInReply step told told' before after
 Stopped stop.Memory step told told' before after = FirstFew step told told' before after
 
--- the flush behind all replies, at each status
+-- the flush after all replies, at each status
 abbrev pub Finishes : Bool → Option Told → Option Told → Status → Type 0
 Finishes excepts told told' Done = (excepts ≡ false) × TakesFlushed told told' []
 Finishes excepts told told' DoneWithExceptions = (excepts ≡ true) × TakesFlushed told told' []

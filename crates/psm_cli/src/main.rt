@@ -1,25 +1,30 @@
-//! psm runs a script of SQL and SQL/PSM from standard input and writes its replies to standard output:
+//! psm runs a script of SQL and SQL/PSM from standard input and writes its replies to standard
+//! output:
 //!
 //! ```text
 //! psm run <script
 //! ```
 //!
-//! From here on down: `program` has the answers, `words`, `read` and `write` the edges of a call, `run` the statements
-//! one by one. What a statement means is psm_session's.
+//! From here on down: `program` has the answers, `command` the words, `read` and `write` the edges
+//! of a call, `run` the statements one by one, and `law` says that each script has one run. What a
+//! statement means is psm_session's.
 #![tactic(auto)]
 
+mod command;
 #[cfg(test)]
 mod fault_tests;
+mod law;
 mod program;
 mod read;
 mod run;
 mod status;
 #[cfg(test)]
 mod tests;
-mod words;
 mod write;
 
+pub use command::Command;
 use io_edges::{StdSink, StdSource};
+pub use law::each_script_has_one_run;
 pub use program::run_program;
 use psm_session::Database;
 use sql_values::NoMemory;

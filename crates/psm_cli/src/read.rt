@@ -2,13 +2,14 @@
 ghost use Rattle.std.specs.Prelude.{◌≡◌, ◌<◌, ◌≤◌, ◌+◌, ◌^◌, ◌++◌, ℕ, List, length, take, vec_len, IfOk, IfErr, OnOk, OnErr, IsErrOf};
 ghost use Rattle.std.specs.Io.KnownBytes.{Consumes, Keeps, IsAtEnd};
 ghost use Rattle.io_edges.specs.Causes.{HasCause, Rose};
-ghost use Rattle.psm_cli.specs.Reading.{ReadsWhole, StopsBy};
+ghost use Rattle.psm_cli.specs.Reading.{ReadsWhole, StopsBy, empty_reads_by};
+ghost use Rattle.io_edges.specs.EmptyReads.{empty_by};
 
 use io_edges::{Failed, Source};
 use std::alloc::{AllocError, Global};
 
 // The most bytes that a script has.
-const LIMIT: usize = 16_777_216;
+pub(crate) const LIMIT: usize = 16_777_216;
 
 // How many bytes are asked for at a time.
 const PIECE: usize = 4096;
@@ -24,12 +25,14 @@ pub enum ReadEnd {
     Memory,
 }
 
-/// The bytes of the source up to its end. Room is made before each read, so that no byte is taken in vain.
+/// The bytes of the source up to its end. Room is made before each read, so that no byte is taken
+/// in vain.
 pub fn read_script<S: Source>(alloc: Global, src: &mut S) -> Result<Vec<u8>, ReadEnd>
     ensures ok { IfOk result (λ text. ReadsWhole (S.left src.old) (S.left src.new) text.items) }
     ensures err { IfErr result (λ end. StopsBy (S.left src.old) (S.left src.new) end) }
     ensures fault { IsErrOf result ReadEnd.Fault → Rose (S.faults src.old) (S.faults src.new) }
     ensures later { S.faults src.old ≤ S.faults src.new }
+    ensures asks { S.empty_reads src.new ≡ S.empty_reads src.old + empty_reads_by result }
 {
     let mut text = Vec::new(alloc);
     while text.len() <= LIMIT {
@@ -56,7 +59,7 @@ fn grow(text: &mut Vec<u8>, room: usize) -> Result<(), AllocError>
     text.resize(text.len() + room, 0)
 }
 
-// Reads into the text behind a place, and cuts it behind what was read.
+// Reads into the text after a place, and cuts it after what was read.
 fn read_piece<S: Source>(src: &mut S, text: &mut Vec<u8>, at: usize) -> Result<usize, Failed>
     requires { at < vec_len text.old }
     ensures ok { IfOk result (λ count. (piece : List ℕ) × (text.new.items ≡ take at text.old.items ++ piece)
@@ -64,20 +67,22 @@ fn read_piece<S: Source>(src: &mut S, text: &mut Vec<u8>, at: usize) -> Result<u
         × (at + count ≤ vec_len text.old) × (count ≡ 0 → IsAtEnd (S.left src.new))) }
     ensures err { OnErr result (Keeps (S.left src.old) (S.left src.new)) }
     ensures cause { HasCause (S.faults src.old) (S.faults src.new) result }
+    ensures empty { S.empty_reads src.new ≡ S.empty_reads src.old + empty_by result }
 {
-    let count = read_behind(src, text, at)?;
+    let count = read_after(src, text, at)?;
     text.truncate(at + count);
     Ok(count)
 }
 
-// Reads into what is behind a place.
-fn read_behind<S: Source>(src: &mut S, text: &mut [u8], at: usize) -> Result<usize, Failed>
+// Reads into what comes after a place.
+fn read_after<S: Source>(src: &mut S, text: &mut [u8], at: usize) -> Result<usize, Failed>
     requires { at < length text.old }
     ensures ok { IfOk result (λ count. (piece : List ℕ) × (take (at + count) text.new ≡ take at text.old ++ piece)
         × Consumes (S.left src.old) (S.left src.new) piece × (length piece ≡ count)
         × (at + count ≤ length text.old) × (count ≡ 0 → IsAtEnd (S.left src.new))) }
     ensures err { OnErr result (Keeps (S.left src.old) (S.left src.new)) }
     ensures cause { HasCause (S.faults src.old) (S.faults src.new) result }
+    ensures empty { S.empty_reads src.new ≡ S.empty_reads src.old + empty_by result }
 {
     let count = src.read(&mut text[at..])?;
     Ok(count)

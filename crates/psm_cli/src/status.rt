@@ -8,13 +8,14 @@ pub enum Status {
     Done,
     /// 1: all replies were written and flushed, and one begins with `!`.
     DoneWithExceptions,
-    /// 2: the words are not those that the program takes; nothing was touched.
+    /// 2: the words are no command; nothing was touched.
     Usage,
     /// 3: the source failed; nothing was run or written.
     ReadFault,
     /// 4: the sink failed; a front of the replies was written.
     WriteFault,
-    /// 5: there was no memory; the replies of the first statements were written.
+    /// 5: there was no memory; nothing was run, or the replies of the first statements were
+    /// written.
     NoMemory,
     /// 6: the script has a byte too many; nothing was run or written.
     ScriptTooLong,

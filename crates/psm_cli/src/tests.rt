@@ -1,4 +1,5 @@
-//! Rows of scripts with what they write, and the answers at edges that fail. No row may find too little memory.
+//! Rows of scripts with what they write, and the answers at edges that fail. No row may find too
+//! little memory.
 ghost use Rattle.std.specs.Prelude.{◌<◌};
 
 use crate::{Status, run_program};
@@ -124,7 +125,8 @@ fn end_is_read_once(rt: HostRuntime) -> Result<(), Fail> {
     Ok(())
 }
 
-// A sink that takes five bytes and then fails: the statement whose reply was cut is done, and no later one is.
+// A sink that takes five bytes and then fails: the statement whose reply was cut is done, and no
+// later one is.
 #[test]
 fn sink_that_fails(rt: HostRuntime) -> Result<(), Fail> {
     let alloc = rt.alloc();

@@ -6,7 +6,8 @@ ghost use Rattle.psm_cli.specs.Writing.{TakesFront};
 
 use io_edges::{Failed, Sink};
 
-/// Writes all the bytes, in as many calls as it takes. It fails where the sink does; a front was then taken.
+/// Writes all the bytes, in as many calls as it takes. It fails where the sink does; a front was
+/// then taken.
 pub fn write_whole<K: Sink>(out: &mut K, bytes: &[u8]) -> Result<(), Failed>
     ensures ok { OnOk result (Takes (K.told out.old) (K.told out.new) bytes.now) }
     ensures err { OnErr result (TakesFront (K.told out.old) (K.told out.new) bytes.now) }

@@ -1,3 +1,7 @@
-pub mod Cases
+pub mod Stays
+pub mod Going
+pub mod Trees
 pub mod Steps
-pub mod Rows
+pub mod Storing
+pub mod Assigning
+pub mod Flat

@@ -1,15 +1,17 @@
 -- How deep an evaluation can nest: what falls at each call of the interpreter.
 use Rattle.std.specs.Prelude.{ℕ, ◌+◌}
-use Rattle.rel_algebra.specs.Tree.{Expr, Literal, Column, Variable, Negate, Chain, Call, Links, NoLink, MoreLinks, Exprs, NoExpr, MoreExprs, Routine, Returns}
+use Rattle.rel_algebra.specs.Tree.{Expr, Literal, Column, Variable, Negate, Compare, Chain, Call, CallSelf, Links, NoLink, MoreLinks, Exprs, NoExpr, MoreExprs, Routine, Function}
 
 abbrev mutual
   pub cost : Expr → ℕ
   cost (Literal v) = 1
-  cost (Column i) = 1
+  cost (Column level i) = 1
   cost (Variable i) = 1
   cost (Negate e) = cost e + 1
+  cost (Compare comparison a b) = cost a + cost b + 1
   cost (Chain e links) = cost e + links_cost links + 1
-  cost (Call r args) = costs args + routine_cost r + 1
+  cost (Call name routine args) = costs args + routine_cost routine + 2
+  cost (CallSelf parameters args) = costs args + 1
 
   pub links_cost : Links → ℕ
   links_cost NoLink = 1
@@ -20,4 +22,4 @@ abbrev mutual
   costs (MoreExprs e es) = cost e + costs es + 1
 
   pub routine_cost : Routine → ℕ
-  routine_cost (Returns e) = cost e + 1
+  routine_cost (Function calls_itself parameters returns e) = cost e + 1

@@ -1,4 +1,8 @@
-pub mod Telling
+pub mod Content
+pub mod Ending
 pub mod Sight
 pub mod Cost
-pub mod Records
+pub mod Units
+pub mod Queries
+pub mod Inserts
+pub mod Flat

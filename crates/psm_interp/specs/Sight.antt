@@ -1,9 +1,8 @@
--- The row in sight.
-use Rattle.std.specs.Prelude.{List, [], ◌∷◌, Option, Some, None}
+-- The rows that an expression sees.
+use Rattle.std.specs.Prelude.{List, map}
 use Rattle.std.specs.Borrow.{Bor}
-use Rattle.rel_algebra.specs.Tables.{Row}
+use Rattle.row_types.specs.Rows.{Row}
 
--- a row behind a reference, or none
-abbrev pub in_sight : Option (Bor Row) → List Row
-in_sight None = []
-in_sight (Some row) = row.now ∷ []
+-- the rows behind references
+abbrev pub seen : List (Bor Row) → List Row
+seen rows = map (λ row. row.now) rows

@@ -1,49 +1,53 @@
 //! Expressions.
 
-ghost use Rattle.std.specs.Prelude.{◌≡◌, slice_index_or};
-ghost use Rattle.rel_algebra.specs.World.{World};
-ghost use Rattle.rel_algebra.specs.Meaning.{ev, ev_links, ev_all, call as call_of};
-ghost use Rattle.catalog_store.specs.Catalog.{routines, missing};
-ghost use Rattle.catalog_store.specs.View.{plain, tree_of, exprs_of, links_of};
-ghost use Rattle.psm_interp.specs.Telling.{Tells};
-ghost use Rattle.psm_interp.specs.Sight.{in_sight};
+ghost use Rattle.std.specs.Prelude.{◌≡◌, [], false};
+ghost use Rattle.rel_algebra.specs.Tree.{Call, Function};
+ghost use Rattle.rel_algebra.specs.World.{no_self};
+ghost use Rattle.rel_algebra.specs.Meaning.{ev, ev_links, ev_args, call as call_by};
+ghost use Rattle.catalog_store.specs.Catalog.{routine_named};
+ghost use Rattle.catalog_store.specs.View.{tree_of, exprs_of, links_of};
+ghost use Rattle.psm_interp.specs.Content.{world_of};
+ghost use Rattle.psm_interp.specs.Ending.{Ended};
+ghost use Rattle.psm_interp.specs.Sight.{seen};
 
-use crate::Stop;
-use crate::values::{apply, column, copied, negated, value_at};
+use crate::values::{assign_at, column};
+use crate::{Arguments, Frame, Stop, World};
 use bound_trees::{BoundExpr, BoundLink};
-use catalog_store::{Entry, callee_at};
-use sql_values::Value;
-use sqlite_items::Items;
-use std::alloc::Global;
-use table_store::Row;
+use catalog_store::Catalog;
+use row_types::copied_value;
+use sql_values::{Name, SqlType, Value, assign, neg};
 
-/// The value of an expression (ISO/IEC 9075-2, 6.25), by the row in sight and the values of the parameters. Operands and
-/// arguments are evaluated from left to right. A condition comes exactly where the meaning raises it.
+/// The value of an expression (ISO/IEC 9075-2, 6.25), by the rows of the queries around it, the
+/// innermost first, and the frame. Operands and arguments are evaluated from left to right.
 #[cycle(eval)]
 pub fn eval(
-    alloc: Global,
     expr: &BoundExpr,
-    row: Option<&Row>,
-    frame: &[Value],
-    catalog: &[Entry],
+    rows: &[&[Value]],
+    frame: &Frame,
+    world: &mut World,
+    catalog: &Catalog,
 ) -> Result<Value, Stop>
-    ensures { (w : World) → Tells w result (ev (tree_of (routines (plain catalog.now)) expr.now) (in_sight row.entry) frame.now w) }
+    ensures { Ended world.old world.new result (ev (tree_of catalog.now expr.now) no_self (seen rows.now) frame.now (world_of world.old)) }
 {
     match expr {
-        BoundExpr::Literal(value) => Ok(copied(value)),
-        BoundExpr::Column(place) => Ok(column(row, *place)),
-        BoundExpr::Variable(place) => Ok(value_at(frame, *place)),
+        BoundExpr::Literal(value) => Ok(copied_value(value)?),
+        BoundExpr::Column(level, place) => Ok(column(rows, *level, *place)?),
+        BoundExpr::Variable(place) => Ok(frame.variable(*place)?),
         BoundExpr::Negate(operand) => {
-            let value = eval(alloc, operand.get(), row, frame, catalog)?;
-            negated(&value)
+            let value = eval(operand.get(), rows, frame, world, catalog)?;
+            Ok(neg(&value)?)
+        }
+        BoundExpr::Compare(comparison, left, right) => {
+            let a = eval(left.get(), rows, frame, world, catalog)?;
+            let b = eval(right.get(), rows, frame, world, catalog)?;
+            Ok(comparison.of(&a, &b))
         }
         BoundExpr::Chain(first, links) => {
-            let value = eval(alloc, first.get(), row, frame, catalog)?;
-            eval_links(alloc, links.as_slice(), value, row, frame, catalog)
+            let value = eval(first.get(), rows, frame, world, catalog)?;
+            eval_links(links.as_slice(), value, rows, frame, world, catalog)
         }
-        BoundExpr::Call(place, arguments) => {
-            let values = eval_all(alloc, arguments.as_slice(), row, frame, catalog)?;
-            call(alloc, *place, values.as_slice(), catalog)
+        BoundExpr::Call(name, arguments) => {
+            call(name, arguments.as_slice(), rows, frame, world, catalog)
         }
     }
 }
@@ -51,49 +55,84 @@ pub fn eval(
 // Goes on from the value of what stands left.
 #[cycle(eval)]
 fn eval_links(
-    alloc: Global,
     links: &[BoundLink],
     first: Value,
-    row: Option<&Row>,
-    frame: &[Value],
-    catalog: &[Entry],
+    rows: &[&[Value]],
+    frame: &Frame,
+    world: &mut World,
+    catalog: &Catalog,
 ) -> Result<Value, Stop>
-    ensures { (w : World) → Tells w result (ev_links (links_of (routines (plain catalog.now)) links.now) first (in_sight row.entry) frame.now w) }
+    ensures { Ended world.old world.new result (ev_links (links_of catalog.now links.now) first no_self (seen rows.now) frame.now (world_of world.old)) }
 {
     let mut value = first;
     for link in links {
-        let operand = eval(alloc, &link.operand, row, frame, catalog)?;
-        value = apply(link.operator, &value, &operand)?;
+        let operand = eval(&link.operand, rows, frame, world, catalog)?;
+        value = link.operator.apply(&value, &operand)?;
     }
     Ok(value)
 }
 
-// The values of several expressions.
+// The values of arguments, each assigned to its parameter before the next is evaluated.
 #[cycle(eval)]
-pub fn eval_all(
-    alloc: Global,
-    exprs: &[BoundExpr],
-    row: Option<&Row>,
-    frame: &[Value],
-    catalog: &[Entry],
-) -> Result<Items<Value>, Stop>
-    ensures { (w : World) → Tells w result (ev_all (exprs_of (routines (plain catalog.now)) exprs.now) (in_sight row.entry) frame.now w) }
+fn eval_arguments(
+    arguments: &[BoundExpr],
+    parameters: &[SqlType],
+    rows: &[&[Value]],
+    frame: &Frame,
+    world: &mut World,
+    catalog: &Catalog,
+) -> Result<Arguments, Stop>
+    ensures { Ended world.old world.new result (ev_args (exprs_of catalog.now arguments.now) parameters.now no_self (seen rows.now) frame.now (world_of world.old)) }
 {
-    let mut values = Items::from_vec(Vec::with_capacity(alloc, exprs.len())?);
-    for expr in exprs {
-        let value = eval(alloc, expr, row, frame, catalog)?;
-        values.push(value)?;
+    let mut values = Arguments::new(world.allocator());
+    for (place, argument) in arguments.iter().enumerate() {
+        let value = eval(argument, rows, frame, world, catalog)?;
+        values.push(assign_at(value, parameters, place)?)?;
     }
     Ok(values)
 }
 
-// The value of a call. The callee's body sees its own frame, the entries before it, and no row.
+// A call of the function of a name. Where the catalog has none, the value is NULL.
 #[cycle(eval)]
-fn call(alloc: Global, place: usize, values: &[Value], catalog: &[Entry]) -> Result<Value, Stop>
-    ensures { (w : World) → Tells w result (call_of (slice_index_or (routines (plain catalog.now)) place missing) values.now w) }
+fn call(
+    name: &Name,
+    arguments: &[BoundExpr],
+    rows: &[&[Value]],
+    frame: &Frame,
+    world: &mut World,
+    catalog: &Catalog,
+) -> Result<Value, Stop>
+    ensures { Ended world.old world.new result (ev (Call name.now (routine_named name.now catalog.now) (exprs_of catalog.now arguments.now)) no_self (seen rows.now) frame.now (world_of world.old)) }
 {
-    match callee_at(catalog, place) {
-        Some(callee) => eval(alloc, callee.body, None, values, callee.earlier),
-        None => Ok(Value::Null),
+    match catalog.routine(name) {
+        Some(routine) => {
+            let head = &routine.head;
+            let parameters = head.parameters.as_slice();
+            let values = eval_arguments(arguments, parameters, rows, frame, world, catalog)?;
+            match routine.body.tree() {
+                Some(tree) => run_body(tree, head.returns, values, world, catalog),
+                None => unreachable!(),
+            }
+        }
+        None => {
+            let _values = eval_arguments(arguments, &[], rows, frame, world, catalog)?;
+            Ok(Value::Null)
+        }
     }
+}
+
+// What a function returns: its body is run in a frame of its own, where no row is in sight.
+#[cycle(eval)]
+fn run_body(
+    body: &BoundExpr,
+    returns: SqlType,
+    values: Arguments,
+    world: &mut World,
+    catalog: &Catalog,
+) -> Result<Value, Stop>
+    ensures { Ended world.old world.new result (call_by (Function false [] returns (tree_of catalog.now body.now)) values (world_of world.old)) }
+{
+    let frame = Frame::of(values);
+    let value = eval(body, &[], &frame, world, catalog)?;
+    Ok(assign(value, returns)?)
 }

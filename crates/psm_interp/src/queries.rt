@@ -1,88 +1,140 @@
 //! Queries.
 
-ghost use Rattle.std.specs.Prelude.{◌≡◌, ◌++◌, [], OnOk, IfErr, Some};
-ghost use Rattle.rel_algebra.specs.World.{World, each_row, with_front};
+ghost use Rattle.std.specs.Prelude.{◌≡◌, [], ◌∷◌, IfOk, OnOk, IfErr, ◌++◌};
+ghost use Rattle.row_types.specs.Tables.{rows_named};
+ghost use Rattle.rel_algebra.specs.World.{no_self, with_front, each_kept};
+ghost use Rattle.rel_algebra.specs.Meaning.{ev_all, holds as holds_by, ev_rows, answer, ask, record_of as record_by};
 ghost use Rattle.bound_trees.specs.declared.statement.BoundQuery.TheVariants.{Select};
-ghost use Rattle.rel_algebra.specs.Meaning.{answer, is_kept as kept};
-ghost use Rattle.catalog_store.specs.Catalog.{routines};
-ghost use Rattle.catalog_store.specs.View.{plain, exprs_of, filter_of, query_of};
-ghost use Rattle.psm_interp.specs.declared.stop.Stop.TheVariants.{NoMemory};
-ghost use Rattle.psm_interp.specs.Telling.{Tells, world_of};
-ghost use Rattle.psm_interp.specs.Records.{record_of};
+ghost use Rattle.catalog_store.specs.View.{exprs_of, rows_of, from_of, query_of};
+ghost use Rattle.psm_interp.specs.declared.stop.Stop.TheVariants.{NoMemory as WantOfMemory};
+ghost use Rattle.psm_interp.specs.Content.{world_of};
+ghost use Rattle.psm_interp.specs.Ending.{Ended};
+ghost use Rattle.psm_interp.specs.Queries.{from_rows_of};
+ghost use Rattle.psm_interp.specs.Sight.{seen};
 
-use crate::Stop;
-use crate::expr::{eval, eval_all};
-use crate::value_rows::eval_rows;
-use bound_trees::{BoundExpr, BoundQuery, BoundSelect, BoundTest};
-use catalog_store::Entry;
+use crate::expr::eval;
+use crate::flat_rows::FlatRows;
+use crate::units::leave;
+use crate::values::is_true;
+use crate::{Frame, Stop, World};
+use bound_trees::{BoundExpr, BoundFrom, BoundQuery, BoundRow, BoundSelect};
+use catalog_store::Catalog;
+use row_types::Row;
+use sql_values::{NoMemory, Value};
 use sqlite_items::Items;
-use std::alloc::Global;
-use table_store::{Row, Tables};
 
-/// The records of a query (ISO/IEC 9075-2, 7.17): of a SELECT in the order of the table's keys, of VALUES as its rows stand.
-/// For each row first its WHERE and then its select list is evaluated; the first condition ends the query, and comes exactly
-/// where the meaning raises it.
+/// The rows of a query that is a statement (ISO/IEC 9075-2, 7.17). Where it raises, the tables are
+/// as before it.
 pub fn run_query(
-    alloc: Global,
     query: &BoundQuery,
-    catalog: &[Entry],
-    tables: &Tables,
+    world: &mut World,
+    catalog: &Catalog,
 ) -> Result<Items<Row>, Stop>
-    ensures { let w = world_of tables.now in Tells w result (answer (query_of (routines (plain catalog.now)) query.now) w) }
+    ensures { Ended world.old world.new result (ask (query_of catalog.now query.now) (world_of world.old)) }
+{
+    let mark = world.mark();
+    let frame = Frame::empty(world.allocator());
+    match answer_query(query, &frame, world, catalog) {
+        Ok(rows) => Ok(rows),
+        Err(stop) => Err(leave(stop, mark, world)),
+    }
+}
+
+/// The rows of a query that no query stands around: of a SELECT in the order of the table's keys,
+/// of VALUES as they stand.
+pub fn answer_query(
+    query: &BoundQuery,
+    frame: &Frame,
+    world: &mut World,
+    catalog: &Catalog,
+) -> Result<Items<Row>, Stop>
+    ensures { Ended world.old world.new result (answer (query_of catalog.now query.now) no_self [] frame.now (world_of world.old)) }
 {
     match query {
-        BoundQuery::Select(query) => run_select(alloc, query, catalog, tables),
-        BoundQuery::Values(rows) => Ok(Items::from_vec(eval_rows(
-            alloc,
-            rows.as_slice(),
-            catalog,
-        )?)),
+        BoundQuery::Select(query) => select(query, frame, world, catalog),
+        BoundQuery::Values(rows) => eval_rows(rows.as_slice(), frame, world, catalog),
     }
 }
 
-// The records of a query over a table.
-fn run_select(
-    alloc: Global,
-    query: &BoundSelect,
-    catalog: &[Entry],
-    tables: &Tables,
+// The rows of VALUES, in turn.
+fn eval_rows(
+    rows: &[BoundRow],
+    frame: &Frame,
+    world: &mut World,
+    catalog: &Catalog,
 ) -> Result<Items<Row>, Stop>
-    ensures { let w = world_of tables.now in Tells w result (answer (query_of (routines (plain catalog.now)) (Select query.now)) w) }
+    ensures { Ended world.old world.new result (ev_rows (rows_of catalog.now rows.now) no_self [] frame.now (world_of world.old)) }
 {
-    match tables.table(&query.table) {
-        Some(table) => select(
-            alloc,
-            query.items.as_slice(),
-            &query.filter,
-            table.rows(),
-            catalog,
-        ),
-        None => Ok(Items::new(alloc)),
-    }
-}
-
-// The records of the rows that are kept.
-fn select(
-    alloc: Global,
-    items: &[BoundExpr],
-    filter: &Option<BoundTest>,
-    rows: &[Row],
-    catalog: &[Entry],
-) -> Result<Items<Row>, Stop>
-    ensures { (w : World) → let k = routines (plain catalog.now) in Tells w result (each_row (record_of (filter_of k filter.now) (exprs_of k items.now)) rows.now w) }
-{
-    let mut records = Items::new(alloc);
+    let mut values = Items::from_vec(Vec::with_capacity(world.allocator(), rows.len())?);
     for row in rows {
-        let record = record_where_kept(alloc, items, filter, row, catalog)?;
+        values.push(eval_all(row.values.as_slice(), &[], frame, world, catalog)?)?;
+    }
+    Ok(values)
+}
+
+// The values of several expressions.
+fn eval_all(
+    exprs: &[BoundExpr],
+    rows: &[&[Value]],
+    frame: &Frame,
+    world: &mut World,
+    catalog: &Catalog,
+) -> Result<Row, Stop>
+    ensures { Ended world.old world.new result (ev_all (exprs_of catalog.now exprs.now) no_self (seen rows.now) frame.now (world_of world.old)) }
+{
+    let mut values = Items::from_vec(Vec::with_capacity(world.allocator(), exprs.len())?);
+    for expr in exprs {
+        values.push(eval(expr, rows, frame, world, catalog)?)?;
+    }
+    Ok(values)
+}
+
+// The rows of a SELECT. FROM is complete before its first row goes on.
+fn select(
+    query: &BoundSelect,
+    frame: &Frame,
+    world: &mut World,
+    catalog: &Catalog,
+) -> Result<Items<Row>, Stop>
+    ensures { Ended world.old world.new result (answer (query_of catalog.now (Select query.now)) no_self [] frame.now (world_of world.old)) }
+{
+    let rows = from_rows(&query.from, world)?;
+    records_of(query, &rows, frame, world, catalog)
+}
+
+// What a SELECT makes of the rows of its FROM, one by one.
+fn records_of(
+    query: &BoundSelect,
+    rows: &FlatRows,
+    frame: &Frame,
+    world: &mut World,
+    catalog: &Catalog,
+) -> Result<Items<Row>, Stop>
+    ensures { Ended world.old world.new result (each_kept (λ row. record_by (exprs_of catalog.now query.now.items) (exprs_of catalog.now query.now.conjuncts) no_self (row ∷ []) frame.now) rows.now (world_of world.old)) }
+{
+    let mut records = Items::new(world.allocator());
+    for at in 0..rows.len() {
+        let record = record_of(query, rows.row_at(at), frame, world, catalog)?;
         add(&mut records, record)?;
     }
     Ok(records)
 }
 
+// The rows of FROM: those of a table in key order.
+fn from_rows(from: &BoundFrom, world: &World) -> Result<FlatRows, NoMemory>
+    ensures { IfOk result (λ rows. rows ≡ from_rows_of (from_of from.now) world.now.memory.tables) }
+{
+    match from {
+        BoundFrom::Table(name) => match world.tables().table(name) {
+            Some(table) => FlatRows::of(world.allocator(), table),
+            None => Ok(FlatRows::new(world.allocator())),
+        },
+    }
+}
+
 // A record more, where there is one.
-fn add(records: &mut Items<Row>, more: Option<Row>) -> Result<(), Stop>
-    ensures ok { OnOk result (records.new ≡ records.old ++ with_front more []) }
-    ensures err { IfErr result (λ s. s ≡ NoMemory) }
+fn add(records: &mut Items<Row>, more: Option<Row>) -> Result<(), NoMemory>
+    ensures { OnOk result (records.new ≡ records.old ++ with_front more []) }
 {
     match more {
         Some(record) => {
@@ -93,44 +145,41 @@ fn add(records: &mut Items<Row>, more: Option<Row>) -> Result<(), Stop>
     }
 }
 
-// The record of a row, where the row is kept.
-fn record_where_kept(
-    alloc: Global,
-    items: &[BoundExpr],
-    filter: &Option<BoundTest>,
-    row: &Row,
-    catalog: &[Entry],
+// The record of a row, where the row is kept: first the conjuncts, and where they are true the
+// select list.
+fn record_of(
+    query: &BoundSelect,
+    row: &[Value],
+    frame: &Frame,
+    world: &mut World,
+    catalog: &Catalog,
 ) -> Result<Option<Row>, Stop>
-    ensures { (w : World) → let k = routines (plain catalog.now) in Tells w result (record_of (filter_of k filter.now) (exprs_of k items.now) row.now w) }
+    ensures { Ended world.old world.new result (record_by (exprs_of catalog.now query.now.items) (exprs_of catalog.now query.now.conjuncts) no_self (row.now ∷ []) frame.now (world_of world.old)) }
 {
-    if is_kept(alloc, filter, row, catalog)? {
-        let record = eval_all(alloc, items, Some(row), &[], catalog)?;
+    let rows = [row];
+    if holds(query.conjuncts.as_slice(), &rows, frame, world, catalog)? {
+        let record = eval_all(query.items.as_slice(), &rows, frame, world, catalog)?;
         Ok(Some(record))
     } else {
         Ok(None)
     }
 }
 
-// Whether the WHERE is true of a row.
-fn is_kept(
-    alloc: Global,
-    filter: &Option<BoundTest>,
-    row: &Row,
-    catalog: &[Entry],
+// Whether all conjuncts are true; the first that isn't ends it.
+fn holds(
+    conjuncts: &[BoundExpr],
+    rows: &[&[Value]],
+    frame: &Frame,
+    world: &mut World,
+    catalog: &Catalog,
 ) -> Result<bool, Stop>
-    ensures { (w : World) → Tells w result (kept (filter_of (routines (plain catalog.now)) filter.now) row.now w) }
+    ensures { Ended world.old world.new result (holds_by (exprs_of catalog.now conjuncts.now) no_self (seen rows.now) frame.now (world_of world.old)) }
 {
-    match filter {
-        None => Ok(true),
-        Some(test) => holds(alloc, test, row, catalog),
+    for conjunct in conjuncts {
+        let value = eval(conjunct, rows, frame, world, catalog)?;
+        if !is_true(&value) {
+            return Ok(false);
+        }
     }
-}
-
-// Whether a test is true of a row; its left operand is evaluated first.
-fn holds(alloc: Global, test: &BoundTest, row: &Row, catalog: &[Entry]) -> Result<bool, Stop>
-    ensures { (w : World) → Tells w result (kept (filter_of (routines (plain catalog.now)) (Some test.now)) row.now w) }
-{
-    let left = eval(alloc, &test.left, Some(row), &[], catalog)?;
-    let right = eval(alloc, &test.right, Some(row), &[], catalog)?;
-    Ok(test.comparison.holds(&left, &right))
+    Ok(true)
 }

@@ -4,13 +4,14 @@ use Rattle.sql_lex.specs.Tokens.{Lexing}
 use Rattle.sql_lex.specs.Openings.{place_at}
 use Rattle.syntax_trees.specs.declared.statement.Stmt.{Stmt}
 use Rattle.token_grammar.specs.Statement.{BeginsWithin, IsStuck, IsTooDeep, IsFurthest, most_open}
-use Rattle.token_grammar.proofs.Places.{one_spelling}
+use Rattle.token_grammar.proofs.Laws.{one_spelling}
 use Rattle.sql_grammar.specs.Sql.{rules, statement}
 use Rattle.sql_grammar.specs.Decides.{all_decide, statement_decides, statement_ends}
-use Rattle.name_faults.specs.declared.Fault.{Fault}
+use Rattle.name_faults.specs.declared.fault.Fault.{Fault}
 use Rattle.name_faults.specs.Faults.{Noted, least}
-use Rattle.sql_names.specs.Statements.{resolved_statement, Statement as Resolved}
-use Rattle.reply_text.specs.declared.reply.FaultText.{FaultText}
+use Rattle.sql_names.specs.declared.statement.BoundStmt.{BoundStmt}
+use Rattle.sql_names.specs.Statements.{judged_statement}
+use Rattle.reply_text.specs.declared.fault.FaultText.{FaultText}
 use Rattle.reply_text.specs.Texts.{fault_text}
 use Rattle.psm_session.specs.Database.{Plain}
 use Rattle.psm_session.specs.Executing.{Executes, reply_to}
@@ -24,7 +25,7 @@ no_least faults fault none some = let e : None ≡ Some fault = sym (ap least no
 some_same : {A : Type 0} (a b : A) → Some a ≡ Some b → a ≡ b
 some_same a b e = cc
 
-pub one_execution : (found : Noted Resolved) (before : Plain) (r r' : List ℕ) (after after' : Plain) → Executes found before r after → Executes found before r' after'
+pub one_execution : (found : Noted BoundStmt) (before : Plain) (r r' : List ℕ) (after after' : Plain) → Executes found before r after → Executes found before r' after'
     → (r ≡ r') × (after ≡ after')
 one_execution found before r r' after after' (inl p) (inl q) = (p.replies ∙ sym q.replies, p.leaves ∙ sym q.leaves)
 one_execution found before r r' after after' (inl p) (inr q) = absurd (no_least found.faults q.fault p.valid q.is_least)
@@ -71,7 +72,7 @@ one_unread t at before r r' to to' after after' p q =
 record IsRead (t : Lexing) (at : ℕ) (before : Plain) (reply : List ℕ) (to : ℕ) (after : Plain) : Type 0 where
   tree : Stmt
   reads : Reads t at tree to
-  executes : Executes (resolved_statement before.catalog tree) before reply after
+  executes : Executes (judged_statement tree before.catalog) before reply after
 
 read_or_not : (t : Lexing) (at : ℕ) (before : Plain) (r : List ℕ) (to : ℕ) (after : Plain) → Statement t at before r to after
     → IsRead t at before r to after ⊎ IsUnread t at before r to after
@@ -83,9 +84,9 @@ one_read : (t : Lexing) (at : ℕ) (before : Plain) (r r' : List ℕ) (to to' : 
     → IsRead t at before r to after → IsRead t at before r' to' after' → (r ≡ r') × (to ≡ to') × (after ≡ after')
 one_read t at before r r' to to' after after' p q =
     let same = one_tree t at p.tree q.tree to to' p.reads q.reads in
-    let there : Executes (resolved_statement before.catalog q.tree) before r after =
-    subst (λ (tree : Stmt). Executes (resolved_statement before.catalog tree) before r after) same.0 p.executes in
-    let one = one_execution (resolved_statement before.catalog q.tree) before r r' after after' there q.executes in
+    let there : Executes (judged_statement q.tree before.catalog) before r after =
+    subst (λ (tree : Stmt). Executes (judged_statement tree before.catalog) before r after) same.0 p.executes in
+    let one = one_execution (judged_statement q.tree before.catalog) before r r' after after' there q.executes in
     (one.0, same.1, one.1)
 
 one_of : (t : Lexing) (at : ℕ) (before : Plain) (r r' : List ℕ) (to to' : ℕ) (after after' : Plain)

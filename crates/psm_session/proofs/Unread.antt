@@ -1,12 +1,12 @@
 -- Where no statement is read, the reply says why.
 use Rattle.std.proofs.Common.{◌≡◌, ℕ, List, Result, Ok, Err, length, refl, inr}
 use Rattle.std.specs.Prelude.{IfOk}
-use Rattle.sql_values.specs.declared.memory.NoMemory.{NoMemory}
+use Rattle.sql_texts.specs.declared.memory.NoMemory.{NoMemory}
 use Rattle.sql_lex.specs.Tokens.{Lexing}
 use Rattle.sql_lex.specs.Openings.{place_at}
 use Rattle.token_grammar.specs.Statement.{ReadsNothing, most_open}
 use Rattle.sql_grammar.specs.Sql.{rules, statement}
-use Rattle.reply_text.specs.declared.reply.FaultText.{FaultText}
+use Rattle.reply_text.specs.declared.fault.FaultText.{FaultText}
 use Rattle.reply_text.specs.Texts.{fault_text}
 use Rattle.psm_session.specs.Database.{Plain}
 use Rattle.psm_session.specs.Statement.{Stops, Statement}

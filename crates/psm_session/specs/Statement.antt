@@ -5,9 +5,9 @@ use Rattle.sql_lex.specs.Openings.{place_at}
 use Rattle.syntax_trees.specs.declared.statement.Stmt.{Stmt}
 use Rattle.token_grammar.specs.Statement.{SpellsWithin, ReadsNothing, IsStuck, IsTooDeep, most_open}
 use Rattle.sql_grammar.specs.Sql.{rules, statement}
-use Rattle.sql_names.specs.Statements.{resolved_statement}
-use Rattle.reply_text.specs.declared.reply.FaultText.{FaultText}
-use Rattle.reply_text.specs.declared.reply.FaultText.TheVariants.{Syntax, TooDeep}
+use Rattle.sql_names.specs.Statements.{judged_statement}
+use Rattle.reply_text.specs.declared.fault.FaultText.{FaultText}
+use Rattle.reply_text.specs.declared.fault.FaultText.TheVariants.{Syntax, TooDeep}
 use Rattle.reply_text.specs.Texts.{fault_text}
 use Rattle.psm_session.specs.Database.{Plain}
 use Rattle.psm_session.specs.Executing.{HasEffect, HasFault}
@@ -16,7 +16,8 @@ use Rattle.psm_session.specs.Executing.{HasEffect, HasFault}
 abbrev pub Reads : Lexing → ℕ → Stmt → ℕ → Type 0
 Reads lexing at tree to = SpellsWithin rules most_open statement lexing.tokens at tree to
 
--- The tokens begin a statement up to this place and no further: for no want of constructs, or for want of one more, which the token there opens.
+-- The tokens begin a statement up to this place and no further: for no want of constructs, or for
+-- want of one more, which the token there opens.
 abbrev pub Stops : Lexing → ℕ → FaultText → ℕ → Type 0
 Stops lexing at why place = ((why ≡ Syntax) × IsStuck rules most_open statement lexing.tokens at place)
     ⊎ ((why ≡ TooDeep) × IsTooDeep rules most_open statement lexing.tokens at place)
@@ -25,15 +26,16 @@ Stops lexing at why place = ((why ≡ Syntax) × IsStuck rules most_open stateme
 pub record IsDone (lexing : Lexing) (at : ℕ) (before : Plain) (reply : List ℕ) (to : ℕ) (after : Plain) : Type 0 where
   pub tree : Stmt
   pub reads : Reads lexing at tree to
-  pub does : HasEffect (resolved_statement before.catalog tree) before reply after
+  pub does : HasEffect (judged_statement tree before.catalog) before reply after
 
--- a statement with faults stands there: the script goes on behind it
+-- a statement with faults stands there: the script goes on after it
 pub record IsFaulty (lexing : Lexing) (at : ℕ) (before : Plain) (reply : List ℕ) (to : ℕ) (after : Plain) : Type 0 where
   pub tree : Stmt
   pub reads : Reads lexing at tree to
-  pub fails : HasFault (resolved_statement before.catalog tree) before reply after
+  pub fails : HasFault (judged_statement tree before.catalog) before reply after
 
--- No statement stands there. The reply says why, with the place up to which one begins; nothing changes, and the script ends.
+-- No statement stands there. The reply says why, with the place up to which one begins; nothing
+-- changes, and the script ends.
 pub record IsUnread (lexing : Lexing) (at : ℕ) (before : Plain) (reply : List ℕ) (to : ℕ) (after : Plain) : Type 0 where
   pub nothing : ReadsNothing rules most_open statement lexing.tokens at
   pub why : FaultText

@@ -1,10 +1,14 @@
 //! A session: one statement after another, each over the database that the one before it left.
 #![tactic(auto)]
 
+mod budget;
+mod create;
 mod database;
 mod effect;
 mod next;
+mod world;
 
+pub use budget::DEFAULT_BUDGET;
 pub use database::Database;
 pub use next::run_next;
 pub use reply_text::Reply;

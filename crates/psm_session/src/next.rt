@@ -29,9 +29,11 @@ fn unread(
     Ok((reply, tokens.len()))
 }
 
-/// Does the statement at a token: its reply, and the token at which the next one begins, which is the number of tokens where the script
-/// ends. A statement with faults replies the least of them, changes nothing, and the script goes on behind it. Where no statement is
-/// read, the reply says so with the place up to which one begins, nothing changes, and the script ends. Without memory nothing changes.
+/// Does the statement at a token: its reply, and the token at which the next one begins, which is
+/// the number of tokens where the script ends. A statement with faults replies the least of them,
+/// changes nothing, and the script goes on after it. Where no statement is read, the reply says so
+/// with the place up to which one begins, nothing changes, and the script ends. Without memory
+/// nothing changes.
 pub fn run_next(
     alloc: Global,
     tokens: &Tokens,
@@ -45,7 +47,7 @@ pub fn run_next(
 {
     match parse_statement(alloc, tokens, at) {
         Ok((stmt, next)) => {
-            let reply = db.exec_statement(alloc, &stmt)?;
+            let reply = db.exec_statement(&stmt)?;
             Ok((reply, next))
         }
         Err(ParseFault::NoMemory) => Err(NoMemory),

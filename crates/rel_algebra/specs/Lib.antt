@@ -1,5 +1,6 @@
 pub mod Tree
-pub mod Tables
+pub mod Codes
 pub mod World
 pub mod Meaning
-pub mod Rows
+pub mod Writing
+pub mod Examples

@@ -1,91 +1,113 @@
--- What expressions, queries and INSERT do.
-use Rattle.std.specs.Prelude.{ℕ, Bool, true, false, List, [], ◌∷◌, Option, Some, None, slice_index_or, length}
+-- What expressions and queries do. ISO/IEC 9075-2, 6.25 (value expression), 7.16 (query specification) and 10.4 (routine invocation).
+use Rattle.std.specs.Prelude.{Bool, true, false, List, [], ◌∷◌, drop, Option, Some, None, Ok}
 use Rattle.sql_values.specs.declared.value.Value.{Value}
-use Rattle.sql_values.specs.declared.value.Value.TheVariants.{Null}
-use Rattle.sql_values.specs.Values.{negation_of}
+use Rattle.sql_values.specs.declared.value.SqlType.{SqlType}
+use Rattle.sql_values.specs.Values.{Outcome, negation_of, assigned}
 use Rattle.sql_values.specs.Operators.{applied, compared}
-use Rattle.sql_conditions.specs.declared.Condition.TheVariants.{ConstraintViolated}
-use Rattle.rel_algebra.specs.Tree.{Expr, Literal, Column, Variable, Negate, Chain, Call, Links, NoLink, MoreLinks, Exprs, NoExpr, MoreExprs, Routine, Returns, Filter, NoFilter, Where, Query, Select, Values, Rows, NoRow, MoreRows}
-use Rattle.rel_algebra.specs.Tables.{Row, Table, table_named, rows_named, with_rows, inserted}
-use Rattle.rel_algebra.specs.World.{Frame, Eval, Gives, ◌>>=◌, give, raise, unit, outcome, column_of, each_row}
+use Rattle.row_types.specs.Rows.{Row}
+use Rattle.row_types.specs.Tables.{rows_named}
+use Rattle.rel_algebra.specs.Tree.{Expr, Literal, Column, Variable, Negate, Compare, Chain, Call, CallSelf, Links, NoLink, MoreLinks, Exprs, NoExpr, MoreExprs, Routine, Function, parameters_of, Rows, NoRow, MoreRows, From, Table, Query, Select, Values}
+use Rattle.rel_algebra.specs.World.{Frame, Eval, Gives, ◌>>=◌, give, unit, outcome, choose, column_of, variable_of, frame_of, no_frame, each_kept, Called, no_self, call_of}
 
-abbrev mutual
-  -- the value of an expression, by the rows of the queries around it and the frame; operands from left to right
-  pub ev : Expr → List Row → Frame → Eval Value
-  ev (Literal v) rows frame = give v
-  ev (Column i) rows frame = give (column_of i rows)
-  ev (Variable i) rows frame = give (slice_index_or frame i Null)
-  ev (Negate e) rows frame = do
-    v ← ev e rows frame
-    outcome (negation_of v)
-  ev (Chain e links) rows frame = do
-    v ← ev e rows frame
-    ev_links links v rows frame
-  ev (Call routine args) rows frame = do
-    values ← ev_all args rows frame
-    call routine values
-
-  -- goes on from the value of what stands left
-  pub ev_links : Links → Value → List Row → Frame → Eval Value
-  ev_links NoLink v rows frame = give v
-  ev_links (MoreLinks operator e links) v rows frame = do
-    w ← ev e rows frame
-    x ← outcome (applied operator v w)
-    ev_links links x rows frame
-
-  pub ev_all : Exprs → List Row → Frame → Eval (List Value)
-  ev_all NoExpr rows frame = give []
-  ev_all (MoreExprs e es) rows frame = do
-    v ← ev e rows frame
-    vs ← ev_all es rows frame
-    give (v ∷ vs)
-
-  -- the body is run anew, in a frame of its own
-  pub call : Routine → List Value → Eval Value
-  call (Returns e) values = ev e [] values
-
--- whether the WHERE is true of a row
-abbrev pub is_kept : Filter → Row → Eval Bool
-is_kept NoFilter row = give true
-is_kept (Where a comparison b) row = do
-  x ← ev a (row ∷ []) []
-  y ← ev b (row ∷ []) []
-  give (compared comparison x y)
+-- the value that the next target takes; with no target left, the value itself
+abbrev pub assigned_first : List SqlType → Value → Outcome
+assigned_first [] v = Ok v
+assigned_first (t ∷ ts) v = assigned t v
 
 -- the record of a row that is kept
-abbrev pub record_where : Bool → Exprs → Row → Eval (Option Row)
-record_where false items row = give None
-record_where true items row = do
-  values ← ev_all items (row ∷ []) []
+abbrev pub kept : {A : Type 0} → Bool → Eval A → Eval (Option A)
+kept false list = give None
+kept true list = do
+  values ← list
   give (Some values)
 
--- the rows of VALUES, in turn; no name is in sight
-abbrev pub ev_rows : Rows → Eval (List Row)
-ev_rows NoRow = give []
-ev_rows (MoreRows row rows) = do
-  values ← ev_all row [] []
-  more ← ev_rows rows
+abbrev mutual
+  -- The value of an expression, by what a self-call means, the rows of the queries around it, the innermost first, and the frame. Operands
+  -- are evaluated from left to right.
+  pub ev : Expr → Called → List Row → Frame → Eval Value
+  ev (Literal v) self rows f = give v
+  ev (Column level i) self rows f = give (column_of level i rows)
+  ev (Variable i) self rows f = give (variable_of i f)
+  ev (Negate e) self rows f = do
+    v ← ev e self rows f
+    outcome (negation_of v)
+  ev (Compare comparison a b) self rows f = do
+    x ← ev a self rows f
+    y ← ev b self rows f
+    give (compared comparison x y)
+  ev (Chain e links) self rows f = do
+    v ← ev e self rows f
+    ev_links links v self rows f
+  ev (Call name routine args) self rows f = do
+    values ← ev_args args (parameters_of routine) self rows f
+    call routine values
+  ev (CallSelf parameters args) self rows f = do
+    values ← ev_args args parameters self rows f
+    self values
+
+  -- goes on from the value of what stands left
+  pub ev_links : Links → Value → Called → List Row → Frame → Eval Value
+  ev_links NoLink v self rows f = give v
+  ev_links (MoreLinks operator e links) v self rows f = do
+    w ← ev e self rows f
+    x ← outcome (applied operator v w)
+    ev_links links x self rows f
+
+  -- each argument is evaluated and assigned to its parameter before the next
+  pub ev_args : Exprs → List SqlType → Called → List Row → Frame → Eval (List Value)
+  ev_args NoExpr types self rows f = give []
+  ev_args (MoreExprs e es) types self rows f = do
+    v ← ev e self rows f
+    x ← outcome (assigned_first types v)
+    xs ← ev_args es (drop 1 types) self rows f
+    give (x ∷ xs)
+
+  -- the body is run anew, in a frame of its own; its value is assigned to the result's type
+  pub call : Routine → Called
+  call (Function calls_itself parameters returns e) = call_of calls_itself (λ self values. do
+    v ← ev e self [] (frame_of values)
+    outcome (assigned returns v))
+
+-- the values of several expressions
+abbrev pub ev_all : Exprs → Called → List Row → Frame → Eval (List Value)
+ev_all NoExpr self rows f = give []
+ev_all (MoreExprs e es) self rows f = do
+  v ← ev e self rows f
+  vs ← ev_all es self rows f
+  give (v ∷ vs)
+
+-- whether all conjuncts are true; the first that isn't ends it
+abbrev pub holds : Exprs → Called → List Row → Frame → Eval Bool
+holds NoExpr self rows f = give true
+holds (MoreExprs e es) self rows f = do
+  v ← ev e self rows f
+  choose v (holds es self rows f) (give false)
+
+-- the rows of VALUES, in turn
+abbrev pub ev_rows : Rows → Called → List Row → Frame → Eval (List Row)
+ev_rows NoRow self rows f = give []
+ev_rows (MoreRows r rs) self rows f = do
+  values ← ev_all r self rows f
+  more ← ev_rows rs self rows f
   give (values ∷ more)
 
--- for each row of the table, in key order: the WHERE, and then the select list
-abbrev pub answer : Query → Eval (List Row)
-answer (Select items name filter) = λ w. each_row (λ row. do
-  keep ← is_kept filter row
-  record_where keep items row) (rows_named name w.tables) w
-answer (Values rows) = ev_rows rows
+-- the rows of FROM: those of a table in key order
+abbrev pub from_rows : From → Called → List Row → Frame → Eval (List Row)
+from_rows (Table name) self rows f = λ w. Gives (rows_named name w.tables) w
 
-abbrev pub keep_rows : Option (List Row) → List ℕ → Eval (Unit {0})
-keep_rows None name = raise ConstraintViolated
-keep_rows (Some rows) name = λ w. Gives tt (record w { tables = with_rows name rows w.tables })
+-- what a query makes of one row of FROM: first the conjuncts, and where they are true the select list
+abbrev pub record_of : Exprs → Exprs → Called → List Row → Frame → Eval (Option Row)
+record_of items conjuncts self rows f = do
+  keep ← holds conjuncts self rows f
+  kept keep (ev_all items self rows f)
 
--- new rows in a table
-abbrev pub store_in : Option Table → List ℕ → List Row → Eval (Unit {0})
-store_in None name new = give tt
-store_in (Some t) name new = keep_rows (inserted t.columns t.key t.rows new) name
+-- The rows of a query, by the rows of the queries around it. FROM is complete before the first row goes on.
+abbrev pub answer : Query → Called → List Row → Frame → Eval (List Row)
+answer (Select items from conjuncts) self outer f = do
+  rows ← from_rows from self outer f
+  each_kept (λ row. record_of items conjuncts self (row ∷ outer) f) rows
+answer (Values rows) self outer f = ev_rows rows self outer f
 
--- All rows are evaluated, and then stored; it gives how many there are.
-abbrev pub insert : List ℕ → Rows → Eval ℕ
-insert name rows = unit (do
-  new ← ev_rows rows
-  stored ← (λ w. store_in (table_named name w.tables) name new w)
-  give (length new))
+-- a query that is a statement is a unit
+abbrev pub ask : Query → Eval (List Row)
+ask query = unit (answer query no_self [] no_frame)

@@ -2,7 +2,7 @@
 #![tactic(auto)]
 
 ghost use Rattle.std.specs.Prelude.{◌≡◌};
-ghost use Rattle.rel_algebra.specs.Rows.{InverseOfEachRow, KeysStandOnce, LeastHasNoOpposite, RowsInTurn, NoValueLacks};
+ghost use Rattle.rel_algebra.specs.Examples.{InverseOfEachRow, KeysStandOnce, LeastHasNoOpposite, RowsInTurn, NoValueLacks, ColumnsByLevel, SelfCalls};
 
 /// The inverse of each row raises at the row with zero; where that row is left out it is a record.
 pub fn inverse_of_each_row()
@@ -27,4 +27,14 @@ pub fn rows_in_turn()
 /// An INSERT is refused whole where one of its rows has NULL in a column that takes none.
 pub fn no_value_lacks()
     ensures { NoValueLacks }
+{}
+
+/// A column is found in the row of its level, the innermost row at level 0; a comparison gives a truth value.
+pub fn columns_by_level()
+    ensures { ColumnsByLevel }
+{}
+
+/// A function that calls itself takes a turn at each activation; the twenty-fifth raises.
+pub fn self_calls()
+    ensures { SelfCalls }
 {}

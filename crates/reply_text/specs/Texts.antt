@@ -1,20 +1,26 @@
--- The text of replies. Each line ends in LF.
-use Rattle.std.specs.Prelude.{ℕ, List, [], ◌∷◌, ◌++◌, length, codes, decimal, ◌==◌, if◌then◌else◌}
+-- The text of replies. Each line ends in LF. States are those of ISO/IEC 9075-2, 24.1 (SQLSTATE).
+use Rattle.std.specs.Prelude.{ℕ, Bool, true, false, List, [], ◌∷◌, ◌++◌, length, codes, decimal, ◌==◌, if◌then◌else◌, Option, Some, None}
 use Rattle.std.specs.List.{flat_map}
 use Rattle.std.specs.Fmt.{signed_decimal}
 use Rattle.sql_values.specs.declared.value.Value.{Value}
-use Rattle.sql_values.specs.declared.value.Value.TheVariants.{Null, Int}
-use Rattle.sql_conditions.specs.declared.Condition.{Condition}
-use Rattle.sql_conditions.specs.Conditions.{state_of, text_of}
-use Rattle.reply_text.specs.declared.reply.FaultText.{FaultText}
-use Rattle.reply_text.specs.declared.reply.FaultText.TheVariants.{UnknownName, DuplicateName, TypeMismatch, WrongCount, NotPermitted, TooHigh, Syntax, TooDeep}
+use Rattle.sql_values.specs.declared.value.Value.TheVariants.{Null, Int, Bool as Truth}
+use Rattle.sql_conditions.specs.Conditions.{Condition, Area}
+use Rattle.name_faults.specs.declared.fault.FaultKind.{FaultKind}
+use Rattle.name_faults.specs.declared.fault.FaultKind.TheVariants.{UnknownName, DuplicateName, TypeMismatch, WrongCount, NotPermitted, TooHigh}
+use Rattle.reply_text.specs.declared.fault.FaultText.{FaultText}
+use Rattle.reply_text.specs.declared.fault.FaultText.TheVariants.{Name, Syntax, TooDeep}
 
--- a field: a decimal integer, or NULL
+abbrev pub truth_text : Bool → List ℕ
+truth_text true = codes "TRUE"
+truth_text false = codes "FALSE"
+
+-- a field: a decimal integer, a truth value, or NULL
 abbrev pub value_text : Value → List ℕ
 value_text Null = codes "NULL"
 value_text (Int n) = signed_decimal n
+value_text (Truth p) = truth_text p
 
--- a field behind another one
+-- a field that comes after another
 abbrev pub next_field : Value → List ℕ
 next_field v = codes "," ++ value_text v
 
@@ -34,24 +40,58 @@ count_text n = if n == 0 then codes "02000 rows 0\n" else codes "00000 rows " ++
 abbrev pub rows_text : List (List Value) → List ℕ
 rows_text rows = flat_map record_text rows ++ count_text (length rows)
 
-abbrev pub done_text : List ℕ
-done_text = codes "00000\n"
+-- the values that a statement hands out: one record, where there are any
+abbrev pub values_text : List Value → List ℕ
+values_text [] = []
+values_text (v ∷ vs) = record_text (v ∷ vs)
 
--- an exception: its state and its text
-abbrev pub condition_text : Condition → List ℕ
-condition_text c = codes "! " ++ state_of c ++ codes " " ++ text_of c ++ codes "\n"
+-- how a statement that isn't a query ends: with the number of its rows, where it has one
+abbrev pub end_text : Option ℕ → List ℕ
+end_text None = codes "00000\n"
+end_text (Some n) = count_text n
 
--- what a script is refused for, in words of this engine's own
-abbrev pub kind_text : FaultText → List ℕ
+-- a statement that isn't a query and raises nothing
+abbrev pub done_text : List Value → Option ℕ → List ℕ
+done_text values rows = values_text values ++ end_text rows
+
+-- a message after its state; an empty one leaves no space
+abbrev pub message_text : List ℕ → List ℕ
+message_text [] = []
+message_text (c ∷ cs) = codes " " ++ c ∷ cs
+
+-- a line with a condition: its state and its message
+abbrev pub condition_line : Condition → List ℕ
+condition_line c = c.state ++ message_text c.message ++ codes "\n"
+
+-- a further condition of an area
+abbrev pub further_line : Condition → List ℕ
+further_line c = codes "  " ++ condition_line c
+
+-- an exception: a line for each condition of its area, the newest first
+abbrev pub area_text : Area → List ℕ
+area_text [] = []
+area_text (c ∷ cs) = codes "! " ++ condition_line c ++ flat_map further_line cs
+
+-- the reply of a statement for which no turn was left
+abbrev pub spent_text : List ℕ
+spent_text = codes "! PS001 budget exhausted\n"
+
+-- what is wrong with a name, in words of this engine's own
+abbrev pub kind_text : FaultKind → List ℕ
 kind_text UnknownName = codes "unknown name"
 kind_text DuplicateName = codes "duplicate name"
 kind_text TypeMismatch = codes "type mismatch"
 kind_text WrongCount = codes "wrong count"
 kind_text NotPermitted = codes "not permitted"
 kind_text TooHigh = codes "too high"
-kind_text Syntax = codes "syntax error"
-kind_text TooDeep = codes "nesting too deep"
 
--- a fault of the script, with its line and column: the state of a syntax error or access rule violation (ISO/IEC 9075-2, 24.1)
+-- what a script is refused for
+abbrev pub refusal_text : FaultText → List ℕ
+refusal_text (Name kind) = kind_text kind
+refusal_text Syntax = codes "syntax error"
+refusal_text TooDeep = codes "nesting too deep"
+
+-- a fault of the script, with its line and column: the state of a syntax error or access rule
+-- violation
 abbrev pub fault_text : FaultText → ℕ → ℕ → List ℕ
-fault_text kind line column = codes "! 42000 " ++ kind_text kind ++ codes " at line " ++ decimal line ++ codes " column " ++ decimal column ++ codes "\n"
+fault_text fault line column = codes "! 42000 " ++ refusal_text fault ++ codes " at line " ++ decimal line ++ codes " column " ++ decimal column ++ codes "\n"

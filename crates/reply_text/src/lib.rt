@@ -1,9 +1,12 @@
 //! The text of replies.
 #![tactic(auto)]
 
+mod area;
+mod fault;
+mod put;
 mod record;
 mod reply;
 
-pub use reply::{
-    FaultText, Reply, condition_reply, count_reply, done_reply, fault_reply, rows_reply,
-};
+pub use area::{area_reply, spent_reply};
+pub use fault::{FaultText, fault_reply};
+pub use reply::{Reply, done_reply, rows_reply};

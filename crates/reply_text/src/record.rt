@@ -1,35 +1,11 @@
-//! Records and numbers, written behind a text.
+//! Records, written after a text.
 
-ghost use Rattle.std.specs.Prelude.{◌≡◌, ◌++◌, ◌∷◌, [], OnOk, codes, decimal};
-ghost use Rattle.std.specs.Fmt.{signed_decimal};
+ghost use Rattle.std.specs.Prelude.{◌≡◌, ◌++◌, OnOk};
 ghost use Rattle.std.specs.List.{flat_map};
 ghost use Rattle.reply_text.specs.Texts.{value_text, next_field, fields_text, record_text};
 
-use itoa::Buffer;
+use crate::put::{put, put_number};
 use sql_values::{NoMemory, Value};
-
-/// Writes bytes behind the text.
-pub(crate) fn put(text: &mut Vec<u8>, bytes: &[u8]) -> Result<(), NoMemory>
-    ensures { OnOk result (text.new.items ≡ text.old.items ++ bytes.now) }
-{
-    text.extend_from_slice(bytes)?;
-    Ok(())
-}
-
-/// Writes a number without a sign.
-pub(crate) fn put_count(text: &mut Vec<u8>, count: u64) -> Result<(), NoMemory>
-    ensures { OnOk result (text.new.items ≡ text.old.items ++ decimal count) }
-{
-    let mut buffer = Buffer::new();
-    put(text, buffer.format(count).as_bytes())
-}
-
-fn put_number(text: &mut Vec<u8>, number: i64) -> Result<(), NoMemory>
-    ensures { OnOk result (text.new.items ≡ text.old.items ++ signed_decimal number) }
-{
-    let mut buffer = Buffer::new();
-    put(text, buffer.format(number).as_bytes())
-}
 
 fn put_value(text: &mut Vec<u8>, value: &Value) -> Result<(), NoMemory>
     ensures { OnOk result (text.new.items ≡ text.old.items ++ value_text value.now) }
@@ -37,10 +13,12 @@ fn put_value(text: &mut Vec<u8>, value: &Value) -> Result<(), NoMemory>
     match value {
         Value::Null => put(text, b"NULL"),
         Value::Int(number) => put_number(text, *number),
+        Value::Bool(true) => put(text, b"TRUE"),
+        Value::Bool(false) => put(text, b"FALSE"),
     }
 }
 
-// Writes a comma, and the value behind it.
+// Writes a comma, and the value after it.
 fn put_next(text: &mut Vec<u8>, value: &Value) -> Result<(), NoMemory>
     ensures { OnOk result (text.new.items ≡ text.old.items ++ next_field value.now) }
 {

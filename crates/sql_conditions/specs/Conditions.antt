@@ -1,14 +1,35 @@
--- The SQLSTATE and the message text of each condition: ISO/IEC 9075-2, 24.1; the texts are this engine's own.
-use Rattle.std.specs.Prelude.{ℕ, List, codes}
-use Rattle.sql_conditions.specs.declared.Condition.{Condition}
-use Rattle.sql_conditions.specs.declared.Condition.TheVariants.{NumberOutOfRange, DivisionByZero, ConstraintViolated}
+-- Conditions and areas. ISO/IEC 9075-2, 24.1 (SQLSTATE) and 4.33 (diagnostics area); the texts are this engine's own.
+use Rattle.std.specs.Prelude.{ℕ, List, [], ◌∷◌, codes, take}
+use Rattle.sql_conditions.specs.declared.condition.EngineCondition.{EngineCondition}
+use Rattle.sql_conditions.specs.declared.condition.EngineCondition.TheVariants.{NumberOutOfRange, DivisionByZero, ConstraintViolated, RecursionTooDeep}
 
-abbrev pub state_of : Condition → List ℕ
+-- a state and a message text
+pub record Condition : Type 0 where
+  pub state : List ℕ
+  pub message : List ℕ
+
+abbrev pub state_of : EngineCondition → List ℕ
 state_of NumberOutOfRange = codes "22003"
 state_of DivisionByZero = codes "22012"
 state_of ConstraintViolated = codes "23000"
+state_of RecursionTooDeep = codes "PS002"
 
-abbrev pub text_of : Condition → List ℕ
+abbrev pub text_of : EngineCondition → List ℕ
 text_of NumberOutOfRange = codes "number out of range"
 text_of DivisionByZero = codes "division by zero"
 text_of ConstraintViolated = codes "constraint violated"
+text_of RecursionTooDeep = codes "recursion too deep"
+
+abbrev pub own : EngineCondition → Condition
+own c = record { state = state_of c; message = text_of c }
+
+-- one to four conditions, the newest first
+abbrev pub Area : Type 0
+Area = List Condition
+
+abbrev pub area_of : EngineCondition → Area
+area_of c = own c ∷ []
+
+-- a condition in front; of five the oldest goes
+abbrev pub pushed : Condition → Area → Area
+pushed c area = take 4 (c ∷ area)

@@ -1,2 +1,6 @@
-pub mod Openings
+pub mod Steps
+pub mod Keeping
+pub mod Begun
+pub mod Holding
 pub mod Constructs
+pub mod Laws

@@ -1,17 +1,64 @@
--- The constructs that are open at a place: those that a grammar has open there, and those that are open there by the tokens alone. A
--- construct is told by the place of its opening token. The innermost stands first.
-use Rattle.std.specs.Prelude.{◌≡◌, ℕ, zero, suc, ◌+◌, ◌-◌, ◌≤◌, Bool, true, false, not, ◌&&◌, if◌then◌else◌, List, [], ◌∷◌, ◌++◌, drop, length, ◌⊎◌}
-use Rattle.sql_lex.specs.Openings.{kind_at, opening, opens_at}
+-- The constructs that are open at a place: those that a grammar has open there, and those that are
+-- open there by the tokens alone. A construct is told by the place of its opening token. The
+-- innermost stands first.
+use Rattle.std.specs.Prelude.{◌≡◌, ℕ, zero, suc, ◌+◌, ◌-◌, ◌≤◌, Bool, true, false, not, ◌&&◌, ◌||◌, if◌then◌else◌, List, [], ◌∷◌, ◌++◌, drop, length, ◌⊎◌, ◌↔◌, Result, Ok, Err}
+use Rattle.sql_lex.specs.Openings.{kind_at, opening, is_end, opens_at}
 use Rattle.sql_lex.specs.declared.sign.Sign.TheVariants as sign
 use Rattle.sql_lex.specs.declared.token.Kind.{Kind}
 use Rattle.sql_lex.specs.declared.token.Kind.TheVariants as kind
 use Rattle.sql_lex.specs.declared.token.Token.{Token}
 use Rattle.sql_lex.specs.declared.word.Word.TheVariants as word
+use Rattle.token_grammar.specs.declared.fault.ParseFault.{ParseFault}
+use Rattle.token_grammar.specs.declared.fault.ParseFault.TheVariants as fault
+use Rattle.token_grammar.specs.declared.stage.Stage.TheVariants.{First, Second, Third}
 use Rattle.token_grammar.specs.Grammar.{Grammar, token, nested, both, either, optional, many, staged, map_to, Inner, Passes, Each, EachFrom, stage_after, Spells, inside}
-use Rattle.token_grammar.specs.Reading.{at_each_stage}
-use Rattle.token_grammar.specs.Statement.{place, BeginsWithin}
+use Rattle.token_grammar.specs.Reading.{nullable, at_each_stage}
+use Rattle.token_grammar.specs.Statement.{place, BeginsWithin, Front}
 
 -- ---- by the tokens alone
+
+-- What the token before a place is: END, after which a word opens nothing; HANDLER, CURSOR or
+-- CONDITION, after which FOR begins no loop; or another, or none.
+pub data Before : Type 0 where
+  End : Before
+  Leading : Before
+  Other : Before
+
+abbrev pub is_leading : Kind → Bool
+is_leading (kind.Word word.Handler) = true
+is_leading (kind.Word word.Cursor) = true
+is_leading (kind.Word word.Condition) = true
+is_leading _ = false
+
+abbrev pub before_of : Kind → Before
+before_of k = if is_end k then End else if is_leading k then Leading else Other
+
+abbrev pub before_at : List Token → ℕ → Before
+before_at tokens zero = Other
+before_at tokens (suc at) = before_of (kind_at tokens at)
+
+abbrev pub is_left_paren : Kind → Bool
+is_left_paren (kind.Sign sign.LeftParen) = true
+is_left_paren _ = false
+
+abbrev pub is_right_paren : Kind → Bool
+is_right_paren (kind.Sign sign.RightParen) = true
+is_right_paren _ = false
+
+-- whether the innermost construct stands in brackets
+abbrev pub in_brackets : List Token → List ℕ → Bool
+in_brackets tokens [] = false
+in_brackets tokens (at ∷ opened) = is_left_paren (kind_at tokens at)
+
+-- a loop's FOR: that of SUBSTRING stands right in brackets, each other one after a word that leads
+-- to it or after END
+abbrev pub is_loop : Kind → Before → Bool → Bool
+is_loop (kind.Word word.For) Other false = true
+is_loop _ before bracketed = false
+
+-- whether the token at a place begins a loop by FOR, where these constructs are open
+abbrev pub loops_at : List Token → ℕ → List ℕ → Bool
+loops_at tokens at opened = is_loop (kind_at tokens at) (before_at tokens at) (in_brackets tokens opened)
 
 -- whether a token of this kind closes the innermost construct
 abbrev pub closing : Kind → Bool
@@ -19,18 +66,22 @@ closing (kind.Sign sign.RightParen) = true
 closing (kind.Word word.End) = true
 closing _ = false
 
--- the constructs open behind the token at a place, from those open before it
-abbrev pub open_behind : List Token → ℕ → List ℕ → List ℕ
-open_behind tokens at opened = if opens_at tokens at then at ∷ opened else if closing (kind_at tokens at) then drop 1 opened else opened
+-- The constructs open after the token at a place, from those open before it: it is added in front
+-- where it opens one, `)` and END take the innermost away, and any other token leaves them.
+abbrev pub open_past : List Token → ℕ → List ℕ → List ℕ
+open_past tokens at opened =
+    if opens_at tokens at || loops_at tokens at opened then at ∷ opened
+    else if closing (kind_at tokens at) then drop 1 opened else opened
 
--- the constructs open behind the n tokens from place i on
+-- the constructs open after the n tokens from place i on
 abbrev pub open_after : List Token → ℕ → ℕ → List ℕ
 open_after tokens i zero = []
-open_after tokens i (suc n) = open_behind tokens (i + n) (open_after tokens i n)
+open_after tokens i (suc n) = open_past tokens (i + n) (open_after tokens i n)
 
 -- ---- by a grammar
 
--- In what a rule spells, from the tokens up to the end, stands a beginning in which these constructs are open.
+-- In what a rule spells, from the tokens up to the end, stands a beginning in which these
+-- constructs are open.
 abbrev pub Held : (R : Type 0) → Type 1
 Held R = R → List Token → List Token → List ℕ → Type 0
 
@@ -58,33 +109,155 @@ abbrev pub holds : {R : Type 0} {Tree : R → Type 0} → List Token → ((r : R
 holds all rules zero = λ r tokens end opened. ⊥
 holds all rules (suc n) = λ r tokens end opened. HasOpen all (inside rules n) (holds all rules n) (rules r) tokens end opened
 
--- From place i up to k stands a beginning of a spelling with at most n constructs open at once, and at k these are open.
+-- From place i up to k stands a beginning of a spelling with at most n constructs open at once, and
+-- at k these are open.
 abbrev pub HasOpenAt : {R : Type 0} {Tree : R → Type 0} {A : Type 0} → ((r : R) → Grammar R Tree (Tree r)) → ℕ → Grammar R Tree A → List Token → ℕ → ℕ → List ℕ → Type 0
 HasOpenAt rules n g tokens i k opened = (i ≤ k) × (k ≤ length tokens) × HasOpen tokens (inside rules n) (holds tokens rules n) g (drop i tokens) (drop k tokens) opened
 
 -- ---- whether the tokens tell the constructs of a grammar
 
--- A token of the kind opens a construct, or none, whether it stands right behind END or not.
-abbrev pub opens_always : Kind → Bool
-opens_always k = opening k false && opening k true
+-- some of what may stand before a token
+pub record Befores : Type 0 where
+  pub at_end : Bool
+  pub at_leading : Bool
+  pub at_other : Bool
 
-abbrev pub opens_never : Kind → Bool
-opens_never k = not (opening k false) && not (opening k true)
+abbrev pub has : Before → Befores → Bool
+has End s = s.at_end
+has Leading s = s.at_leading
+has Other s = s.at_other
 
--- The grammar's constructs open and close by tokens that always do so, and its other tokens never do.
-abbrev pub told_by_tokens : {R : Type 0} {Tree : R → Type 0} {A : Type 0} → Grammar R Tree A → Bool
-told_by_tokens (token kind) = opens_never kind && not (closing kind)
-told_by_tokens (nested opening r ending) = opens_always opening && (opens_never ending && closing ending)
-told_by_tokens (both g h) = told_by_tokens g && told_by_tokens h
-told_by_tokens (either g h) = told_by_tokens g && told_by_tokens h
-told_by_tokens (optional g) = told_by_tokens g
-told_by_tokens (many g) = told_by_tokens g
-told_by_tokens (staged item next stage) = at_each_stage (λ s. told_by_tokens (item s))
-told_by_tokens (map_to f g) = told_by_tokens g
+abbrev pub none : Befores
+none = record { at_end = false; at_leading = false; at_other = false }
 
--- Where a beginning stands, the grammar has these constructs open at its end: those that are open by the tokens alone, no others, and no
--- more than may be.
-abbrev pub TellOpen : {R : Type 0} {Tree : R → Type 0} {A : Type 0} → ((r : R) → Grammar R Tree (Tree r)) → Grammar R Tree A → Type 0
-TellOpen rules g = (n : ℕ) (tokens : List Token) (i k : ℕ)
-    → (BeginsWithin rules n g tokens i k → HasOpenAt rules n g tokens i k (open_after tokens i (k - i)))
-    × ((opened : List ℕ) → HasOpenAt rules n g tokens i k opened → BeginsWithin rules n g tokens i k × (opened ≡ open_after tokens i (k - i)) × (length opened ≤ n))
+abbrev pub any : Befores
+any = record { at_end = true; at_leading = true; at_other = true }
+
+abbrev pub only : Before → Befores
+only End = record { at_end = true; at_leading = false; at_other = false }
+only Leading = record { at_end = false; at_leading = true; at_other = false }
+only Other = record { at_end = false; at_leading = false; at_other = true }
+
+abbrev pub meet : Befores → Befores → Befores
+meet s t = record { at_end = s.at_end && t.at_end; at_leading = s.at_leading && t.at_leading; at_other = s.at_other && t.at_other }
+
+abbrev pub join : Befores → Befores → Befores
+join s t = record { at_end = s.at_end || t.at_end; at_leading = s.at_leading || t.at_leading; at_other = s.at_other || t.at_other }
+
+abbrev pub if_so : Bool → Befores → Befores → Befores
+if_so true s t = s
+if_so false s t = t
+
+abbrev pub implies : Bool → Bool → Bool
+implies true b = b
+implies false b = true
+
+abbrev pub subset : Befores → Befores → Bool
+subset s t = implies s.at_end t.at_end && (implies s.at_leading t.at_leading && implies s.at_other t.at_other)
+
+-- whether a token of this kind opens a construct, by what stands before it, and by whether it
+-- stands right in brackets
+abbrev pub opens_after : Kind → Before → Bool → Bool
+opens_after k End bracketed = opening k true || is_loop k End bracketed
+opens_after k Leading bracketed = opening k false || is_loop k Leading bracketed
+opens_after k Other bracketed = opening k false || is_loop k Other bracketed
+
+abbrev pub opening_befores : Bool → Kind → Befores
+opening_befores bracketed k = record { at_end = opens_after k End bracketed; at_leading = opens_after k Leading bracketed; at_other = opens_after k Other bracketed }
+
+abbrev pub other_befores : Bool → Kind → Befores
+other_befores bracketed k = record { at_end = not (opens_after k End bracketed); at_leading = not (opens_after k Leading bracketed); at_other = not (opens_after k Other bracketed) }
+
+-- after what the first tokens of the grammar are told: those that open a construct of it open one,
+-- the others none
+abbrev pub stands : {R : Type 0} {Tree : R → Type 0} {A : Type 0} → Bool → Grammar R Tree A → Befores
+stands bracketed (token kind) = other_befores bracketed kind
+stands bracketed (nested opening r closing) = opening_befores bracketed opening
+stands bracketed (both g h) = meet (stands bracketed g) (if_so (nullable g) (stands bracketed h) any)
+stands bracketed (either g h) = meet (stands bracketed g) (stands bracketed h)
+stands bracketed (optional g) = stands bracketed g
+stands bracketed (many g) = stands bracketed g
+stands bracketed (staged item next stage) = meet (stands bracketed (item First)) (meet (stands bracketed (item Second)) (stands bracketed (item Third)))
+stands bracketed (map_to f g) = stands bracketed g
+
+-- what its last tokens are for a token after them
+abbrev pub ends : {R : Type 0} {Tree : R → Type 0} {A : Type 0} → Grammar R Tree A → Befores
+ends (token kind) = only (before_of kind)
+ends (nested opening r closing) = only (before_of closing)
+ends (both g h) = join (ends h) (if_so (nullable h) (ends g) none)
+ends (either g h) = join (ends g) (ends h)
+ends (optional g) = ends g
+ends (many g) = ends g
+ends (staged item next stage) = join (ends (item First)) (join (ends (item Second)) (ends (item Third)))
+ends (map_to f g) = ends g
+
+abbrev pub same_truth : Bool → Bool → Bool
+same_truth true b = b
+same_truth false b = not b
+
+abbrev pub is_other : Before → Bool
+is_other Other = true
+is_other _ = false
+
+-- a token that opens no construct, wherever it stands, and closes one
+abbrev pub always_closes : Kind → Bool
+always_closes k = closing k && (subset any (other_befores true k) && subset any (other_befores false k))
+
+-- All its tokens are told. The first argument says which rules stand in brackets.
+abbrev pub told : {R : Type 0} {Tree : R → Type 0} {A : Type 0} → (R → Bool) → Bool → Grammar R Tree A → Bool
+told in_round bracketed (token kind) = not (closing kind)
+told in_round bracketed (nested opening r closing) = is_other (before_of opening) && (same_truth (is_left_paren opening) (in_round r) && always_closes closing)
+told in_round bracketed (both g h) = told in_round bracketed g && (told in_round bracketed h && subset (ends g) (stands bracketed h))
+told in_round bracketed (either g h) = told in_round bracketed g && told in_round bracketed h
+told in_round bracketed (optional g) = told in_round bracketed g
+told in_round bracketed (many g) = told in_round bracketed g && subset (ends g) (stands bracketed g)
+told in_round bracketed (staged item next stage) =
+    at_each_stage (λ s. told in_round bracketed (item s) && at_each_stage (λ t. subset (ends (item s)) (stands bracketed (item t))))
+told in_round bracketed (map_to f g) = told in_round bracketed g
+
+-- the same of what stands in a construct
+abbrev pub rule_told : {R : Type 0} {Tree : R → Type 0} → (R → Bool) → ((r : R) → Grammar R Tree (Tree r)) → R → Bool
+rule_told in_round rules r = told in_round (in_round r) (rules r) && (stands (in_round r) (rules r)).at_other
+
+-- ---- what holds then
+
+module _ {R : Type 0} {Tree : R → Type 0} {A : Type 0} (rules : (r : R) → Grammar R Tree (Tree r)) (g : Grammar R Tree A) where
+  -- Where a beginning stands, the grammar has these constructs open at its end: those that are open
+  -- by the tokens alone, no others, and no more than may be.
+  abbrev pub TellOpenFrom : List Token → ℕ → Type 0
+  TellOpenFrom tokens i = (n k : ℕ)
+      → (BeginsWithin rules n g tokens i k → HasOpenAt rules n g tokens i k (open_after tokens i (k - i)))
+      × ((opened : List ℕ) → HasOpenAt rules n g tokens i k opened → BeginsWithin rules n g tokens i k × (opened ≡ open_after tokens i (k - i)) × (length opened ≤ n))
+
+  -- From each place to the next one the grammar's open constructs change as the token there says.
+  abbrev pub GoByStepsFrom : List Token → ℕ → Type 0
+  GoByStepsFrom tokens i = (n k : ℕ) (opened next : List ℕ)
+      → HasOpenAt rules n g tokens i k opened → HasOpenAt rules n g tokens i (k + 1) next → next ≡ open_past tokens k opened
+
+  -- A beginning has at most n constructs open at once just where at each place in it at most n are
+  -- open by the tokens alone.
+  abbrev pub CountOpenFrom : List Token → ℕ → Type 0
+  CountOpenFrom tokens i = (n k : ℕ)
+      → (BeginsWithin rules n g tokens i k ↔ (Front rules g tokens i k × ((m : ℕ) → m ≤ k - i → length (open_after tokens i m) ≤ n)))
+
+  -- the same from each place
+  abbrev pub TellOpen : Type 0
+  TellOpen = (tokens : List Token) (i : ℕ) → TellOpenFrom tokens i
+
+  abbrev pub GoBySteps : Type 0
+  GoBySteps = (tokens : List Token) (i : ℕ) → GoByStepsFrom tokens i
+
+  abbrev pub CountOpen : Type 0
+  CountOpen = (tokens : List Token) (i : ℕ) → CountOpenFrom tokens i
+
+-- By the tokens alone n constructs are open at place k, and the token there opens one more.
+abbrev pub OpensOneMore : ℕ → List Token → ℕ → ℕ → Type 0
+OpensOneMore n tokens i k = (length (open_after tokens i (k - i)) ≡ n) × (open_after tokens i (k + 1 - i) ≡ k ∷ open_after tokens i (k - i))
+
+-- Where reading stops at k, it is for want of constructs just where the token at k opens one more
+-- than may be open, and goes on.
+abbrev pub DeepExactly : {R : Type 0} {Tree : R → Type 0} {A : Type 0} → ((r : R) → Grammar R Tree (Tree r)) → ℕ → Grammar R Tree A → List Token → ℕ → Result (A × ℕ) ParseFault → Type 0
+DeepExactly rules n g tokens i (Ok p) = Unit {0}
+DeepExactly rules n g tokens i (Err fault.NoMemory) = Unit {0}
+DeepExactly rules n g tokens i (Err (fault.NoStatement k)) = Front rules g tokens i (k + 1) → ⊥
+DeepExactly rules n g tokens i (Err (fault.TooDeep k)) = Front rules g tokens i (k + 1) × OpensOneMore n tokens i k

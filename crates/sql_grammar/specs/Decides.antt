@@ -1,33 +1,111 @@
--- One token ahead decides.
-use Rattle.std.specs.Prelude.{◌≡◌, true, refl, []}
-use Rattle.token_grammar.specs.Reading.{decides, goes_on, same_kind}
-use Rattle.sql_grammar.specs.Sql as g
-use Rattle.sql_grammar.specs.Sql.{Rule, Columns, Parameters, Arguments, Row, Bracketed, bracketed, ident, integer, named, primary, unary_sign, if_sign, signed, factor_operator, factor, factors, term, addend_operator, addend, addends, expr, more_exprs, exprs, comparison, predicate, filter, from_table, source, selection, select_word, select, row, more_rows, rows, values_word, values, query, insertion, into_table, insert, not_null, primary_key, column_constraint, constraints, column, more_columns, columns, parameter, more_parameters, parameters, table_definition, create_table, returns_type, return_value, body, function_definition, create_function, created, ddl, dml, unended, statement}
+-- One token ahead decides the grammar, and its tokens tell its constructs: computed once for all
+-- rules, so that a new rule's name is added to one list.
+use Rattle.std.specs.Prelude.{◌≡◌, true, false, refl, []}
+use Rattle.std.proofs.Common.{sym, ◌∙◌}
+use Rattle.token_grammar.specs.Grammar.{Grammar}
+use Rattle.token_grammar.specs.Reading.{decides, goes_on, nullable, same_kind}
+use Rattle.sql_grammar.specs.Trees.{Rule, Tree, Columns, Parameters, Arguments, RowValues, Bracketed, bracketed, ident, data_type}
+use Rattle.sql_grammar.specs.Expressions.{named, primary, unary_sign, if_sign, signed, factor_operator, factor, factors, term, addend_operator, addend, addends, expr, more_exprs, exprs, comparison, predicate}
+use Rattle.sql_grammar.specs.Queries.{conjuncts, conditions, from_item, from_items, from_clause, source, selection, select_word, select, row, more_rows, rows, values_word, values, query}
+use Rattle.sql_grammar.specs.Writing.{insert_source, insertion, into_table, insert_word, insert, dml}
+use Rattle.sql_grammar.specs.Definitions.{not_null, primary_key, column_constraint, constraints, column, more_columns, columns, parameter, more_parameters, parameters, table_definition, create_table, returns_type, return_value, body, function_definition, create_function, create_word, created, ddl}
+use Rattle.sql_grammar.specs.Sql.{unended, statement, rules, shut}
+use Rattle.sql_grammar.specs.Constructs.{any, stands}
+use Rattle.sql_grammar.specs.Summary.{summary, is_sound, rule_sound}
+use Rattle.sql_grammar.specs.Summaries.{goes_on_same, nullable_same, stands_same, all_decide as decide_all, part_decides}
 
-pub all_decide : (r : Rule) → decides g.rules (g.rules r) ≡ true
-unfolding same_kind bracketed ident integer named primary unary_sign if_sign signed factor_operator factor factors term addend_operator addend addends expr more_exprs exprs comparison predicate filter from_table source selection select_word select row more_rows rows values_word values query insertion into_table insert not_null primary_key column_constraint constraints column more_columns columns parameter more_parameters parameters table_definition create_table returns_type return_value body function_definition create_function created ddl dml unended statement
-all_decide Columns = refl
-all_decide Parameters = refl
-all_decide Arguments = refl
-all_decide Row = refl
-all_decide Bracketed = refl
+abbrev RuleIsSound : Rule → Type 0
+RuleIsSound r = rule_sound shut rules r ≡ true
 
-pub statement_decides : decides g.rules statement ≡ true
-unfolding same_kind bracketed ident integer named primary unary_sign if_sign signed factor_operator factor factors term addend_operator addend addends expr more_exprs exprs comparison predicate filter from_table source selection select_word select row more_rows rows values_word values query insertion into_table insert not_null primary_key column_constraint constraints column more_columns columns parameter more_parameters parameters table_definition create_table returns_type return_value body function_definition create_function created ddl dml unended statement
-statement_decides = refl
+-- A part that a parser reads by itself is sound, spelled by a token at least, and may stand after
+-- any token.
+abbrev PartIsSound : {A : Type 0} → Grammar Rule Tree A → Type 0
+PartIsSound g = (is_sound shut false g ≡ true) × ((summary shut false g).nullable ≡ false) × ((summary shut false g).stands ≡ any)
+
+record AllAreSound : Type 0 where
+  columns_rule : RuleIsSound Columns
+  parameters_rule : RuleIsSound Parameters
+  arguments_rule : RuleIsSound Arguments
+  row_values_rule : RuleIsSound RowValues
+  bracketed_rule : RuleIsSound Bracketed
+  statement_part : PartIsSound statement
+  query_part : PartIsSound query
+  dml_part : PartIsSound dml
+  ddl_part : PartIsSound ddl
+  -- no token goes on with a statement after its `;`
+  statement_end : (summary shut false statement).goes_on ≡ []
+
+all_are_sound : AllAreSound
+unfolding same_kind bracketed ident data_type named primary unary_sign if_sign signed factor_operator factor factors term addend_operator addend addends expr more_exprs exprs comparison predicate conjuncts conditions from_item from_items from_clause source selection select_word select row more_rows rows values_word values query insert_source insertion into_table insert_word insert dml not_null primary_key column_constraint constraints column more_columns columns parameter more_parameters parameters table_definition create_table returns_type return_value body function_definition create_function create_word created ddl unended statement
+all_are_sound = record {
+  columns_rule = refl;
+  parameters_rule = refl;
+  arguments_rule = refl;
+  row_values_rule = refl;
+  bracketed_rule = refl;
+  statement_part = (refl, refl, refl);
+  query_part = (refl, refl, refl);
+  dml_part = (refl, refl, refl);
+  ddl_part = (refl, refl, refl);
+  statement_end = refl;
+}
+
+pub rules_sound : (r : Rule) → rule_sound shut rules r ≡ true
+rules_sound Columns = all_are_sound.columns_rule
+rules_sound Parameters = all_are_sound.parameters_rule
+rules_sound Arguments = all_are_sound.arguments_rule
+rules_sound RowValues = all_are_sound.row_values_rule
+rules_sound Bracketed = all_are_sound.bracketed_rule
+
+pub all_decide : (r : Rule) → decides rules (rules r) ≡ true
+all_decide = decide_all shut rules rules_sound
+
+-- ---- statement
+
+pub statement_sound : is_sound shut false statement ≡ true
+statement_sound = all_are_sound.statement_part.0
+
+pub statement_stands : stands false statement ≡ any
+statement_stands = sym (stands_same shut false statement) ∙ all_are_sound.statement_part.2
+
+pub statement_decides : decides rules statement ≡ true
+statement_decides = part_decides shut rules rules_sound statement statement_sound
 
 pub statement_ends : goes_on statement ≡ []
-unfolding same_kind bracketed ident integer named primary unary_sign if_sign signed factor_operator factor factors term addend_operator addend addends expr more_exprs exprs comparison predicate filter from_table source selection select_word select row more_rows rows values_word values query insertion into_table insert not_null primary_key column_constraint constraints column more_columns columns parameter more_parameters parameters table_definition create_table returns_type return_value body function_definition create_function created ddl dml unended statement
-statement_ends = refl
+statement_ends = sym (goes_on_same shut false statement) ∙ all_are_sound.statement_end
 
-pub query_decides : decides g.rules query ≡ true
-unfolding same_kind bracketed ident integer named primary unary_sign if_sign signed factor_operator factor factors term addend_operator addend addends expr more_exprs exprs comparison predicate filter from_table source selection select_word select row more_rows rows values_word values query insertion into_table insert not_null primary_key column_constraint constraints column more_columns columns parameter more_parameters parameters table_definition create_table returns_type return_value body function_definition create_function created ddl dml unended statement
-query_decides = refl
+pub statement_goes : nullable statement ≡ false
+statement_goes = sym (nullable_same shut false statement) ∙ all_are_sound.statement_part.1
 
-pub dml_decides : decides g.rules dml ≡ true
-unfolding same_kind bracketed ident integer named primary unary_sign if_sign signed factor_operator factor factors term addend_operator addend addends expr more_exprs exprs comparison predicate filter from_table source selection select_word select row more_rows rows values_word values query insertion into_table insert not_null primary_key column_constraint constraints column more_columns columns parameter more_parameters parameters table_definition create_table returns_type return_value body function_definition create_function created ddl dml unended statement
-dml_decides = refl
+-- ---- query
 
-pub ddl_decides : decides g.rules ddl ≡ true
-unfolding same_kind bracketed ident integer named primary unary_sign if_sign signed factor_operator factor factors term addend_operator addend addends expr more_exprs exprs comparison predicate filter from_table source selection select_word select row more_rows rows values_word values query insertion into_table insert not_null primary_key column_constraint constraints column more_columns columns parameter more_parameters parameters table_definition create_table returns_type return_value body function_definition create_function created ddl dml unended statement
-ddl_decides = refl
+pub query_sound : is_sound shut false query ≡ true
+query_sound = all_are_sound.query_part.0
+
+pub query_stands : stands false query ≡ any
+query_stands = sym (stands_same shut false query) ∙ all_are_sound.query_part.2
+
+pub query_decides : decides rules query ≡ true
+query_decides = part_decides shut rules rules_sound query query_sound
+
+-- ---- dml
+
+pub dml_sound : is_sound shut false dml ≡ true
+dml_sound = all_are_sound.dml_part.0
+
+pub dml_stands : stands false dml ≡ any
+dml_stands = sym (stands_same shut false dml) ∙ all_are_sound.dml_part.2
+
+pub dml_decides : decides rules dml ≡ true
+dml_decides = part_decides shut rules rules_sound dml dml_sound
+
+-- ---- ddl
+
+pub ddl_sound : is_sound shut false ddl ≡ true
+ddl_sound = all_are_sound.ddl_part.0
+
+pub ddl_stands : stands false ddl ≡ any
+ddl_stands = sym (stands_same shut false ddl) ∙ all_are_sound.ddl_part.2
+
+pub ddl_decides : decides rules ddl ≡ true
+ddl_decides = part_decides shut rules rules_sound ddl ddl_sound

@@ -1,5 +1,11 @@
+pub mod Trees
+pub mod Expressions
+pub mod Queries
+pub mod Writing
+pub mod Definitions
 pub mod Sql
-pub mod Decides
-pub mod Openings
 pub mod Constructs
-pub mod Rows
+pub mod Summary
+pub mod Summaries
+pub mod Decides
+pub mod Examples

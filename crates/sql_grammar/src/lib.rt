@@ -1,19 +1,22 @@
-//! The grammar of statements, as a value that one token ahead decides.
+//! The grammar of statements, as a value that one token ahead decides, and whose constructs the
+//! tokens tell.
 #![tactic(auto)]
 
 use token_grammar::{Ending, Part};
 
-/// The statements of a script, each with its `;`. It stands for their grammar in contracts; no code has a value of it.
+/// The statements of a script, each with its `;`. It stands for their grammar in contracts; no code
+/// has a value of it.
 pub struct Statements;
 
 impl Part for Statements {
     ghost use Rattle.sql_grammar.specs.Sql as g;
+    ghost use Rattle.sql_grammar.specs.Trees as trees;
     ghost use Rattle.sql_grammar.specs.Decides.{all_decide, statement_decides};
     ghost use Rattle.syntax_trees.specs.declared.statement.Stmt.{Stmt};
 
-    ghost Rule = { g.Rule };
+    ghost Rule = { trees.Rule };
 
-    ghost Tree = { g.Tree };
+    ghost Tree = { trees.Tree };
 
     ghost rules = { g.rules };
 
@@ -32,25 +35,35 @@ impl Ending for Statements {
     ghost ends = { statement_ends };
 }
 
-ghost use Rattle.std.specs.Prelude.{ℕ, List, Result};
-ghost use Rattle.sql_lex.specs.declared.token.Token.{Token};
-ghost use Rattle.syntax_trees.specs.declared.statement.Stmt.{Stmt};
-ghost use Rattle.token_grammar.specs.declared.fault.ParseFault.{ParseFault};
-ghost use Rattle.token_grammar.specs.Statement.{Answers, most_open};
-ghost use Rattle.sql_grammar.specs.Openings.{OpensWhereTooDeep};
-ghost use Rattle.sql_grammar.specs.Constructs.{TellOpen};
-ghost use Rattle.sql_grammar.specs.Sql.{rules, statement, query, dml, ddl};
+ghost use Rattle.sql_grammar.specs.Constructs.{TellOpen, GoBySteps, CountOpen};
+ghost use Rattle.sql_grammar.specs.Queries.{query};
+ghost use Rattle.sql_grammar.specs.Writing.{dml};
+ghost use Rattle.sql_grammar.specs.Definitions.{ddl};
+ghost use Rattle.sql_grammar.specs.Sql.{rules, statement};
 
-/// Where a statement is too deep, the token there opens a construct by the tokens alone.
-pub fn opens_where_too_deep()
-    ensures { (tokens : List Token) (i : ℕ) (r : Result (Stmt × ℕ) ParseFault) → Answers rules most_open statement tokens i r → OpensWhereTooDeep tokens r }
-{}
-
-/// At each place, the constructs that are open by the tokens alone are those that the grammar has open there: for the
-/// statements of a script, and for each part that a parser reads by itself.
+/// At each place, the constructs that are open by the tokens alone are those that the grammar has
+/// open there: for the statements of a script, and for each part that a parser reads by itself.
 pub fn open_constructs()
     ensures statement { TellOpen rules statement }
     ensures query { TellOpen rules query }
     ensures dml { TellOpen rules dml }
     ensures ddl { TellOpen rules ddl }
+{}
+
+/// From each place to the next one, the constructs that the grammar has open gain the token there
+/// where `opens` holds of it or it is a FOR that begins a loop, lose the innermost at `)` and END,
+/// and stay as they were at any other token.
+pub fn steps_of_constructs()
+    ensures statement { GoBySteps rules statement }
+    ensures query { GoBySteps rules query }
+    ensures dml { GoBySteps rules dml }
+    ensures ddl { GoBySteps rules ddl }
+{}
+
+/// How many constructs a beginning has open at once is told by the tokens alone.
+pub fn counted_constructs()
+    ensures statement { CountOpen rules statement }
+    ensures query { CountOpen rules query }
+    ensures dml { CountOpen rules dml }
+    ensures ddl { CountOpen rules ddl }
 {}

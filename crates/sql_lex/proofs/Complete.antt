@@ -1,5 +1,6 @@
 -- A token or a piece that stands at the head of some bytes is what is read there.
-use Rattle.std.proofs.Common.{ℕ, ◌≡◌, ◌+◌, ◌<◌, ◌≤◌, Bool, true, false, not, ◌&&◌, ◌||◌, List, [], ◌∷◌, ◌++◌, length, take, drop, refl, sym, ap, ◌∙◌, arith, append_assoc, nat_eq, nat_le, length-append, pos}
+use Rattle.std.proofs.Common.{ℕ, ◌≡◌, ◌+◌, ◌<◌, ◌≤◌, true, false, not, ◌&&◌, List, [], ◌∷◌, ◌++◌, length, take, drop, refl, sym, ap, ◌∙◌, arith, append_assoc, nat_eq, nat_le, length-append, pos}
+use Rattle.std.proofs.lemmas.Bool.{and_parts, or_parts, le-leb, leb-true, cond-true, cond-false}
 use Rattle.std.specs.Prelude.{Option, Some, None, if◌then◌else◌}
 use Rattle.std.proofs.Common.{inl, inr}
 use Rattle.std.specs.List.{list_all}
@@ -7,7 +8,7 @@ use Rattle.std.specs.Str.{chars, encode_utf8_all, all_scalars}
 use Rattle.std.proofs.lemmas.List.{take_at, drop_at}
 use Rattle.std.proofs.lemmas.Bool.Decides.{nat_tests}
 use Rattle.std.proofs.lemmas.Str.{chars-encodes, is_utf8-from_IsUtf8}
-use Rattle.sql_values.specs.Names.{is_letter, is_digit, is_name_part, begins_by, folded, most_characters, IsWordLike}
+use Rattle.sql_texts.specs.Names.{is_letter, is_digit, is_name_part, begins_by, folded, most_characters, IsWordLike}
 use Rattle.sql_lex.specs.declared.token.Lexeme.{Lexeme}
 use Rattle.sql_lex.specs.declared.token.Lexeme.TheVariants as lexeme
 use Rattle.sql_lex.specs.declared.step.Step.{Step}
@@ -18,7 +19,7 @@ use Rattle.sql_lex.specs.Signs.{sign_spelling, sign_goes_on}
 use Rattle.sql_lex.specs.Tokens.{is_blank, is_quote, is_line_feed, digits_value, doubled, most_number, most_text, has_close, IsLexeme, IsPiece}
 use Rattle.sql_lex.specs.Scan.{step_of, word_step, number_step, number_of, number_token, text_token, quoted_token, text_of, unquoted, lexeme_of, reserved, gap_of, plus, close_end}
 use Rattle.sql_lex.proofs.Words.{reserved-of, reserved-none}
-use Rattle.sql_lex.proofs.Spans.{both_left, both_right, prefix_len-whole, begins_by-weaker}
+use Rattle.sql_lex.proofs.Spans.{prefix_len-whole, begins_by-weaker}
 use Rattle.sql_lex.proofs.Texts.{unquoted-doubled, close_end-first}
 
 -- kinds of bytes exclude each other
@@ -34,20 +35,11 @@ digit_no_letter b h = grind (arith, nat_tests)
 pub digit_in_name : (b : ℕ) → is_digit b ≡ true → is_name_part b ≡ true
 digit_in_name b h = grind (arith, nat_tests)
 
-pub most_le : (n m : ℕ) → n ≤ m → nat_le n m ≡ true
-most_le n m h = grind (arith, nat_tests)
-
-if_true : (t : Bool) (x y : Step) → t ≡ true → (if t then x else y) ≡ x
-if_true t x y h = rw h refl
-
-if_false : (t : Bool) (x y : Step) → t ≡ false → (if t then x else y) ≡ y
-if_false t x y h = rw h refl
-
 at_letter : (b : ℕ) (bs : List ℕ) → is_letter b ≡ true → step_of (b ∷ bs) ≡ word_step (b ∷ bs)
-at_letter b bs h = if_false (is_blank b) _ _ (letter_no_blank b h) ∙ if_true (is_letter b) _ _ h
+at_letter b bs h = cond-false (is_blank b) _ _ (letter_no_blank b h) ∙ cond-true (is_letter b) _ _ h
 
 at_digit : (b : ℕ) (bs : List ℕ) → is_digit b ≡ true → step_of (b ∷ bs) ≡ number_step (b ∷ bs)
-at_digit b bs h = if_false (is_blank b) _ _ (digit_no_blank b h) ∙ if_false (is_letter b) _ _ (digit_no_letter b h) ∙ if_true (is_digit b) _ _ h
+at_digit b bs h = cond-false (is_blank b) _ _ (digit_no_blank b h) ∙ cond-false (is_letter b) _ _ (digit_no_letter b h) ∙ cond-true (is_digit b) _ _ h
 
 -- words
 word_at : (bytes rest : List ℕ) → list_all is_name_part bytes ≡ true → length bytes ≤ most_characters → begins_by is_name_part rest ≡ false → word_step (bytes ++ rest) ≡ step.Token (lexeme_of (reserved (folded bytes)) (folded bytes)) (length bytes)
@@ -55,23 +47,20 @@ word_at bytes rest parts short k =
     let s : List ℕ = bytes ++ rest in
     let Over : ℕ → Step = λ n. if nat_le n most_characters then step.Token (lexeme_of (reserved (folded (take n s))) (folded (take n s))) n else step.Bad in
     let Here : List ℕ → Step = λ word. step.Token (lexeme_of (reserved (folded word)) (folded word)) (length bytes) in
-    ap Over (prefix_len-whole is_name_part bytes rest parts k) ∙ if_true _ _ _ (most_le (length bytes) most_characters short) ∙ ap Here (take_at bytes rest (length bytes) refl)
-
-pub le_most : (n m : ℕ) → nat_le n m ≡ true → n ≤ m
-le_most n m h = grind (arith, nat_tests)
+    ap Over (prefix_len-whole is_name_part bytes rest parts k) ∙ cond-true _ _ _ (le-leb (length bytes) most_characters short) ∙ ap Here (take_at bytes rest (length bytes) refl)
 
 pub word_is_read : (bytes rest : List ℕ) → IsWordLike bytes → begins_by is_name_part rest ≡ false → step_of (bytes ++ rest) ≡ step.Token (lexeme_of (reserved (folded bytes)) (folded bytes)) (length bytes)
 word_is_read [] rest h k = cc
 word_is_read (b ∷ bs) rest h k =
-    let letter = both_left (is_letter b) (list_all is_name_part (b ∷ bs) && nat_le (length (b ∷ bs)) most_characters) h in
-    let others = both_right (is_letter b) (list_all is_name_part (b ∷ bs) && nat_le (length (b ∷ bs)) most_characters) h in
-    let parts = both_left (list_all is_name_part (b ∷ bs)) (nat_le (length (b ∷ bs)) most_characters) others in
-    let short = both_right (list_all is_name_part (b ∷ bs)) (nat_le (length (b ∷ bs)) most_characters) others in
-    at_letter b (bs ++ rest) letter ∙ word_at (b ∷ bs) rest parts (le_most (length (b ∷ bs)) most_characters short) k
+    let letter = (and_parts (is_letter b) (list_all is_name_part (b ∷ bs) && nat_le (length (b ∷ bs)) most_characters) h).0 in
+    let others = (and_parts (is_letter b) (list_all is_name_part (b ∷ bs) && nat_le (length (b ∷ bs)) most_characters) h).1 in
+    let parts = (and_parts (list_all is_name_part (b ∷ bs)) (nat_le (length (b ∷ bs)) most_characters) others).0 in
+    let short = (and_parts (list_all is_name_part (b ∷ bs)) (nat_le (length (b ∷ bs)) most_characters) others).1 in
+    at_letter b (bs ++ rest) letter ∙ word_at (b ∷ bs) rest parts (leb-true (length (b ∷ bs)) most_characters short) k
 
 -- numbers
 number_of-small : (digits : List ℕ) → digits_value digits ≤ most_number → number_of digits ≡ Some (pos (digits_value digits))
-number_of-small digits h = let small = most_le (digits_value digits) most_number h in rw small refl
+number_of-small digits h = let small = le-leb (digits_value digits) most_number h in rw small refl
 
 number_at : (bytes rest : List ℕ) → list_all is_digit bytes ≡ true → digits_value bytes ≤ most_number → begins_by is_name_part rest ≡ false → number_step (bytes ++ rest) ≡ step.Token (lexeme.Number (pos (digits_value bytes))) (length bytes)
 number_at bytes rest digits small k =
@@ -79,18 +68,18 @@ number_at bytes rest digits small k =
     let Over : ℕ → Step = λ n. if begins_by is_name_part (drop n s) then step.Bad else number_token (number_of (take n s)) n in
     let no_digit = begins_by-weaker is_name_part is_digit digit_in_name rest k in
     let unfollowed : begins_by is_name_part (drop (length bytes) s) ≡ false = ap (begins_by is_name_part) (drop_at bytes rest (length bytes) refl) ∙ k in
-    ap Over (prefix_len-whole is_digit bytes rest digits no_digit) ∙ if_false _ _ _ unfollowed ∙ ap (λ (word : List ℕ). number_token (number_of word) (length bytes)) (take_at bytes rest (length bytes) refl) ∙ ap (λ o. number_token o (length bytes)) (number_of-small bytes small)
+    ap Over (prefix_len-whole is_digit bytes rest digits no_digit) ∙ cond-false _ _ _ unfollowed ∙ ap (λ (word : List ℕ). number_token (number_of word) (length bytes)) (take_at bytes rest (length bytes) refl) ∙ ap (λ o. number_token o (length bytes)) (number_of-small bytes small)
 
 number_is_read : (bytes rest : List ℕ) → 0 < length bytes → list_all is_digit bytes ≡ true → digits_value bytes ≤ most_number → begins_by is_name_part rest ≡ false → step_of (bytes ++ rest) ≡ step.Token (lexeme.Number (pos (digits_value bytes))) (length bytes)
 number_is_read [] rest h digits small k = absurd (omega arith)
-number_is_read (b ∷ bs) rest h digits small k = at_digit b (bs ++ rest) (both_left (is_digit b) (list_all is_digit bs) digits) ∙ number_at (b ∷ bs) rest digits small k
+number_is_read (b ∷ bs) rest h digits small k = at_digit b (bs ++ rest) (and_parts (is_digit b) (list_all is_digit bs) digits).0 ∙ number_at (b ∷ bs) rest digits small k
 
 -- texts
 text_of-encoded : (text : List ℕ) → all_scalars text ≡ true → length text ≤ most_text → text_of (encode_utf8_all text) ≡ Some text
 text_of-encoded text scalar short =
     let same = chars-encodes text scalar in
     let utf8 = is_utf8-from_IsUtf8 (encode_utf8_all text) (text, (scalar, refl)) in
-    let small : nat_le (length text) most_text ≡ true = most_le (length text) most_text short in
+    let small : nat_le (length text) most_text ≡ true = le-leb (length text) most_text short in
     let Within : List ℕ → Option (List ℕ) = λ cs. if nat_le (length cs) most_text then Some cs else None in
     ap (λ t. if t then Within (chars (encode_utf8_all text)) else None) utf8 ∙ ap Within same ∙ ap (λ t. if t then Some text else None) small
 
@@ -102,16 +91,8 @@ text_is_read text rest scalar short k =
     ap (λ (l : List ℕ). quoted_token (unquoted l)) body ∙ ap quoted_token (unquoted-doubled raw rest k) ∙ ap (λ o. text_token o (1 + (length (doubled raw) + 1))) (text_of-encoded text scalar short) ∙ ap (λ (n : ℕ). step.Token (lexeme.Text text) n) width
 
 -- signs
-pub or_left : (a b : Bool) → (a || b) ≡ false → a ≡ false
-or_left true b h = h
-or_left false b h = refl
-
-pub or_right : (a b : Bool) → (a || b) ≡ false → b ≡ false
-or_right true b h = cc
-or_right false b h = h
-
 sign_is_read : (g : Sign) (rest : List ℕ) → begins_by (sign_goes_on g) rest ≡ false → step_of (sign_spelling g ++ rest) ≡ step.Token (lexeme.Sign g) (length (sign_spelling g))
-sign_is_read sign.LessThan (c ∷ cs) h = let e = or_left (nat_eq c 61) (nat_eq c 62) h in let f = or_right (nat_eq c 61) (nat_eq c 62) h in rw (e, f) refl
+sign_is_read sign.LessThan (c ∷ cs) h = let e = (or_parts (nat_eq c 61) (nat_eq c 62) h).0 in let f = (or_parts (nat_eq c 61) (nat_eq c 62) h).1 in rw (e, f) refl
 sign_is_read sign.GreaterThan (c ∷ cs) h = rw h refl
 sign_is_read sign.Minus (c ∷ cs) h = rw h refl
 sign_is_read sign.Solidus (c ∷ cs) h = rw h refl

@@ -8,3 +8,4 @@ pub mod Spacing
 pub mod Spans
 pub mod Texts
 pub mod Words
+pub mod Laws

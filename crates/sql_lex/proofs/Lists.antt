@@ -10,7 +10,7 @@ use Rattle.sql_lex.specs.declared.step.Step.TheVariants as step
 use Rattle.sql_lex.specs.declared.sign.Sign.{Sign}
 use Rattle.sql_lex.specs.declared.sign.Sign.TheVariants as sign
 use Rattle.sql_lex.specs.declared.position.Position.{Position}
-use Rattle.sql_lex.specs.Places.{origin, past, behind}
+use Rattle.sql_lex.specs.Places.{origin, past, moved}
 use Rattle.sql_lex.specs.Signs.{sign_spelling}
 use Rattle.sql_lex.specs.Tokens.{IsLexeme, IsPiece, ArePieces, BeginsNothing, token_at, AreTokens, Lexing, IsTokens}
 use Rattle.sql_lex.specs.Scan.{step_of}
@@ -19,7 +19,7 @@ use Rattle.sql_lex.proofs.Sound.{Stands, step_stands}
 
 pub past-append : (a b : List ℕ) (p : Position) → past (a ++ b) p ≡ past b (past a p)
 past-append [] b p = refl
-past-append (x ∷ xs) b p = past-append xs b (behind x p)
+past-append (x ∷ xs) b p = past-append xs b (moved x p)
 
 -- no piece and no token is empty
 pub piece_long : (bytes rest : List ℕ) → IsPiece bytes rest → 0 < length bytes

@@ -1,21 +1,21 @@
 -- One step of each scanning loop.
 use Rattle.std.proofs.Common.{ℕ, zero, suc, ◌≡◌, ◌+◌, ◌-◌, ◌*◌, ◌/◌, ◌<◌, ◌≤◌, Bool, true, false, ◌&&◌, not, List, [], ◌∷◌, ◌++◌, length, take, drop, get_or, refl, sym, ap, ◌∙◌, subst, arith, drop-cons, add-one, add-zero, append_assoc, nat_eq, nat_le, nat_lt, length-drop, get_or-drop, append-nil, length-append}
+use Rattle.std.proofs.lemmas.Bool.{and_parts, le-leb}
 use Rattle.std.specs.Prelude.{Option, Some, None, pos, if◌then◌else◌}
 use Rattle.std.specs.List.{fold, list_all, prefix_len, find}
 use Rattle.std.proofs.lemmas.Slice.{between_to_end}
 use Rattle.std.proofs.lemmas.List.{drop_all, drop-drop}
 use Rattle.std.proofs.lemmas.Bool.Decides.{nat_tests}
-use Rattle.sql_values.specs.Names.{is_digit, is_letter, is_name_part, begins_by, most_characters, IsWordLike}
+use Rattle.sql_texts.specs.Names.{is_digit, is_letter, is_name_part, begins_by, most_characters, IsWordLike}
 use Rattle.sql_lex.specs.declared.word.Word.{Word}
 use Rattle.sql_lex.specs.declared.position.Position.{Position}
-use Rattle.sql_lex.specs.Places.{past, behind}
+use Rattle.sql_lex.specs.Places.{past, moved}
 use Rattle.sql_lex.specs.Tokens.{is_quote, digits_value, doubled, most_number}
 use Rattle.sql_lex.specs.Scan.{begins_with, close_end, plus, unquoted, with_front, width_in_text, number_of, IsUnquoted, text_of, text_within}
 use Rattle.std.specs.Str.{IsUtf8, is_utf8, chars}
 use Rattle.std.proofs.lemmas.Str.{IsUtf8-from_is_utf8, is_utf8-from_IsUtf8}
-use Rattle.sql_lex.proofs.Complete.{most_le}
 use Rattle.sql_lex.proofs.Sound.{front_is_word}
-use Rattle.sql_lex.proofs.Spans.{both_left, both_right, list_all-prefix}
+use Rattle.sql_lex.proofs.Spans.{list_all-prefix}
 use Rattle.sql_lex.proofs.Texts.{IsClosed-close_end, IsQuoted-unquoted}
 
 -- what is left from a place on
@@ -52,7 +52,7 @@ pub close_end-ends : (s : List ℕ) (i : ℕ) → length s ≤ i → close_end s
 close_end-ends s i h e = e ∙ ap (λ (l : List ℕ). plus i (close_end l)) (drop_all i s h)
 
 -- places
-pub past-goes : (s : List ℕ) (i : ℕ) (p : Position) → i < length s → past (drop i s) p ≡ past (drop (i + 1) s) (behind (get_or s i 0) p)
+pub past-goes : (s : List ℕ) (i : ℕ) (p : Position) → i < length s → past (drop i s) p ≡ past (drop (i + 1) s) (moved (get_or s i 0) p)
 past-goes s i p h = ap (λ (l : List ℕ). past l p) (left s i h)
 
 -- numbers
@@ -90,8 +90,8 @@ digit_most b h = grind (arith, nat_tests)
 
 pub each_digit_most : (s : List ℕ) (i : ℕ) → list_all is_digit s ≡ true → get_or s i 0 ≤ 57
 each_digit_most [] i h = omega arith
-each_digit_most (b ∷ bs) zero h = digit_most b (both_left _ _ h)
-each_digit_most (b ∷ bs) (suc i) h = each_digit_most bs i (both_right _ _ h)
+each_digit_most (b ∷ bs) zero h = digit_most b (and_parts _ _ h).0
+each_digit_most (b ∷ bs) (suc i) h = each_digit_most bs i (and_parts _ _ h).1
 
 -- texts
 begins_long : (b c x y : ℕ) (ys : List ℕ) → begins_with b c (x ∷ (y ∷ ys)) ≡ (nat_lt 1 (length (x ∷ (y ∷ ys))) && (nat_eq x b && nat_eq y c))
@@ -189,7 +189,7 @@ pub front_is_word_like : (s : List ℕ) (n : ℕ) → begins_by is_letter s ≡ 
 front_is_word_like [] n h e m = cc
 front_is_word_like (b ∷ bs) n h e m =
     let Like : ℕ → Type 0 = λ k. IsWordLike (take k (b ∷ bs)) in
-    let short : nat_le (prefix_len is_name_part (b ∷ bs)) most_characters ≡ true = most_le (prefix_len is_name_part (b ∷ bs)) most_characters (omega arith) in
+    let short : nat_le (prefix_len is_name_part (b ∷ bs)) most_characters ≡ true = le-leb (prefix_len is_name_part (b ∷ bs)) most_characters (omega arith) in
     subst Like (sym e) (front_is_word b bs h short)
 
 pub front_is_digits : (s : List ℕ) (n : ℕ) → n ≡ prefix_len is_digit s → list_all is_digit (take n s) ≡ true

@@ -1,12 +1,13 @@
 -- What is read at the head of some bytes stands there.
-use Rattle.std.proofs.Common.{ℕ, ◌≡◌, ◌+◌, ◌<◌, Bool, true, false, not, ◌&&◌, ◌||◌, List, [], ◌∷◌, ◌++◌, length, take, drop, refl, sym, ap, ◌∙◌, subst, arith, append_assoc, nat_eq, nat_le, length-append, inl, inr, eqb-true}
+use Rattle.std.proofs.Common.{ℕ, ◌≡◌, ◌+◌, ◌<◌, Bool, true, false, not, ◌&&◌, List, [], ◌∷◌, ◌++◌, length, take, drop, refl, sym, ap, ◌∙◌, subst, arith, append_assoc, nat_eq, nat_le, length-append, inl, inr, eqb-true}
+use Rattle.std.proofs.lemmas.Bool.{and_parts, and_from, and_right, or_from, leb-true}
 use Rattle.std.specs.Prelude.{Option, Some, None, if◌then◌else◌}
 use Rattle.std.specs.List.{list_all, prefix_len}
 use Rattle.std.specs.Str.{is_utf8, chars, encode_utf8_all, all_scalars}
 use Rattle.std.proofs.lemmas.List.{take-append-drop}
 use Rattle.std.proofs.lemmas.Bool.Decides.{nat_tests}
 use Rattle.std.proofs.lemmas.Str.{chars-encodes, IsUtf8-from_is_utf8}
-use Rattle.sql_values.specs.Names.{is_letter, is_digit, is_name_part, begins_by, folded, most_characters, IsWordLike}
+use Rattle.sql_texts.specs.Names.{is_letter, is_digit, is_name_part, begins_by, folded, most_characters, IsWordLike}
 use Rattle.sql_lex.specs.declared.token.Lexeme.{Lexeme}
 use Rattle.sql_lex.specs.declared.token.Lexeme.TheVariants as lexeme
 use Rattle.sql_lex.specs.declared.step.Step.{Step}
@@ -17,9 +18,8 @@ use Rattle.sql_lex.specs.Signs.{sign_spelling, sign_goes_on}
 use Rattle.sql_lex.specs.Tokens.{is_blank, is_quote, is_line_feed, digits_value, doubled, most_number, most_text, IsLexeme, IsPiece}
 use Rattle.sql_lex.specs.Scan.{step_of, word_step, number_step, number_token, text_step, text_token, quoted_token, text_of, unquoted, lexeme_of, reserved, begins_with, block_step, gap_of, plus, close_end, line_step, sign_step, long_sign, short_sign, sign_token}
 use Rattle.sql_lex.proofs.Words.{not_reserved, spelling-reserved}
-use Rattle.sql_lex.proofs.Spans.{both, both_left, both_right, list_all-prefix, begins_by-prefix, length-prefix, prefix_len-pos, begins_by-front}
+use Rattle.sql_lex.proofs.Spans.{list_all-prefix, begins_by-prefix, length-prefix, prefix_len-pos, begins_by-front}
 use Rattle.sql_lex.proofs.Texts.{IsQuoted, IsQuoted-unquoted, IsClosed-close_end}
-use Rattle.sql_lex.proofs.Complete.{le_most}
 
 -- what a step says of the bytes
 pub record HasPiece (s : List ℕ) (width : ℕ) : Type 0 where
@@ -56,8 +56,8 @@ front_is_word b bs letter short =
     let n : ℕ = prefix_len is_name_part s in
     let begins = begins_by-front is_letter b bs n (prefix_len-pos is_name_part b bs (letter_in_name b letter)) ∙ letter in
     let small : nat_le (length (take n s)) most_characters ≡ true = ap (λ k. nat_le k most_characters) (length-prefix is_name_part s) ∙ short in
-    both (begins_by is_letter (take n s)) (list_all is_name_part (take n s) && nat_le (length (take n s)) most_characters) begins
-    (both (list_all is_name_part (take n s)) (nat_le (length (take n s)) most_characters) (list_all-prefix is_name_part s) small)
+    and_from (begins_by is_letter (take n s)) (list_all is_name_part (take n s) && nat_le (length (take n s)) most_characters) begins
+    (and_from (list_all is_name_part (take n s)) (nat_le (length (take n s)) most_characters) (list_all-prefix is_name_part s) small)
 
 word_stands : (b : ℕ) (bs : List ℕ) → is_letter b ≡ true → Stands (word_step (b ∷ bs)) (b ∷ bs)
 word_stands b bs letter =
@@ -91,7 +91,7 @@ number_stands b bs digit =
       rest = drop n s;
       parts = sym (take-append-drop n s);
       width_is = sym (length-prefix is_digit s);
-      lexeme = ((long, list_all-prefix is_digit s, le_most (digits_value (take n s)) most_number small, refl), ends);
+      lexeme = ((long, list_all-prefix is_digit s, leb-true (digits_value (take n s)) most_number small, refl), ends);
     })
     (λ _. tt))
 
@@ -102,7 +102,7 @@ text_of_stands s raw width q =
     choose P (is_utf8 raw) _ _
     (λ test. choose P (nat_le (length (chars raw)) most_text) _ _ (λ small.
     let utf8 = IsUtf8-from_is_utf8 raw test in
-    let short = le_most (length (chars raw)) most_text small in
+    let short = leb-true (length (chars raw)) most_text small in
     let same : chars raw ≡ utf8.0 = ap chars (sym utf8.1.1) ∙ chars-encodes utf8.0 utf8.1.0 in
     let scalar : all_scalars (chars raw) ≡ true = ap all_scalars same ∙ utf8.1.0 in
     let back : encode_utf8_all (chars raw) ≡ raw = ap encode_utf8_all same ∙ utf8.1.1 in
@@ -156,8 +156,8 @@ at_pair : (P : List ℕ → Type 0) (b c : ℕ) (s : List ℕ) → begins_with b
 at_pair P b c [] h f = cc
 at_pair P b c (x ∷ []) h f = cc
 at_pair P b c (x ∷ (y ∷ ys)) h f =
-    let e = eqb-true x b (both_left (nat_eq x b) (nat_eq y c) h) in
-    let g = eqb-true y c (both_right (nat_eq x b) (nat_eq y c) h) in
+    let e = eqb-true x b (and_parts (nat_eq x b) (nat_eq y c) h).0 in
+    let g = eqb-true y c (and_parts (nat_eq x b) (nat_eq y c) h).1 in
     subst P (sym (λ i. e i ∷ (g i ∷ ys))) (f ys)
 
 -- signs
@@ -171,8 +171,8 @@ one_sign g code b rest spelled e ends =
 
 two_sign : (g : Sign) (code second b c : ℕ) (rest : List ℕ) → code ∷ (second ∷ []) ≡ sign_spelling g → (nat_eq b code && nat_eq c second) ≡ true → begins_by (sign_goes_on g) rest ≡ false → Stands (step.Token (lexeme.Sign g) 2) (b ∷ (c ∷ rest))
 two_sign g code second b c rest spelled e ends =
-    let e1 = eqb-true b code (both_left (nat_eq b code) (nat_eq c second) e) in
-    let e2 = eqb-true c second (both_right (nat_eq b code) (nat_eq c second) e) in
+    let e1 = eqb-true b code (and_parts (nat_eq b code) (nat_eq c second) e).0 in
+    let e2 = eqb-true c second (and_parts (nat_eq b code) (nat_eq c second) e).1 in
     record { bytes = code ∷ (second ∷ []); rest = rest; parts = λ i. e1 i ∷ (e2 i ∷ rest); width_is = refl; lexeme = (spelled, ends) }
 
 short_stands : (b : ℕ) (rest : List ℕ) → (nat_eq b 60 ≡ true → begins_by (sign_goes_on sign.LessThan) rest ≡ false) → (nat_eq b 62 ≡ true → begins_by (sign_goes_on sign.GreaterThan) rest ≡ false) → (nat_eq b 45 ≡ true → begins_by (sign_goes_on sign.Minus) rest ≡ false) → (nat_eq b 47 ≡ true → begins_by (sign_goes_on sign.Solidus) rest ≡ false) → Stands (sign_token (short_sign b) 1 step.Bad) (b ∷ rest)
@@ -198,15 +198,8 @@ second_is_not : (t u : Bool) → (t && u) ≡ false → t ≡ true → u ≡ fal
 second_is_not true u h e = h
 second_is_not false u h e = cc
 
-neither : (a b : Bool) → a ≡ false → b ≡ false → (a || b) ≡ false
-neither a b h k = cc
-
-and_false : (t : Bool) → (t && false) ≡ false
-and_false true = refl
-and_false false = refl
-
 no_second : (b : ℕ) → long_sign b 0 ≡ None
-no_second b = let e = and_false (nat_eq b 60) in let f = and_false (nat_eq b 62) in let g = and_false (nat_eq b 124) in simp (e, f, g)
+no_second b = let e = and_right (nat_eq b 60) false refl in let f = and_right (nat_eq b 62) false refl in let g = and_right (nat_eq b 124) false refl in simp (e, f, g)
 
 sign_stands : (s : List ℕ) → begins_with 45 45 s ≡ false → begins_with 47 42 s ≡ false → Stands (sign_step s) s
 sign_stands [] h k = tt
@@ -221,7 +214,7 @@ sign_stands (b ∷ (c ∷ cs)) h k =
     (λ no_ge. choose P (nat_eq b 124 && nat_eq c 124) _ _ (λ e. two_sign sign.Concatenation 124 124 b c cs refl e (never cs))
     (λ _.
     short_stands b (c ∷ cs)
-    (λ e. neither (nat_eq c 61) (nat_eq c 62) (second_is_not _ _ no_le e) (second_is_not _ _ no_ne e))
+    (λ e. or_from (nat_eq c 61) (nat_eq c 62) (second_is_not _ _ no_le e) (second_is_not _ _ no_ne e))
     (λ e. second_is_not _ _ no_ge e)
     (λ e. second_is_not _ _ h e)
     (λ e. second_is_not _ _ k e)))))

@@ -4,16 +4,16 @@ use Rattle.sql_lex.specs.declared.token.Lexeme.{Lexeme}
 use Rattle.sql_lex.specs.declared.token.Lexeme.TheVariants as lexeme
 use Rattle.sql_lex.specs.declared.token.Token.{Token}
 use Rattle.sql_lex.specs.declared.position.Position.{Position}
-use Rattle.sql_lex.specs.Places.{past, behind}
+use Rattle.sql_lex.specs.Places.{past, moved}
 use Rattle.sql_lex.specs.Tokens.{IsLexeme, AreTokens, AreSpans}
 use Rattle.sql_lex.proofs.Lists.{token_long, Others}
 
-behind-at : (b : ℕ) (p : Position) → (behind b p).at ≡ p.at + 1
-behind-at b p = grind (arith)
+moved-at : (b : ℕ) (p : Position) → (moved b p).at ≡ p.at + 1
+moved-at b p = grind (arith)
 
 past-at : (bytes : List ℕ) (p : Position) → (past bytes p).at ≡ p.at + length bytes
 past-at [] p = omega arith
-past-at (b ∷ bs) p = omega (arith, past-at bs (behind b p), behind-at b p)
+past-at (b ∷ bs) p = omega (arith, past-at bs (moved b p), moved-at b p)
 
 only_last : (t : Token) (ts : List Token) (number : ℕ) (p : Position) (head rest : List ℕ) → Others t ts number p head rest → t.lexeme ≡ lexeme.Bad → ts ≡ []
 only_last t ts number p head rest (inl h) e = let Is : Lexeme → Type 0 = λ l. IsLexeme l head rest in absurd (subst Is e h.0).0

@@ -1,20 +1,10 @@
 -- The longest front of some bytes whose bytes pass a test.
-use Rattle.std.proofs.Common.{ℕ, zero, suc, ◌≡◌, ◌<◌, Bool, true, false, ◌&&◌, List, [], ◌∷◌, ◌++◌, length, take, drop, refl, sym, ap, ◌∙◌, subst, arith, one-add}
+use Rattle.std.proofs.Common.{ℕ, zero, suc, ◌≡◌, ◌<◌, Bool, true, false, List, [], ◌∷◌, ◌++◌, length, take, drop, refl, sym, ap, ◌∙◌, subst, arith, one-add}
+use Rattle.std.proofs.lemmas.Bool.{and_parts, and_from}
 use Rattle.std.specs.List.{list_all, prefix_len}
 use Rattle.std.proofs.lemmas.List.{length-take-le}
 use Rattle.std.proofs.lemmas.List.Sums.{prefix_len-le-length}
-use Rattle.sql_values.specs.Names.{begins_by}
-
-pub both_left : (a b : Bool) → (a && b) ≡ true → a ≡ true
-both_left true b h = refl
-both_left false b h = h
-
-pub both_right : (a b : Bool) → (a && b) ≡ true → b ≡ true
-both_right true b h = h
-both_right false b h = cc
-
-pub both : (a b : Bool) → a ≡ true → b ≡ true → (a && b) ≡ true
-both a b h k = cc
+use Rattle.sql_texts.specs.Names.{begins_by}
 
 module _ (p : ℕ → Bool) where
   -- bytes that pass, before one that does not
@@ -22,8 +12,8 @@ module _ (p : ℕ → Bool) where
   prefix_len-whole [] [] h k = refl
   prefix_len-whole [] (c ∷ cs) h k = rw k refl
   prefix_len-whole (b ∷ bs) rest h k =
-      let here = both_left (p b) (list_all p bs) h in
-      rw here (one-add (prefix_len p (bs ++ rest)) ∙ ap suc (prefix_len-whole bs rest (both_right (p b) (list_all p bs) h) k))
+      let here = (and_parts (p b) (list_all p bs) h).0 in
+      rw here (one-add (prefix_len p (bs ++ rest)) ∙ ap suc (prefix_len-whole bs rest (and_parts (p b) (list_all p bs) h).1 k))
 
   prefix_yes : (b : ℕ) (bs : List ℕ) → p b ≡ true → prefix_len p (b ∷ bs) ≡ suc (prefix_len p bs)
   prefix_yes b bs e = rw e (one-add (prefix_len p bs))
@@ -36,7 +26,7 @@ module _ (p : ℕ → Bool) where
   list_all-prefix (b ∷ bs) =
       let Goal : ℕ → Type 0 = λ n. list_all p (take n (b ∷ bs)) ≡ true in
       elim (p b) as (λ t. p b ≡ t → Goal (prefix_len p (b ∷ bs))) [
-        | true ↦ λ e. subst Goal (sym (prefix_yes b bs e)) (both (p b) (list_all p (take (prefix_len p bs) bs)) e (list_all-prefix bs))
+        | true ↦ λ e. subst Goal (sym (prefix_yes b bs e)) (and_from (p b) (list_all p (take (prefix_len p bs) bs)) e (list_all-prefix bs))
         | false ↦ λ e. subst Goal (sym (prefix_no b bs e)) refl
       ] refl
 

@@ -1,10 +1,10 @@
 -- Texts in quotes, and comments from `/*` to `*/`.
-use Rattle.std.proofs.Common.{ℕ, ◌≡◌, ◌+◌, Bool, true, false, ◌&&◌, ◌||◌, List, [], ◌∷◌, ◌++◌, length, refl, sym, ap, ◌∙◌, subst, arith, nat_eq, eqb-true}
+use Rattle.std.proofs.Common.{ℕ, ◌≡◌, ◌+◌, Bool, true, false, ◌&&◌, List, [], ◌∷◌, ◌++◌, length, refl, sym, ap, ◌∙◌, subst, arith, nat_eq, eqb-true}
+use Rattle.std.proofs.lemmas.Bool.{and_parts, or_parts, or_from}
 use Rattle.std.specs.Prelude.{Option, Some, None}
-use Rattle.sql_values.specs.Names.{begins_by}
+use Rattle.sql_texts.specs.Names.{begins_by}
 use Rattle.sql_lex.specs.Tokens.{is_quote, doubled, has_close}
 use Rattle.sql_lex.specs.Scan.{unquoted, with_front, close_end, plus, begins_with}
-use Rattle.sql_lex.proofs.Spans.{both_left, both_right}
 
 abbrev Read : Type 0
 Read = Option (List ℕ × ℕ)
@@ -119,9 +119,6 @@ close_later b bs h = rw h refl
 abbrev is_solidus : ℕ → Bool
 is_solidus c = nat_eq c 47
 
-neither : (a b : Bool) → a ≡ false → b ≡ false → (a || b) ≡ false
-neither a b h k = cc
-
 -- whether `*/` begins with a byte that stands before others
 close_here : (b : ℕ) (bs : List ℕ) → begins_with 42 47 (b ∷ bs) ≡ (nat_eq b 42 && begins_by (λ c. nat_eq c 47) bs)
 close_here b [] = elim (nat_eq b 42) as (λ t. false ≡ (t && false)) [ true ↦ refl | false ↦ refl ]
@@ -131,19 +128,11 @@ begins_by-front : (p : ℕ → Bool) (body : List ℕ) (b : ℕ) (rest : List �
 begins_by-front p [] b rest = refl
 begins_by-front p (c ∷ cs) b rest = refl
 
-or_left : (a b : Bool) → (a || b) ≡ false → a ≡ false
-or_left true b h = h
-or_left false b h = refl
-
-or_right : (a b : Bool) → (a || b) ≡ false → b ≡ false
-or_right true b h = cc
-or_right false b h = h
-
 pub close_end-first : (body rest : List ℕ) → has_close (body ++ 42 ∷ []) ≡ false → close_end (body ++ (42 ∷ (47 ∷ rest))) ≡ Some (length body + 2)
 close_end-first [] rest h = refl
 close_end-first (b ∷ bs) rest h =
-    let none = or_left (nat_eq b 42 && begins_by is_solidus (bs ++ 42 ∷ [])) (has_close (bs ++ 42 ∷ [])) h in
-    let later = or_right (nat_eq b 42 && begins_by is_solidus (bs ++ 42 ∷ [])) (has_close (bs ++ 42 ∷ [])) h in
+    let none = (or_parts (nat_eq b 42 && begins_by is_solidus (bs ++ 42 ∷ [])) (has_close (bs ++ 42 ∷ [])) h).0 in
+    let later = (or_parts (nat_eq b 42 && begins_by is_solidus (bs ++ 42 ∷ [])) (has_close (bs ++ 42 ∷ [])) h).1 in
     let unlike = close_here b (bs ++ (42 ∷ (47 ∷ rest))) ∙ ap (λ t. nat_eq b 42 && t) (begins_by-front is_solidus bs 42 (47 ∷ rest)) ∙ none in
     let n : 1 + (length bs + 2) ≡ length (b ∷ bs) + 2 = omega arith in
     close_later b (bs ++ (42 ∷ (47 ∷ rest))) unlike ∙ ap (plus 1) (close_end-first bs rest later) ∙ ap (λ (n : ℕ). Some n) n
@@ -158,8 +147,8 @@ pub record IsClosed (s : List ℕ) (width : ℕ) : Type 0 where
 closed_here : (b : ℕ) (bs : List ℕ) → begins_with 42 47 (b ∷ bs) ≡ true → IsClosed (b ∷ bs) 2
 closed_here b [] h = cc
 closed_here b (c ∷ cs) h =
-    let e = eqb-true b 42 (both_left (nat_eq b 42) (nat_eq c 47) h) in
-    let f = eqb-true c 47 (both_right (nat_eq b 42) (nat_eq c 47) h) in
+    let e = eqb-true b 42 (and_parts (nat_eq b 42) (nat_eq c 47) h).0 in
+    let f = eqb-true c 47 (and_parts (nat_eq b 42) (nat_eq c 47) h).1 in
     record { body = []; rest = cs; parts = λ i. e i ∷ (f i ∷ cs); width_is = refl; first = refl }
 
 closed_later : (b : ℕ) (bs : List ℕ) (n : ℕ) → begins_with 42 47 (b ∷ bs) ≡ false → IsClosed bs n → IsClosed (b ∷ bs) (1 + n)
@@ -171,7 +160,7 @@ closed_later b bs n h q =
       rest = q.rest;
       parts = ap (λ (l : List ℕ). b ∷ l) q.parts;
       width_is = omega (arith, q.width_is);
-      first = neither (nat_eq b 42 && begins_by is_solidus (q.body ++ 42 ∷ [])) (has_close (q.body ++ 42 ∷ [])) unlike q.first;
+      first = or_from (nat_eq b 42 && begins_by is_solidus (q.body ++ 42 ∷ [])) (has_close (q.body ++ 42 ∷ [])) unlike q.first;
     }
 
 pub IsClosed-close_end : (s : List ℕ) (width : ℕ) → close_end s ≡ Some width → IsClosed s width

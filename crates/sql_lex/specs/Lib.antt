@@ -4,3 +4,4 @@ pub mod Scan
 pub mod Signs
 pub mod Tokens
 pub mod Words
+pub mod Examples

@@ -6,13 +6,13 @@ use Rattle.sql_lex.specs.declared.position.Position.{Position}
 abbrev pub origin : Position
 origin = record { at = 0; line = 1; column = 1 }
 
--- the place right behind a byte that stands at a place: a LF ends its line
-abbrev pub behind : ℕ → Position → Position
-behind b p =
+-- the place right after a byte that stands at a place: a LF ends its line
+abbrev pub moved : ℕ → Position → Position
+moved b p =
     if nat_eq b 10 then record { at = p.at + 1; line = p.line + 1; column = 1 }
     else record { at = p.at + 1; line = p.line; column = p.column + 1 }
 
--- the place right behind these bytes
+-- the place right after these bytes
 abbrev pub past : List ℕ → Position → Position
 past [] p = p
-past (b ∷ bs) p = past bs (behind b p)
+past (b ∷ bs) p = past bs (moved b p)

@@ -1,9 +1,9 @@
--- What stands at the head of some bytes, as one function of them: what the scanning functions give. What tokens are is said
--- in Tokens, and proofs/ shows that both agree.
+-- What stands at the head of some bytes, as one function of them: what the scanning functions give.
+-- What tokens are is said in Tokens, and proofs/ shows that both agree.
 use Rattle.std.specs.Prelude.{ℕ, ◌≡◌, ◌+◌, nat_eq, nat_le, pos, ℤ, not, ◌&&◌, Bool, false, if◌then◌else◌, Option, Some, None, List, [], ◌∷◌, ◌++◌, length, take, drop, slice_index}
 use Rattle.std.specs.List.{prefix_len, find}
 use Rattle.std.specs.Str.{bytes_eq, is_utf8, chars}
-use Rattle.sql_values.specs.Names.{is_letter, is_digit, is_name_part, begins_by, folded, most_characters}
+use Rattle.sql_texts.specs.Names.{is_letter, is_digit, is_name_part, begins_by, folded, most_characters}
 use Rattle.sql_lex.specs.declared.token.Lexeme.{Lexeme}
 use Rattle.sql_lex.specs.declared.token.Lexeme.TheVariants as lexeme
 use Rattle.sql_lex.specs.declared.step.Step.{Step}
@@ -77,7 +77,8 @@ number_step bytes =
     let width = prefix_len is_digit bytes in
     if begins_by is_name_part (drop width bytes) then step.Bad else number_token (number_of (take width bytes)) width
 
--- how many bytes the byte at the head of a text's rest takes; none at the quote that closes the text
+-- how many bytes the byte at the head of a text's rest takes; none at the quote that closes the
+-- text
 abbrev pub width_in_text : List ℕ → Option ℕ
 width_in_text bytes = if not (is_quote (slice_index bytes 0)) then Some 1 else if begins_with 39 39 bytes then Some 2 else None
 
@@ -86,7 +87,8 @@ abbrev pub with_front : List ℕ → ℕ → Option (List ℕ × ℕ) → Option
 with_front front width None = None
 with_front front width (Some r) = Some (front ++ r.0, width + r.1)
 
--- behind an opening quote: the bytes of the text, and how many bytes stand up to the closing quote and with it
+-- after an opening quote: the bytes of the text, and how many bytes stand up to the closing quote
+-- and with it
 abbrev pub unquoted : List ℕ → Option (List ℕ × ℕ)
 unquoted [] = None
 unquoted (b ∷ []) = if is_quote b then Some ([], 1) else None

@@ -23,7 +23,8 @@ sign_spelling sign.Asterisk = codes "*"
 sign_spelling sign.Solidus = codes "/"
 sign_spelling sign.Concatenation = codes "||"
 
--- whether a byte right behind goes on with a sign: to a longer sign, or to the beginning of a comment
+-- whether a byte right after goes on with a sign: to a longer sign, or to the beginning of a
+-- comment
 abbrev pub sign_goes_on : Sign → ℕ → Bool
 sign_goes_on sign.LessThan b = nat_eq b 61 || nat_eq b 62
 sign_goes_on sign.GreaterThan b = nat_eq b 61

@@ -1,9 +1,10 @@
--- The tokens of a script (ISO/IEC 9075-2, 5.2, with the profile's limits): what spells a token, what stands between
--- tokens, where a token ends, and which list of tokens a script has.
-use Rattle.std.specs.Prelude.{ℕ, ◌≡◌, ◌≤◌, ◌<◌, ◌+◌, ◌-◌, ◌*◌, ◌^◌, ◌⊎◌, ◌||◌, ◌&&◌, not, nat_eq, pos, Bool, true, false, if◌then◌else◌, List, [], ◌∷◌, ◌++◌, length}
+-- The tokens of a script (ISO/IEC 9075-2, 5.2, with the profile's limits): what spells a token,
+-- what stands between tokens, where a token ends, and which list of tokens a script has.
+use Rattle.std.specs.Prelude.{ℕ, ◌≡◌, ◌≤◌, ◌<◌, ◌+◌, ◌-◌, ◌*◌, ◌⊎◌, ◌||◌, ◌&&◌, not, nat_eq, pos, Bool, true, false, if◌then◌else◌, List, [], ◌∷◌, ◌++◌, length}
 use Rattle.std.specs.List.{list_all, fold, concat}
 use Rattle.std.specs.Str.{encode_utf8_all, all_scalars}
-use Rattle.sql_values.specs.Names.{is_digit, is_name_part, begins_by, folded, IsWordLike}
+use Rattle.sql_texts.specs.declared.TheConstants.{MOST_TEXT}
+use Rattle.sql_texts.specs.Names.{is_digit, is_name_part, begins_by, folded, IsWordLike}
 use Rattle.sql_lex.specs.declared.token.Lexeme.{Lexeme}
 use Rattle.sql_lex.specs.declared.token.Lexeme.TheVariants as lexeme
 use Rattle.sql_lex.specs.declared.token.Kind.{Kind}
@@ -11,6 +12,7 @@ use Rattle.sql_lex.specs.declared.token.Kind.TheVariants as kind
 use Rattle.sql_lex.specs.declared.token.Token.{Token}
 use Rattle.sql_lex.specs.declared.word.Word.{Word}
 use Rattle.sql_lex.specs.declared.position.Position.{Position}
+use Rattle.sql_lex.specs.declared.step.TheConstants.{MOST_NUMBER}
 use Rattle.sql_lex.specs.Words.{spelling}
 use Rattle.sql_lex.specs.Signs.{sign_spelling, sign_goes_on}
 use Rattle.sql_lex.specs.Places.{origin, past}
@@ -24,11 +26,13 @@ kind_of (lexeme.Text text) = kind.Text
 kind_of (lexeme.Sign sign) = kind.Sign sign
 kind_of lexeme.Bad = kind.Bad
 
+-- the greatest number that a script writes
 abbrev pub most_number : ℕ
-most_number = 2 ^ 63 - 1
+most_number = MOST_NUMBER
 
+-- the most characters of a text
 abbrev pub most_text : ℕ
-most_text = 4096
+most_text = MOST_TEXT
 
 abbrev pub is_quote : ℕ → Bool
 is_quote b = nat_eq b 39
@@ -58,8 +62,8 @@ Spells (lexeme.Text text) bytes = (all_scalars text ≡ true) × (length text �
 Spells (lexeme.Sign sign) bytes = bytes ≡ sign_spelling sign
 Spells lexeme.Bad bytes = ⊥
 
--- whether a byte right behind goes on with such a token: so a token is the longest that begins at its place, a name past
--- its limit is none, and a number is not followed at once by a letter or `_`
+-- whether a byte right after goes on with such a token: so a token is the longest that begins at
+-- its place, a name past its limit is none, and a number is not followed at once by a letter or `_`
 abbrev pub goes_on : Lexeme → ℕ → Bool
 goes_on (lexeme.Name name) b = is_name_part b
 goes_on (lexeme.Word word) b = is_name_part b
@@ -108,16 +112,16 @@ BeginsNothing bytes = (head rest : List ℕ) → bytes ≡ head ++ rest → (¬ 
 abbrev pub token_at : Lexeme → ℕ → Position → ℕ → Token
 token_at lexeme number p width = record { lexeme = lexeme; number = number; start = p.at; end = p.at + width; line = p.line; column = p.column }
 
--- the tokens of the bytes that stand at a place, the first of which has this number: a gap, a token, and so on, up to the
--- end or to a Bad token, which is one byte where nothing begins
+-- the tokens of the bytes that stand at a place, the first of which has this number: a gap, a
+-- token, and so on, up to the end or to a Bad token, which is one byte where nothing begins
 abbrev pub AreTokens : List Token → ℕ → Position → List ℕ → Type 0
 AreTokens [] number p bytes = IsGap bytes []
 AreTokens (token ∷ tokens) number p bytes =
     (gap head rest : List ℕ) × (bytes ≡ gap ++ (head ++ rest)) × IsGap gap (head ++ rest) × (token ≡ token_at token.lexeme number (past gap p) (length head))
     × ((IsLexeme token.lexeme head rest × AreTokens tokens (number + 1) (past head (past gap p)) rest) ⊎ ((token.lexeme ≡ lexeme.Bad) × (tokens ≡ []) × (length head ≡ 1) × BeginsNothing (head ++ rest)))
 
--- the tokens count up from a number, each stands where the one before ends or later, the first at a byte or later, none is
--- empty, and only the last may be Bad
+-- the tokens count up from a number, each stands where the one before ends or later, the first at a
+-- byte or later, none is empty, and only the last may be Bad
 abbrev pub AreSpans : ℕ → ℕ → List Token → Type 0
 AreSpans number at [] = Unit {0}
 AreSpans number at (token ∷ tokens) =

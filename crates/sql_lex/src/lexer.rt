@@ -5,7 +5,7 @@ ghost use Rattle.sql_lex.specs.Tokens.{IsTokens, token_at as the_token};
 
 use crate::step::{Step, next_step};
 use crate::{Lexeme, Position, Token, Tokens};
-use sql_values::NoMemory;
+use sql_texts::NoMemory;
 use std::alloc::Global;
 
 // The token of a lexeme with its number, its place and its length.

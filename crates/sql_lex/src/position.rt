@@ -1,7 +1,7 @@
 //! Places in a script, counted on byte by byte.
 
 ghost use Rattle.std.specs.Prelude.{◌≡◌, ◌+◌, ◌≤◌, ◌<◌, ◌^◌, length};
-ghost use Rattle.sql_lex.specs.Places.{origin, past, behind};
+ghost use Rattle.sql_lex.specs.Places.{origin, past, moved};
 
 /// A place in a script.
 #[derive(Clone, Copy, Debug, PartialEq, Eq)]
@@ -22,12 +22,12 @@ impl Position {
         column: 1,
     };
 
-    // The place right behind a byte that stands at this place.
-    fn behind(self, b: u8) -> Position
+    // The place right after a byte that stands at this place.
+    fn moved(self, b: u8) -> Position
         requires at { self.at < 2 ^ 63 }
         requires line { self.line < 2 ^ 63 }
         requires column { self.column < 2 ^ 63 }
-        ensures { result ≡ behind b self }
+        ensures { result ≡ moved b self }
     {
         if b == b'\n' {
             Position {
@@ -44,7 +44,7 @@ impl Position {
         }
     }
 
-    /// The place right behind bytes of which the first stands at this place.
+    /// The place right after bytes of which the first stands at this place.
     pub(crate) fn past(self, bytes: &[u8]) -> Position
         requires at { self.at + length bytes.now < 2 ^ 63 }
         requires line { self.line ≤ self.at + 1 }
@@ -56,7 +56,7 @@ impl Position {
     {
         let mut position = self;
         for b in bytes {
-            position = position.behind(*b);
+            position = position.moved(*b);
         }
         position
     }

@@ -3,20 +3,14 @@
 ghost use Rattle.std.specs.Prelude.{◌≡◌, ◌<◌, true, IfOk, length, not, string_bytes};
 ghost use Rattle.std.specs.List.{list_all, prefix_len};
 ghost use Rattle.std.specs.Str.{chars};
-ghost use Rattle.sql_values.specs.Names.{is_letter, is_digit, is_name_part as is_part_of_name, begins_by};
+ghost use Rattle.sql_texts.specs.Names.{is_letter, is_digit, is_name_part as is_part_of_name, begins_by};
 ghost use Rattle.sql_lex.specs.Tokens.{is_line_feed};
-ghost use Rattle.sql_lex.specs.Scan.{begins_with as begins_with_both, block_step, close_end as end_of_comment, line_step, long_sign as sign_of_two, number_of as number_of_digits, number_step, short_sign as sign_of_one, sign_step, step_of, text_of as text_of_bytes, text_step, text_token as step_over_text, text_within as text_within_limit, unquoted as text_behind, width_in_text as width_in_quotes, word_step, IsUnquoted};
+ghost use Rattle.sql_lex.specs.Scan.{begins_with as begins_with_both, block_step, close_end as end_of_comment, line_step, long_sign as sign_of_two, number_of as number_of_digits, number_step, short_sign as sign_of_one, sign_step, step_of, text_of as text_of_bytes, text_step, text_token as step_over_text, text_within as text_within_limit, unquoted as text_after, width_in_text as width_in_quotes, word_step, IsUnquoted};
 
 use crate::word::reserved;
 use crate::{Lexeme, Sign};
-use sql_values::{Name, NoMemory, Text};
+use sql_texts::{MOST_NAME, MOST_TEXT, Name, NoMemory, Text};
 use std::alloc::Global;
-
-// The most characters of a name.
-const MOST_NAME: usize = 128;
-
-// The most characters of a text.
-const MOST_TEXT: usize = 4096;
 
 // The greatest number that a script may write.
 const MOST_NUMBER: u64 = 0x7fff_ffff_ffff_ffff;
@@ -54,7 +48,7 @@ fn begins_with(bytes: &[u8], first: u8, second: u8) -> bool
     bytes.len() > 1 && bytes[0] == first && bytes[1] == second
 }
 
-// Whether a byte may stand behind a name's first letter.
+// Whether a byte may stand after a name's first letter.
 fn is_name_part(b: u8) -> bool
     ensures { result ≡ is_part_of_name b }
 {
@@ -121,8 +115,8 @@ fn number(bytes: &[u8]) -> Step
     }
 }
 
-// How many bytes the byte at the head of a text's rest takes: two, where it is a quote written twice. `None` at the quote
-// that closes the text.
+// How many bytes the byte at the head of a text's rest takes: two, where it is a quote written
+// twice. `None` at the quote that closes the text.
 fn width_in_text(bytes: &[u8]) -> Option<usize>
     requires { 0 < length bytes.now }
     ensures { result ≡ width_in_quotes bytes.now }
@@ -136,10 +130,10 @@ fn width_in_text(bytes: &[u8]) -> Option<usize>
     }
 }
 
-// The bytes of a text whose opening quote stands before, added to what is there, and how many bytes it took with its
-// closing quote; `None` where there is no such quote.
+// The bytes of a text whose opening quote stands before, added to what is there, and how many bytes
+// it took with its closing quote; `None` where there is no such quote.
 fn unquoted(bytes: &[u8], text: &mut Vec<u8>) -> Result<Option<usize>, NoMemory>
-    ensures { IfOk result (λ width. IsUnquoted (text_behind bytes.now) text.old.items text.new.items width) }
+    ensures { IfOk result (λ width. IsUnquoted (text_after bytes.now) text.old.items text.new.items width) }
 {
     let mut at = 0;
     while at < bytes.len() {

@@ -1,7 +1,7 @@
 //! Tokens.
 
 use crate::{Sign, Word};
-use sql_values::{Name, Text};
+use sql_texts::{Name, Text};
 
 /// What a token is, with what it spells.
 #[derive(Debug, Drop)]

@@ -7,7 +7,8 @@ ghost use Rattle.sql_lex.specs.Openings.{opens_at, place_at, is_opening_word, fo
 use crate::{Kind, Position, Sign, Token, Word};
 use std::marker::Model;
 
-/// The tokens of a script in their order, and the place of its end. Contracts see both as a `Lexing`.
+/// The tokens of a script in their order, and the place of its end. Contracts see both as a
+/// `Lexing`.
 #[derive(Debug, Drop)]
 pub struct Tokens {
     list: Vec<Token>,
@@ -38,8 +39,8 @@ impl Tokens {
         }
     }
 
-    /// A law of every such value: the tokens count up from 0, their spans are in order and not empty, and only the last may
-    /// be Bad.
+    /// A law of every such value: the tokens count up from 0, their spans are in order and not
+    /// empty, and only the last may be Bad.
     pub fn spans_are_in_order(&self)
         ensures { AreSpans 0 0 self.now.tokens }
     {
@@ -68,8 +69,8 @@ impl Tokens {
     }
 }
 
-/// Whether the token opens a construct, by the tokens alone: `(`, and, but right after END, CASE, BEGIN, IF, LOOP, WHILE
-/// and REPEAT.
+/// Whether the token opens a construct, by the tokens alone: `(`, and, but right after END, CASE,
+/// BEGIN, IF, LOOP, WHILE and REPEAT.
 pub fn opens(tokens: &Tokens, at: usize) -> bool
     requires { at < length tokens.now.tokens }
     ensures { result ≡ opens_at tokens.now.tokens at }
@@ -100,7 +101,7 @@ fn follows_end(list: &[Token], at: usize) -> bool
     at > 0 && list[at - 1].kind() == Kind::Word(Word::End)
 }
 
-/// The line and the column of the token, or, behind the last one, of the end of the script.
+/// The line and the column of the token, or, after the last one, of the end of the script.
 pub fn place(tokens: &Tokens, at: usize) -> (u64, u64)
     requires { at ≤ length tokens.now.tokens }
     ensures { result ≡ place_at tokens.now at }

@@ -1,3 +1,6 @@
-pub mod Places
-pub mod Lists
 pub mod Steps
+pub mod Index
+pub mod Covers
+pub mod Fitting
+pub mod Made
+pub mod Rows

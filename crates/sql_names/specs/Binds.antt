@@ -1,41 +1,27 @@
--- What a binder answers: the resolved tree at its view exactly where there is no fault, and else the least fault, unless memory runs out.
-use Rattle.std.specs.Prelude.{◌≡◌, List, [], map, Some, Result, Ok, Err}
-use Rattle.catalog_store.specs.Catalog.{routines}
-use Rattle.rel_algebra.specs.Tree.{Routine}
-use Rattle.catalog_store.specs.View.{tree_of, link_of, query_of, rows_of, entry_of, plain}
+-- What a binder answers: the bound tree exactly where there is no fault, and else the least fault,
+-- unless memory runs out, which says nothing of the statement.
+use Rattle.std.specs.Prelude.{◌≡◌, [], None, Some, Result, Ok, Err}
+use Rattle.syntax_trees.specs.declared.statement.Stmt.{Stmt}
+use Rattle.catalog_store.specs.Catalog.{Catalog, object_named}
+use Rattle.catalog_store.specs.Entries.{ObjectFits}
 use Rattle.name_faults.specs.Faults.{Noted, least}
 use Rattle.sql_names.specs.declared.fault.NameFault.{NameFault}
 use Rattle.sql_names.specs.declared.fault.NameFault.TheVariants as fault
-use Rattle.sql_names.specs.declared.sight.Sight.{Sight}
-use Rattle.sql_names.specs.declared.expr.Bound.{Bound}
-use Rattle.sql_names.specs.declared.expr.BoundAll.{BoundAll}
-use Rattle.sql_names.specs.declared.expr.BoundLinks.{BoundLinks}
 use Rattle.sql_names.specs.declared.statement.BoundStmt.{BoundStmt}
 use Rattle.sql_names.specs.declared.statement.BoundStmt.TheVariants as bound
-use Rattle.sql_names.specs.Statements.{Statement, Creates, Inserts, Asks}
-use Rattle.sql_names.specs.Sight.{Seen, parameter_names, names_of}
-use Rattle.sql_names.specs.Names.{Resolved, ResolvedAll, ResolvedLinks}
+use Rattle.sql_names.specs.Statements.{judged_statement}
 
--- want of memory says nothing of the statement
-abbrev pub Binds : {A B : Type 0} → Noted A → (B → A) → Result B NameFault → Type 0
-Binds noted view (Ok b) = (noted.faults ≡ []) × (noted.value ≡ view b)
-Binds noted view (Err (fault.Fault f)) = least noted.faults ≡ Some f
-Binds noted view (Err fault.NoMemory) = Unit {0}
+abbrev pub Binds : {A : Type 0} → Noted A → Result A NameFault → Type 0
+Binds noted (Ok b) = (noted.faults ≡ []) × (b ≡ noted.value)
+Binds noted (Err (fault.Fault f)) = least noted.faults ≡ Some f
+Binds noted (Err fault.NoMemory) = Unit {0}
 
-abbrev pub seen_by : Sight → Seen
-seen_by s = record { columns = names_of s.columns.now; any_column = s.any_column; parameters = parameter_names s.parameters.now; catalog = plain s.catalog.now }
+-- what is made has a name that stands for nothing, and fits the catalog
+abbrev pub CreateFits : Catalog → BoundStmt → Type 0
+CreateFits catalog (bound.Create name object) = (object_named name catalog ≡ None) × ObjectFits catalog object
+CreateFits catalog (bound.Insert b) = Unit {0}
+CreateFits catalog (bound.Query q) = Unit {0}
 
-abbrev pub bound_view : Sight → Bound → Resolved
-bound_view s b = record { tree = tree_of (routines (plain s.catalog.now)) b.expr; height = b.height }
-
-abbrev pub all_view : Sight → BoundAll → ResolvedAll
-all_view s b = record { trees = map (tree_of (routines (plain s.catalog.now))) b.exprs; height = b.height }
-
-abbrev pub links_view : Sight → BoundLinks → ResolvedLinks
-links_view s b = record { trees = map (link_of (routines (plain s.catalog.now))) b.links; height = b.height }
-
--- the plain statement of a bound one
-abbrev pub statement_of : List Routine → BoundStmt → Statement
-statement_of known (bound.Create entry) = Creates (entry_of known entry)
-statement_of known (bound.Insert s) = Inserts s.table (rows_of known s.rows)
-statement_of known (bound.Query q) = Asks (query_of known q)
+-- a statement without faults makes what fits
+abbrev pub FaultlessFits : Type 0
+FaultlessFits = (s : Stmt) (catalog : Catalog) → (judged_statement s catalog).faults ≡ [] → CreateFits catalog (judged_statement s catalog).value

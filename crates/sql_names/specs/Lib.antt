@@ -1,6 +1,8 @@
+pub mod Index
 pub mod Sight
 pub mod Names
 pub mod Places
-pub mod Binds
+pub mod Queries
 pub mod Statements
-pub mod Rows
+pub mod Binds
+pub mod Examples

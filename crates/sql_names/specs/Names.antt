@@ -1,120 +1,124 @@
--- Expressions: the plain tree that each stands for, the greatest height that it calls, and the name faults in it. ISO/IEC 9075-2, 6.6
--- (identifier chain) and 10.4 (routine invocation).
-use Rattle.std.specs.Prelude.{ℕ, ◌==◌, Bool, true, not, List, [], ◌∷◌, ◌++◌, map, max, length, Option, Some, None}
+-- Expressions: the bound tree that each stands for, the name faults in it, and the functions that
+-- it uses, in one fold whose value is a judge: a function of the sight. ISO/IEC 9075-2, 6.6
+-- (identifier chain), 6.26 (value expression), 8.2 (comparison) and 10.4 (routine invocation).
+use Rattle.std.specs.Prelude.{ℕ, ◌==◌, true, not, List, [], ◌∷◌, map, length, Option, Some, None}
 use Rattle.sql_values.specs.declared.value.Value.TheVariants.{Null, Int}
 use Rattle.sql_values.specs.declared.operators.Operator.{Operator}
 use Rattle.syntax_trees.specs.declared.anchor.Anchor.{Anchor}
 use Rattle.syntax_trees.specs.declared.anchor.Ident.{Ident}
 use Rattle.syntax_trees.specs.declared.expr.UnarySign.{UnarySign}
 use Rattle.syntax_trees.specs.declared.expr.UnarySign.TheVariants.{Plus, Minus}
-use Rattle.syntax_trees.specs.declared.expr.Expr.{Expr as Written, fold-Expr}
+use Rattle.syntax_trees.specs.declared.expr.Expr.{Expr, fold-Expr}
 use Rattle.syntax_trees.specs.declared.expr.Expr.TheOpen.{Expr-F, Link-F}
-use Rattle.syntax_trees.specs.declared.expr.Link.{Link as WrittenLink, fold-Link}
-use Rattle.rel_algebra.specs.Tree.{Expr, Literal, Column, Variable, Negate, Chain, Call}
-use Rattle.catalog_store.specs.Catalog.{Object, TableObject, FunctionObject, object_named}
-use Rattle.catalog_store.specs.View.{Link, links, exprs}
+use Rattle.syntax_trees.specs.declared.expr.Link.{Link, fold-Link}
+use Rattle.bound_trees.specs.declared.expr.BoundExpr.{BoundExpr}
+use Rattle.bound_trees.specs.declared.expr.BoundExpr.TheVariants as bound
+use Rattle.bound_trees.specs.declared.expr.BoundLink.{BoundLink, roll-BoundLink}
+use Rattle.catalog_store.specs.Catalog.{Object, TableObject, FunctionObject, Catalog, object_named}
+use Rattle.name_faults.specs.declared.fault.Fault.{Fault}
 use Rattle.name_faults.specs.declared.fault.FaultKind.TheVariants.{UnknownName, WrongCount}
-use Rattle.name_faults.specs.Faults.{Noted, give, ◌>>=◌, ◌>>◌, fault_if}
-use Rattle.sql_names.specs.Sight.{Seen, place_of}
+use Rattle.name_faults.specs.Faults.{Noted, give, ◌>>◌, as_value, both, fault_if}
+use Rattle.sql_names.specs.declared.sight.Found.{Found}
+use Rattle.sql_names.specs.declared.sight.Found.TheVariants.{Column, Guessed, Variable, Unknown}
+use Rattle.sql_names.specs.Sight.{Seen, stands_for}
 
-pub record Resolved : Type 0 where
-  pub tree : Expr
-  pub height : ℕ
+-- how an expression is judged
+abbrev pub Judge : Type 0
+Judge = Seen → Noted BoundExpr
 
-pub record ResolvedAll : Type 0 where
-  pub trees : List Expr
-  pub height : ℕ
-
-pub record ResolvedLinks : Type 0 where
-  pub trees : List Link
-  pub height : ℕ
-
--- an operator and what stands right of it
+-- an operator, and how what stands right of it is judged
 pub record JudgedLink : Type 0 where
   pub operator : Operator
-  pub operand : Noted Resolved
+  pub operand : Judge
 
-abbrev pub at_height : ℕ → Expr → Resolved
-at_height height tree = record { tree = tree; height = height }
+-- what stands where a name stands for nothing that is known
+abbrev pub missing : BoundExpr
+missing = bound.Literal Null
 
-abbrev pub alone : Expr → Resolved
-alone tree = at_height 0 tree
+abbrev pub named : Anchor → Found → Noted BoundExpr
+named at (Column level place) = give (bound.Column level place)
+named at Guessed = give missing
+named at (Variable place) = give (bound.Variable place)
+named at Unknown = fault_if true UnknownName at >> give missing
 
--- what stands where a name stands for nothing
-abbrev pub missing : Expr
-missing = Literal Null
+abbrev pub stands : Ident → Seen → Found
+stands i seen = stands_for i.name seen
 
--- what two parts make, with the faults of both
-abbrev pub both : {A B C : Type 0} → (A → B → C) → Noted A → Noted B → Noted C
-both f x y = record { value = f x.value y.value; faults = x.faults ++ y.faults }
+-- several, from left to right
+abbrev pub all_of : Seen → List Judge → Noted (List BoundExpr)
+all_of seen [] = give []
+all_of seen (j ∷ js) = both (λ e es. e ∷ es) (j seen) (all_of seen js)
 
--- a column goes before a parameter
-abbrev pub column_or_parameter : Bool → Anchor → Option ℕ → Option ℕ → Noted Resolved
-column_or_parameter any at (Some i) parameter = give (alone (Column i))
-column_or_parameter any at None (Some i) = give (alone (Variable i))
-column_or_parameter any at None None = fault_if (not any) UnknownName at >> give (alone missing)
+abbrev pub link_of : Operator → BoundExpr → BoundLink
+link_of operator operand = roll-BoundLink (record { operator = operator; operand = operand })
 
-abbrev pub named : Seen → Ident → Noted Resolved
-named seen i = column_or_parameter seen.any_column i.anchor (place_of i.name seen.columns) (place_of i.name seen.parameters)
+abbrev pub links_of : Seen → List JudgedLink → Noted (List BoundLink)
+links_of seen [] = give []
+links_of seen (l ∷ ls) = both (λ e es. link_of l.operator e ∷ es) (l.operand seen) (links_of seen ls)
 
-abbrev pub one_more : Resolved → ResolvedAll → ResolvedAll
-one_more r rest = record { trees = r.tree ∷ rest.trees; height = max r.height rest.height }
+-- ---- calls
 
-abbrev pub all_of : List (Noted Resolved) → Noted ResolvedAll
-all_of [] = give (record { trees = []; height = 0 })
-all_of (r ∷ rs) = both one_more r (all_of rs)
+-- how many parameters an object takes, where it is a function
+abbrev pub arity_of : Option Object → Option ℕ
+arity_of None = None
+arity_of (Some (TableObject t)) = None
+arity_of (Some (FunctionObject f)) = Some (length f.parameters)
 
-abbrev pub link_more : Operator → Resolved → ResolvedLinks → ResolvedLinks
-link_more operator r rest = record { trees = record { operator = operator; operand = r.tree } ∷ rest.trees; height = max r.height rest.height }
+abbrev pub arity : List ℕ → Catalog → Option ℕ
+arity name catalog = arity_of (object_named name catalog)
 
-abbrev pub links_of_all : List JudgedLink → Noted ResolvedLinks
-links_of_all [] = give (record { trees = []; height = 0 })
-links_of_all (l ∷ ls) = both (link_more l.operator) l.operand (links_of_all ls)
+-- a function of the name stands in the catalog, and has so many parameters as there are arguments
+abbrev pub call_faults : Anchor → ℕ → Option ℕ → List Fault
+call_faults at arguments None = fault_if true UnknownName at
+call_faults at arguments (Some parameters) = fault_if (not (arguments == parameters)) WrongCount at
 
-abbrev pub chained : Resolved → ResolvedLinks → Resolved
-chained r rest = at_height (max r.height rest.height) (Chain r.tree (links rest.trees))
+abbrev pub call_uses : List ℕ → Option ℕ → List (List ℕ)
+call_uses name None = []
+call_uses name (Some parameters) = name ∷ []
 
-abbrev pub chain_of : Noted Resolved → Noted ResolvedLinks → Noted Resolved
-chain_of first rest = both chained first rest
+abbrev pub call_of : List ℕ → Option ℕ → List BoundExpr → BoundExpr
+call_of name None args = missing
+call_of name (Some parameters) args = bound.Call name args
+
+-- what a call asks by itself
+abbrev pub call_head : Ident → ℕ → Option ℕ → Noted (List BoundExpr → BoundExpr)
+call_head i arguments parameters = record { value = call_of i.name parameters; faults = call_faults i.anchor arguments parameters; uses = call_uses i.name parameters }
+
+-- what stands in the arguments is judged in any case
+abbrev pub called : Ident → Seen → List Judge → Noted BoundExpr
+called i seen args = both (λ f es. f es) (call_head i (length args) (arity i.name seen.catalog)) (all_of seen args)
+
+-- ---- the fold
 
 -- a plus changes nothing
-abbrev pub with_sign : UnarySign → Resolved → Resolved
-with_sign Plus r = r
-with_sign Minus r = at_height r.height (Negate r.tree)
+abbrev pub with_sign : UnarySign → BoundExpr → BoundExpr
+with_sign Plus e = e
+with_sign Minus e = bound.Negate e
 
-abbrev pub signed : UnarySign → Noted Resolved → Noted Resolved
-signed sign x = record { value = with_sign sign x.value; faults = x.faults }
+-- one level, with the judges of what stands inside
+abbrev pub expr_step : Expr-F Judge JudgedLink → Judge
+expr_step (Expr-F.Number anchor n) seen = give (bound.Literal (Int n))
+expr_step (Expr-F.Null anchor) seen = give (bound.Literal Null)
+expr_step (Expr-F.Name i) seen = named i.anchor (stands i seen)
+expr_step (Expr-F.Call i args) seen = called i seen args
+expr_step (Expr-F.Signed anchor sign operand) seen = as_value (with_sign sign) (operand seen)
+expr_step (Expr-F.Chain first rest) seen = both (λ e ls. bound.Chain e ls) (first seen) (links_of seen rest)
+expr_step (Expr-F.Compare anchor comparison left right) seen = both (λ a b. bound.Compare comparison a b) (left seen) (right seen)
 
--- A function has so many arguments as parameters. A table is no function. What stands in the arguments counts for the height in any case.
-abbrev pub call_of : Anchor → Option Object → ResolvedAll → Noted Resolved
-call_of at None args = fault_if true UnknownName at >> give (at_height args.height missing)
-call_of at (Some (TableObject columns key)) args = fault_if true UnknownName at >> give (at_height args.height missing)
-call_of at (Some (FunctionObject f)) args =
-    fault_if (not (length args.trees == f.parameters)) WrongCount at >> give (at_height (max f.height args.height) (Call f.routine (exprs args.trees)))
-
-abbrev pub called : Seen → Ident → Noted ResolvedAll → Noted Resolved
-called seen i args = args >>= call_of i.anchor (object_named i.name seen.catalog)
-
--- one level, with what stands inside already judged
-abbrev pub expr_step : Seen → Expr-F (Noted Resolved) JudgedLink → Noted Resolved
-expr_step seen (Expr-F.Number anchor n) = give (alone (Literal (Int n)))
-expr_step seen (Expr-F.Null anchor) = give (alone (Literal Null))
-expr_step seen (Expr-F.Name ident) = named seen ident
-expr_step seen (Expr-F.Call ident args) = called seen ident (all_of args)
-expr_step seen (Expr-F.Signed anchor sign operand) = signed sign operand
-expr_step seen (Expr-F.Chain first rest) = chain_of first (links_of_all rest)
-
-abbrev pub link_step : Link-F (Noted Resolved) JudgedLink → JudgedLink
+abbrev pub link_step : Link-F Judge JudgedLink → JudgedLink
 link_step l = record { operator = l.operator; operand = l.operand }
 
-abbrev pub resolved : Seen → Written → Noted Resolved
-resolved seen = fold-Expr (Noted Resolved) JudgedLink (expr_step seen) link_step
+abbrev pub judge : Expr → Judge
+judge = fold-Expr Judge JudgedLink expr_step link_step
 
-abbrev pub judged_link : Seen → WrittenLink → JudgedLink
-judged_link seen = fold-Link (Noted Resolved) JudgedLink (expr_step seen) link_step
+abbrev pub judged_link : Link → JudgedLink
+judged_link = fold-Link Judge JudgedLink expr_step link_step
 
-abbrev pub resolved_all : Seen → List Written → Noted ResolvedAll
-resolved_all seen es = all_of (map (resolved seen) es)
+abbrev pub judge_all : List Expr → Seen → Noted (List BoundExpr)
+judge_all es seen = all_of seen (map judge es)
 
-abbrev pub resolved_links : Seen → List WrittenLink → Noted ResolvedLinks
-resolved_links seen ls = links_of_all (map (judged_link seen) ls)
+abbrev pub judge_links : List Link → Seen → Noted (List BoundLink)
+judge_links ls seen = links_of seen (map judged_link ls)
+
+abbrev pub judge_call : Ident → List Expr → Judge
+judge_call i args seen = called i seen (map judge args)

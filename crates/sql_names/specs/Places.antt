@@ -1,4 +1,6 @@
--- The token at which an expression's faults are shown: a number, NULL or a name itself, a call's name, a sign, and a chain's first operator.
+-- The token at which an expression's faults are shown: a number, NULL or a name itself, a call's
+-- name, a sign, a chain's first operator, and a comparison's operator. ISO/IEC 9075-2, 6.26 and
+-- 8.2.
 use Rattle.std.specs.Prelude.{List, [], ◌∷◌}
 use Rattle.syntax_trees.specs.declared.anchor.Anchor.{Anchor}
 use Rattle.syntax_trees.specs.declared.expr.Expr.{Expr, fold-Expr}
@@ -15,6 +17,7 @@ anchor_step (Expr-F.Name ident) = ident.anchor
 anchor_step (Expr-F.Call ident args) = ident.anchor
 anchor_step (Expr-F.Signed anchor sign operand) = anchor
 anchor_step (Expr-F.Chain first operators) = first_operator first operators
+anchor_step (Expr-F.Compare anchor comparison left right) = anchor
 
 abbrev pub link_anchor : Link-F Anchor Anchor → Anchor
 link_anchor l = l.anchor

@@ -1,35 +1,82 @@
--- The names in sight of an expression: ISO/IEC 9075-2, 5.4 and 6.6.
-use Rattle.std.specs.Prelude.{ℕ, Bool, false, List, [], map, Option, position}
-use Rattle.std.specs.Str.{bytes_eq}
+-- The names in sight of an expression, and what a name stands for. ISO/IEC 9075-2, 5.4 (names) and
+-- 6.6 (identifier chain).
+use Rattle.std.specs.Prelude.{ℕ, ◌+◌, Bool, true, false, List, [], ◌∷◌, map, Option, Some, None}
+use Rattle.std.specs.List.{list_any}
 use Rattle.row_types.specs.declared.ColumnType.{ColumnType}
+use Rattle.row_types.specs.declared.RowType.{RowType}
 use Rattle.syntax_trees.specs.declared.statement.Parameter.{Parameter}
 use Rattle.catalog_store.specs.Catalog.{Catalog}
+use Rattle.sql_names.specs.declared.sight.Found.{Found}
+use Rattle.sql_names.specs.declared.sight.Found.TheVariants.{Column, Guessed, Variable, Unknown}
+use Rattle.sql_names.specs.declared.sight.Level.{Level as CodeLevel}
+use Rattle.sql_names.specs.Index.{place_of}
+use Rattle.sql_names.specs.declared.sight.Sight.{Sight as CodeSight}
 
--- the columns of the innermost row, whether it is taken to have each other column too, the parameters, and the catalog
-pub record Seen : Type 0 where
+-- What a query brings in sight: the columns of the known items of its FROM, as they stand in its
+-- row, and whether an item is not known. The place of a flag for grouped queries, and of their
+-- grouping columns, is here.
+pub record Level : Type 0 where
   pub columns : List (List ℕ)
-  pub any_column : Bool
-  pub parameters : List (List ℕ)
+  pub unknown : Bool
+
+-- the queries around an expression, the innermost first, the variables and parameters, and the
+-- catalog
+pub record Seen : Type 0 where
+  pub levels : List Level
+  pub variables : List (List ℕ)
   pub catalog : Catalog
 
--- the place of a name among names
-abbrev pub place_of : List ℕ → List (List ℕ) → Option ℕ
-place_of name names = position (λ n. bytes_eq n name) names
+abbrev pub column_or : ℕ → Option ℕ → Found → Found
+column_or level None other = other
+column_or level (Some place) other = Column level place
+
+-- a column of a known item, of the innermost query outwards
+abbrev pub outwards : List ℕ → ℕ → List Level → Found → Found
+outwards name level [] other = other
+outwards name level (l ∷ ls) other = column_or level (place_of name l.columns) (outwards name (level + 1) ls other)
+
+-- an item that is not known has each column that no other item in sight has
+abbrev pub guessed : Bool → Found → Found
+guessed false other = other
+guessed true other = Guessed
+
+abbrev pub variable : Option ℕ → Found
+variable None = Unknown
+variable (Some place) = Variable place
+
+-- a column of a known item, then of any that is not known, then a variable or parameter
+abbrev pub stands_for : List ℕ → Seen → Found
+stands_for name seen = outwards name 0 seen.levels (guessed (list_any (λ l. l.unknown) seen.levels) (variable (place_of name seen.variables)))
+
+-- ---- sights
+
+-- where no name is in sight but those of the catalog
+abbrev pub at_top : Catalog → Seen
+at_top catalog = record { levels = []; variables = []; catalog = catalog }
+
+-- in the body of a function with these parameters
+abbrev pub in_function : List (List ℕ) → Catalog → Seen
+in_function parameters catalog = record { levels = []; variables = parameters; catalog = catalog }
+
+-- in a query
+abbrev pub inside : Level → Seen → Seen
+inside level outside = record { levels = level ∷ outside.levels; variables = outside.variables; catalog = outside.catalog }
+
+abbrev pub column_names : List ColumnType → List (List ℕ)
+column_names cs = map (λ c. c.name) cs
 
 abbrev pub parameter_names : List Parameter → List (List ℕ)
 parameter_names ps = map (λ p. p.name.name) ps
 
-abbrev pub names_of : List ColumnType → List (List ℕ)
-names_of cs = map (λ c. c.name) cs
+-- a query over a table; over one that is not known
+abbrev pub level_over : Option RowType → Level
+level_over None = record { columns = []; unknown = true }
+level_over (Some t) = record { columns = column_names t.columns; unknown = false }
 
--- in a row with these columns
-abbrev pub in_row : List ColumnType → Bool → Catalog → Seen
-in_row columns any catalog = record { columns = names_of columns; any_column = any; parameters = []; catalog = catalog }
+-- ---- what the code's sight shows
 
--- in a function's body
-abbrev pub in_function : List (List ℕ) → Catalog → Seen
-in_function parameters catalog = record { columns = []; any_column = false; parameters = parameters; catalog = catalog }
+abbrev pub level_by : CodeLevel → Level
+level_by l = record { columns = l.columns.now; unknown = l.unknown }
 
--- where no name is in sight but those of the catalog
-abbrev pub in_values : Catalog → Seen
-in_values catalog = in_row [] false catalog
+abbrev pub seen_by : CodeSight → Seen
+seen_by s = record { levels = map level_by s.levels.now; variables = s.variables.now; catalog = s.catalog.now }

@@ -1,28 +1,39 @@
-//! CREATE TABLE.
+//! CREATE TABLE, and what both CREATE statements ask of names and types.
 
-ghost use Rattle.std.specs.Prelude.{◌≡◌, ◌||◌, false, [], map, position, IfOk, OnOk};
+ghost use Rattle.std.specs.Prelude.{◌≡◌, ◌++◌, [], map, position, IfOk, OnOk};
 ghost use Rattle.std.specs.List.{list_any};
-ghost use Rattle.std.specs.Str.{bytes_eq};
-ghost use Rattle.catalog_store.specs.Catalog.{routines};
-ghost use Rattle.catalog_store.specs.View.{plain, entry_of};
 ghost use Rattle.name_faults.specs.Faults.{noted};
-ghost use Rattle.sql_names.specs.Statements.{resolved_table, taken, repeated, later_keys, keys_of};
+ghost use Rattle.sql_names.specs.Statements.{judged_table, repeated};
 ghost use Rattle.sql_names.specs.Statements as spec;
 
-use catalog_store::{Entry, Object, TableEntry, find};
+use crate::name_list::NameList;
+use catalog_store::{Catalog, Object};
 use name_faults::{Fault, FaultKind, note_if};
-use row_types::ColumnType;
-use sql_values::{Name, NoMemory};
+use row_types::{ColumnType, RowType};
+use sql_values::{Name, NoMemory, SqlType};
 use sqlite_items::Items;
 use std::alloc::Global;
-use syntax_trees::{Column, Constraint, CreateTable, Ident};
+use syntax_trees::{Anchor, Column, Constraint, CreateTable, DataType, Ident, TypeName};
 
 /// Whether what is to be made has a name that stands for something already.
-pub(crate) fn note_taken(ident: &Ident, catalog: &[Entry], least: &mut Option<Fault>)
-    ensures { least.new ≡ noted least.old (taken (plain catalog.now) ident.now) }
+pub(crate) fn note_taken(ident: &Ident, catalog: &Catalog, least: &mut Option<Fault>)
+    ensures { least.new ≡ noted least.old (spec.taken_name ident.now catalog.now) }
 {
-    if let Some(_) = find(catalog, &ident.name) {
-        note_if(true, FaultKind::DuplicateName, ident.anchor, least);
+    let found = catalog.get(&ident.name);
+    note_if(
+        found.is_some(),
+        FaultKind::DuplicateName,
+        ident.anchor,
+        least,
+    );
+}
+
+/// The type that is written.
+pub(crate) fn type_of(data_type: DataType) -> SqlType
+    ensures { result ≡ spec.type_of data_type }
+{
+    match data_type.name {
+        TypeName::Integer => SqlType::Integer,
     }
 }
 
@@ -54,60 +65,6 @@ fn is_key(column: &Column) -> bool
         .any(|constraint| is_primary_key(*constraint))
 }
 
-// Whether there is a key with this column, where there may be one already.
-fn has_key(has: bool, column: &Column) -> bool
-    ensures { result ≡ (has || spec.is_key column.now) }
-{
-    has || is_key(column)
-}
-
-// The place of the first column that is a key.
-fn key_place(columns: &[Column]) -> Option<usize>
-    ensures { result ≡ position spec.is_key columns.now }
-{
-    columns.iter().position(|column| is_key(column))
-}
-
-fn has_column(columns: &[Column], name: &Name) -> bool
-    ensures { result ≡ list_any (λ c. bytes_eq c.name.name name.now) columns.now }
-{
-    columns.iter().any(|column| column.name.name.is(name))
-}
-
-// Columns of a name that an earlier one has.
-fn note_repeated(columns: &[Column], least: &mut Option<Fault>)
-    ensures { least.new ≡ noted least.old (repeated [] (map (λ c. c.name) columns.now)) }
-{
-    for (place, column) in columns.iter().enumerate() {
-        let again = has_column(&columns[..place], &column.name.name);
-        note_if(again, FaultKind::DuplicateName, column.name.anchor, least);
-    }
-}
-
-// The primary keys of a column, where there may be one already.
-fn note_later_keys(has: bool, constraints: &[Constraint], least: &mut Option<Fault>)
-    ensures { least.new ≡ noted least.old (later_keys has constraints.now) }
-{
-    let mut has = has;
-    for constraint in constraints {
-        if let Constraint::PrimaryKey(anchor) = *constraint {
-            note_if(has, FaultKind::DuplicateName, anchor, least);
-            has = true;
-        }
-    }
-}
-
-// A second primary key of the table, and each further one.
-fn note_keys(columns: &[Column], least: &mut Option<Fault>)
-    ensures { least.new ≡ noted least.old (keys_of false columns.now) }
-{
-    let mut has = false;
-    for column in columns {
-        note_later_keys(has, column.constraints.as_slice(), least);
-        has = has_key(has, column);
-    }
-}
-
 fn takes_no_null(column: &Column) -> bool
     ensures { result ≡ list_any spec.is_not_null column.now.constraints }
 {
@@ -118,12 +75,89 @@ fn takes_no_null(column: &Column) -> bool
         .any(|constraint| is_not_null(*constraint))
 }
 
+fn column_names(alloc: Global, columns: &[Column]) -> Result<Items<Name>, NoMemory>
+    ensures { IfOk result (λ names. names ≡ map (λ c. c.name.name) columns.now) }
+{
+    let mut names = Items::new(alloc);
+    for column in columns {
+        names.push(column.name.name.copied()?)?;
+    }
+    Ok(names)
+}
+
+// Columns of a name that an earlier one has.
+fn note_repeated(columns: &[Column], names: &NameList, least: &mut Option<Fault>)
+    requires { names.now ≡ map (λ c. c.name.name) columns.now }
+    ensures { least.new ≡ noted least.old (repeated [] (map (λ c. c.name) columns.now)) }
+{
+    for (place, column) in columns.iter().enumerate() {
+        let again = names.stands_before(&column.name.name, place);
+        note_if(again, FaultKind::DuplicateName, column.name.anchor, least);
+    }
+}
+
+// Where the constraints of a column say PRIMARY KEY.
+fn add_key_places(column: &Column, places: &mut Items<Anchor>) -> Result<(), NoMemory>
+    ensures { OnOk result (places.new ≡ places.old ++ spec.key_places_of column.now) }
+{
+    for constraint in column.constraints.as_slice() {
+        if let Constraint::PrimaryKey(anchor) = *constraint {
+            places.push(anchor)?;
+        }
+    }
+    Ok(())
+}
+
+fn key_places(alloc: Global, columns: &[Column]) -> Result<Items<Anchor>, NoMemory>
+    ensures { IfOk result (λ places. places ≡ spec.key_places columns.now) }
+{
+    let mut places = Items::new(alloc);
+    for column in columns {
+        add_key_places(column, &mut places)?;
+    }
+    Ok(places)
+}
+
+fn note_duplicates(places: &[Anchor], least: &mut Option<Fault>)
+    ensures { least.new ≡ noted least.old (map spec.duplicate places.now) }
+{
+    for place in places {
+        note_if(true, FaultKind::DuplicateName, *place, least);
+    }
+}
+
+// A table has a primary key, and not a second one.
+fn note_keys(ident: &Ident, places: &[Anchor], least: &mut Option<Fault>)
+    ensures { least.new ≡ noted least.old (spec.key_faults ident.now places.now) }
+{
+    match places {
+        [] => note_if(true, FaultKind::NotPermitted, ident.anchor, least),
+        [_, later @ ..] => note_duplicates(later, least),
+    }
+}
+
+// All that is asked of the columns.
+fn judge_columns(
+    alloc: Global,
+    create: &CreateTable,
+    least: &mut Option<Fault>,
+) -> Result<(), NoMemory>
+    ensures { OnOk result (least.new ≡ noted least.old (spec.column_faults create.now)) }
+{
+    let columns = create.columns.as_slice();
+    let names = NameList::of(alloc, column_names(alloc, columns)?)?;
+    note_repeated(columns, &names, least);
+    let places = key_places(alloc, columns)?;
+    note_keys(&create.name, places.as_slice(), least);
+    Ok(())
+}
+
 fn column_type(column: &Column) -> Result<ColumnType, NoMemory>
     ensures { IfOk result (λ c. c ≡ spec.column_type column.now) }
 {
     Ok(ColumnType {
         name: column.name.name.copied()?,
-        data_type: column.data_type,
+        data_type: type_of(column.data_type),
         not_null: takes_no_null(column),
     })
 }
@@ -138,37 +172,46 @@ fn column_types(alloc: Global, columns: &[Column]) -> Result<Items<ColumnType>, 
     Ok(found)
 }
 
-// All that is asked of the columns; the place of the key, 0 where there is none.
-fn judge_columns(create: &CreateTable, least: &mut Option<Fault>) -> usize
-    ensures key { result ≡ spec.key_or_first (position spec.is_key create.now.columns) }
-    ensures faults { least.new ≡ noted least.old (spec.column_faults create.now) }
+// The place of the first column that is a key.
+fn key_place(columns: &[Column]) -> Option<usize>
+    ensures { result ≡ position spec.is_key columns.now }
 {
-    let columns = create.columns.as_slice();
-    note_repeated(columns, least);
-    note_keys(columns, least);
+    columns.iter().position(|column| is_key(column))
+}
+
+fn key_of(alloc: Global, columns: &[Column]) -> Result<Items<usize>, NoMemory>
+    ensures { IfOk result (λ key. key ≡ spec.key_of (position spec.is_key columns.now)) }
+{
+    let mut key = Items::new(alloc);
     match key_place(columns) {
-        Some(place) => place,
-        None => {
-            note_if(true, FaultKind::NotPermitted, create.name.anchor, least);
-            0
+        Some(place) => {
+            key.push(place)?;
+            Ok(key)
         }
+        None => Ok(key),
     }
 }
 
-/// A new table's entry, with its faults noted: the name is taken, two columns have one name, there is a second primary key, or none.
+fn row_type(alloc: Global, columns: &[Column]) -> Result<RowType, NoMemory>
+    ensures { IfOk result (λ t. t ≡ spec.row_type columns.now) }
+{
+    let key = key_of(alloc, columns)?;
+    let columns = column_types(alloc, columns)?;
+    Ok(RowType { columns, key })
+}
+
+/// A new table, with its faults noted: the name is taken, two columns have one name, there is a
+/// second primary key, or none.
 pub(crate) fn bind_table(
     alloc: Global,
     create: &CreateTable,
-    catalog: &[Entry],
+    catalog: &Catalog,
     least: &mut Option<Fault>,
-) -> Result<Entry, NoMemory>
-    ensures value { IfOk result (λ e. entry_of (routines (plain catalog.now)) e ≡ (resolved_table (plain catalog.now) create.now).value) }
-    ensures faults { OnOk result (least.new ≡ noted least.old (resolved_table (plain catalog.now) create.now).faults) }
+) -> Result<Object, NoMemory>
+    ensures value { IfOk result (λ o. o ≡ (judged_table create.now catalog.now).value) }
+    ensures faults { OnOk result (least.new ≡ noted least.old (judged_table create.now catalog.now).faults) }
 {
     note_taken(&create.name, catalog, least);
-    let key = judge_columns(create, least);
-    let columns = column_types(alloc, create.columns.as_slice())?;
-    let name = create.name.name.copied()?;
-    let object = Object::Table(TableEntry { columns, key });
-    Ok(Entry { name, object })
+    judge_columns(alloc, create, least)?;
+    Ok(Object::Table(row_type(alloc, create.columns.as_slice())?))
 }

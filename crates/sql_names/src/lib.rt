@@ -1,25 +1,38 @@
-//! Names: whether those of a statement stand for something, and the statement with its names resolved.
-#![tactic(auto, using(name_faults::proofs::Noting::noted_append))]
+//! Names: whether those of a statement stand for something, and the statement with its names
+//! resolved.
+#![tactic(auto, using(name_faults::proofs::Laws::noted_append))]
 
-ghost use Rattle.sql_names.specs.Rows.{EachFaultAtItsPlace};
+ghost use Rattle.sql_names.specs.Binds.{FaultlessFits};
+ghost use Rattle.sql_names.specs.Examples.{EachFaultAtItsPlace, BindsByPlaceAndName};
 
 mod create;
 mod expr;
 mod fault;
 mod function;
-mod insert;
+mod name_list;
 mod place;
 mod query;
 mod sight;
 mod statement;
-mod values;
 
-pub use expr::{Bound, BoundAll, BoundLinks};
 pub use fault::NameFault;
-pub use sight::Sight;
+pub use function::MOST_HEIGHT;
+pub use name_list::NameList;
+pub use sight::{Found, Level, Sight};
 pub use statement::{BoundStmt, bind_statement};
+
+/// A statement without faults makes what fits the catalog: a name that is free, a key of columns,
+/// calls of functions that stand there and are lower, with as many arguments as parameters.
+pub fn faultless_fits()
+    ensures { FaultlessFits }
+{}
 
 /// Each kind of fault, at its place.
 pub fn each_fault_at_its_place()
     ensures { EachFaultAtItsPlace }
+{}
+
+/// A column is bound by its place, a call by its name.
+pub fn binds_by_place_and_name()
+    ensures { BindsByPlaceAndName }
 {}

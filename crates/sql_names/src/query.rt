@@ -1,121 +1,264 @@
 //! Queries.
 
 ghost use Rattle.std.specs.Prelude.{◌≡◌, IfOk, OnOk};
-ghost use Rattle.catalog_store.specs.Catalog.{routines};
-ghost use Rattle.catalog_store.specs.View.{plain, query_of, filter_of};
-ghost use Rattle.bound_trees.specs.declared.statement.BoundQuery.TheVariants as bound;
-ghost use Rattle.name_faults.specs.Faults.{noted};
-ghost use Rattle.sql_names.specs.Statements.{resolved_query, resolved_filter, select_in, select_over, columns_of};
-ghost use Rattle.sql_names.specs.Sight as spec;
-ghost use Rattle.sql_names.specs.Binds.{seen_by};
+ghost use Rattle.std.specs.Option.{option_copied};
+ghost use Rattle.name_faults.specs.Faults.{taken};
+ghost use Rattle.sql_names.specs.Queries as spec;
+ghost use Rattle.sql_names.specs.Queries.{judged_row, judged_rows, judged_values, judged_select, select_over, select_from};
+ghost use Rattle.sql_names.specs.Sight.{seen_by, level_by, level_over, inside, column_names};
 
-use crate::expr::{bind_expr, bind_exprs};
-use crate::sight::{Sight, table_columns};
-use crate::values::bind_values;
-use bound_trees::{BoundQuery, BoundSelect, BoundTest};
-use catalog_store::Entry;
-use name_faults::{Fault, FaultKind, note_if};
-use row_types::ColumnType;
-use sql_values::NoMemory;
+use crate::expr::bind_exprs;
+use crate::name_list::NameList;
+use crate::place::anchor_of_row;
+use crate::sight::{Level, Sight, entered};
+use bound_trees::{BoundExpr, BoundFrom, BoundQuery, BoundRow, BoundSelect};
+use catalog_store::{Catalog, Object};
+use name_faults::{FaultKind, Notes, note_if};
+use row_types::{ColumnType, RowType};
+use sql_values::{Name, NoMemory};
+use sqlite_items::Items;
 use std::alloc::Global;
-use syntax_trees::{Query, Select, Test};
+use syntax_trees::{Anchor, FromItem, Ident, Query, Select, ValueRow, Values};
 
-fn bind_filter(
+// A row, with as many expressions as the first row has.
+fn bind_row(
     alloc: Global,
-    filter: &Option<Test>,
+    row: &ValueRow,
+    at: Anchor,
+    width: usize,
     sight: &Sight<'_>,
-    least: &mut Option<Fault>,
-) -> Result<Option<BoundTest>, NoMemory>
-    ensures value { IfOk result (λ f. filter_of (routines (plain sight.now.catalog.now)) f ≡ (resolved_filter (seen_by sight.now) filter.now).value) }
-    ensures faults { OnOk result (least.new ≡ noted least.old (resolved_filter (seen_by sight.now) filter.now).faults) }
+    notes: &mut Notes,
+) -> Result<BoundRow, NoMemory>
+    ensures value { IfOk result (λ r. r ≡ (judged_row at width (seen_by sight.now) row.now).value) }
+    ensures notes { OnOk result (notes.new ≡ taken notes.old (judged_row at width (seen_by sight.now) row.now)) }
 {
-    match filter {
-        None => Ok(None),
-        Some(test) => {
-            let left = bind_expr(alloc, &test.left, sight, least)?;
-            let right = bind_expr(alloc, &test.right, sight, least)?;
-            Ok(Some(BoundTest {
-                left: left.expr,
-                comparison: test.comparison,
-                right: right.expr,
-            }))
+    match row {
+        ValueRow::Row(exprs) => {
+            let exprs = exprs.as_slice();
+            let wrong = exprs.len() != width;
+            note_if(
+                wrong,
+                FaultKind::WrongCount,
+                anchor_of_row(at, exprs),
+                &mut notes.least,
+            );
+            let values = bind_exprs(alloc, exprs, sight, notes)?;
+            Ok(BoundRow { values })
         }
     }
 }
 
-// A SELECT over a row whose columns are in sight.
-fn bind_selection(
+fn bind_rows(
     alloc: Global,
-    select: &Select,
+    rows: &[ValueRow],
+    at: Anchor,
+    width: usize,
     sight: &Sight<'_>,
-    least: &mut Option<Fault>,
-) -> Result<BoundSelect, NoMemory>
-    ensures value { IfOk result (λ s. query_of (routines (plain sight.now.catalog.now)) (bound.Select s) ≡ (select_in (seen_by sight.now) select.now).value) }
-    ensures faults { OnOk result (least.new ≡ noted least.old (select_in (seen_by sight.now) select.now).faults) }
+    notes: &mut Notes,
+) -> Result<Items<BoundRow>, NoMemory>
+    ensures value { IfOk result (λ rs. rs ≡ (judged_rows at width (seen_by sight.now) rows.now).value) }
+    ensures notes { OnOk result (notes.new ≡ taken notes.old (judged_rows at width (seen_by sight.now) rows.now)) }
 {
-    let items = bind_exprs(alloc, select.items.as_slice(), sight, least)?;
-    let filter = bind_filter(alloc, &select.filter, sight, least)?;
-    let table = select.table.name.copied()?;
-    Ok(BoundSelect {
-        items: items.exprs,
-        table,
-        filter,
-    })
+    let mut found = Items::new(alloc);
+    for row in rows {
+        let bound = bind_row(alloc, row, at, width, sight, notes)?;
+        found.push(bound)?;
+    }
+    Ok(found)
 }
 
-fn in_row<'a>(columns: &'a [ColumnType], any_column: bool, catalog: &'a [Entry]) -> Sight<'a>
-    ensures { seen_by result ≡ spec.in_row columns.now any_column (plain catalog.now) }
+fn length_of(row: &ValueRow) -> usize
+    ensures { result ≡ spec.length_of row.now }
 {
-    Sight {
-        columns,
-        any_column,
-        parameters: &[],
-        catalog,
+    match row {
+        ValueRow::Row(exprs) => exprs.len(),
     }
 }
 
-// A SELECT over the table of its name. A table that is not known is taken to have any column.
+// How many expressions the first row has.
+fn width_of(rows: &[ValueRow]) -> usize
+    ensures { result ≡ spec.width_of rows.now }
+{
+    match rows {
+        [first, ..] => length_of(first),
+        [] => 0,
+    }
+}
+
+fn bind_values(
+    alloc: Global,
+    values: &Values,
+    sight: &Sight<'_>,
+    notes: &mut Notes,
+) -> Result<Items<BoundRow>, NoMemory>
+    ensures value { IfOk result (λ rs. rs ≡ (judged_values values.now (seen_by sight.now)).value) }
+    ensures notes { OnOk result (notes.new ≡ taken notes.old (judged_values values.now (seen_by sight.now))) }
+{
+    let rows = values.rows.as_slice();
+    bind_rows(alloc, rows, values.anchor, width_of(rows), sight, notes)
+}
+
+/// The table of a name.
+pub(crate) fn table_named<'a>(name: &Name, catalog: &'a Catalog) -> Option<&'a RowType>
+    ensures { option_copied result ≡ spec.table_named name.now catalog.now }
+{
+    match catalog.get(name) {
+        Some(Object::Table(row_type)) => Some(row_type),
+        Some(Object::Function(_)) => None,
+        None => None,
+    }
+}
+
+// The names of columns.
+fn names_of(alloc: Global, columns: &[ColumnType]) -> Result<NameList, NoMemory>
+    ensures { IfOk result (λ l. l ≡ column_names columns.now) }
+{
+    let mut names = Items::new(alloc);
+    for column in columns {
+        names.push(column.name.copied()?)?;
+    }
+    NameList::of(alloc, names)
+}
+
+fn columns_of(alloc: Global, table: Option<&RowType>) -> Result<NameList, NoMemory>
+    ensures { IfOk result (λ l. l ≡ (level_over (option_copied table.entry)).columns) }
+{
+    match table {
+        Some(row_type) => names_of(alloc, row_type.columns.as_slice()),
+        None => Ok(NameList::new(alloc)),
+    }
+}
+
+fn bound_select(
+    table: &Name,
+    items: Items<BoundExpr>,
+    conjuncts: Items<BoundExpr>,
+) -> Result<BoundQuery, NoMemory>
+    ensures { IfOk result (λ q. q ≡ spec.select_of table.now items conjuncts) }
+{
+    let from = BoundFrom::Table(table.copied()?);
+    Ok(BoundQuery::Select(BoundSelect {
+        items,
+        from,
+        conjuncts,
+    }))
+}
+
+// The list and the conditions, with the columns of FROM in sight.
 fn bind_select(
     alloc: Global,
+    table: &Name,
     select: &Select,
-    catalog: &[Entry],
-    least: &mut Option<Fault>,
-) -> Result<BoundSelect, NoMemory>
-    ensures value { IfOk result (λ s. query_of (routines (plain catalog.now)) (bound.Select s) ≡ (select_over (columns_of select.now.table.name (plain catalog.now)) (plain catalog.now) select.now).value) }
-    ensures faults { OnOk result (least.new ≡ noted least.old (select_over (columns_of select.now.table.name (plain catalog.now)) (plain catalog.now) select.now).faults) }
+    sight: &Sight<'_>,
+    notes: &mut Notes,
+) -> Result<BoundQuery, NoMemory>
+    ensures value { IfOk result (λ q. q ≡ (judged_select table.now select.now (seen_by sight.now)).value) }
+    ensures notes { OnOk result (notes.new ≡ taken notes.old (judged_select table.now select.now (seen_by sight.now))) }
 {
-    match table_columns(catalog, &select.table.name) {
-        Some(columns) => {
-            let bound = bind_selection(alloc, select, &in_row(columns, false, catalog), least)?;
-            Ok(bound)
-        }
-        None => {
-            note_if(true, FaultKind::UnknownName, select.table.anchor, least);
-            let bound = bind_selection(alloc, select, &in_row(&[], true, catalog), least)?;
-            Ok(bound)
-        }
+    let items = bind_exprs(alloc, select.items.as_slice(), sight, notes)?;
+    let conjuncts = bind_exprs(alloc, select.conditions.as_slice(), sight, notes)?;
+    let query = bound_select(table, items, conjuncts)?;
+    Ok(query)
+}
+
+// A SELECT over a level.
+fn bind_in_level(
+    alloc: Global,
+    table: &Name,
+    select: &Select,
+    level: Level<'_>,
+    outside: &Sight<'_>,
+    notes: &mut Notes,
+) -> Result<BoundQuery, NoMemory>
+    ensures value { IfOk result (λ q. q ≡ (judged_select table.now select.now (inside (level_by level.entry) (seen_by outside.now))).value) }
+    ensures notes { OnOk result (notes.new ≡ taken notes.old (judged_select table.now select.now (inside (level_by level.entry) (seen_by outside.now)))) }
+{
+    let levels = entered(alloc, level, outside.levels)?;
+    let sight = Sight {
+        levels: levels.as_slice(),
+        variables: outside.variables,
+        catalog: outside.catalog,
+    };
+    bind_select(alloc, table, select, &sight, notes)
+}
+
+// A SELECT over a table. One that is not known is taken to have any column.
+fn bind_over(
+    alloc: Global,
+    table: &Ident,
+    select: &Select,
+    outside: &Sight<'_>,
+    notes: &mut Notes,
+) -> Result<BoundQuery, NoMemory>
+    ensures value { IfOk result (λ q. q ≡ (select_over table.now (spec.table_named table.now.name outside.now.catalog.now) select.now (seen_by outside.now)).value) }
+    ensures notes { OnOk result (notes.new ≡ taken notes.old (select_over table.now (spec.table_named table.now.name outside.now.catalog.now) select.now (seen_by outside.now))) }
+{
+    let row_type = table_named(&table.name, outside.catalog);
+    let unknown = row_type.is_none();
+    note_if(
+        unknown,
+        FaultKind::UnknownName,
+        table.anchor,
+        &mut notes.least,
+    );
+    let columns = columns_of(alloc, row_type)?;
+    let level = Level {
+        columns: &columns,
+        unknown,
+    };
+    bind_in_level(alloc, &table.name, select, level, outside, notes)
+}
+
+fn bind_from(
+    alloc: Global,
+    select: &Select,
+    outside: &Sight<'_>,
+    notes: &mut Notes,
+) -> Result<BoundQuery, NoMemory>
+    ensures value { IfOk result (λ q. q ≡ (select_from select.now.from select.now (seen_by outside.now)).value) }
+    ensures notes { OnOk result (notes.new ≡ taken notes.old (select_from select.now.from select.now (seen_by outside.now))) }
+{
+    match select.from.as_slice() {
+        [FromItem::Table(table), ..] => bind_over(alloc, table, select, outside, notes),
+        [] => Ok(BoundQuery::Values(Items::new(alloc))),
     }
 }
 
-/// A query with its names resolved, and its faults noted: the table is not known, a row of VALUES has another length than the first, or a name
-/// stands for nothing.
+/// A query with its names resolved, and what is noted on the way.
 pub(crate) fn bind_query(
     alloc: Global,
     query: &Query,
-    catalog: &[Entry],
-    least: &mut Option<Fault>,
+    outside: &Sight<'_>,
+    notes: &mut Notes,
 ) -> Result<BoundQuery, NoMemory>
-    ensures value { IfOk result (λ q. query_of (routines (plain catalog.now)) q ≡ (resolved_query (plain catalog.now) query.now).value) }
-    ensures faults { OnOk result (least.new ≡ noted least.old (resolved_query (plain catalog.now) query.now).faults) }
+    ensures value { IfOk result (λ q. q ≡ (spec.judge_query query.now (seen_by outside.now)).value) }
+    ensures notes { OnOk result (notes.new ≡ taken notes.old (spec.judge_query query.now (seen_by outside.now))) }
 {
     match query {
-        Query::Select(select) => {
-            let bound = bind_select(alloc, select, catalog, least)?;
-            Ok(BoundQuery::Select(bound))
-        }
+        Query::Select(select) => bind_from(alloc, select, outside, notes),
         Query::Values(values) => {
-            let rows = bind_values(alloc, values, catalog, least)?;
+            let rows = bind_values(alloc, values, outside, notes)?;
             Ok(BoundQuery::Values(rows))
         }
+    }
+}
+
+/// How many columns a query has.
+pub(crate) fn width(query: &Query) -> usize
+    ensures { result ≡ spec.width query.now }
+{
+    match query {
+        Query::Select(select) => select.items.len(),
+        Query::Values(values) => width_of(values.rows.as_slice()),
+    }
+}
+
+/// The word SELECT or VALUES.
+pub(crate) fn anchor_of_query(query: &Query) -> Anchor
+    ensures { result ≡ spec.anchor_of_query query.now }
+{
+    match query {
+        Query::Select(select) => select.anchor,
+        Query::Values(values) => values.anchor,
     }
 }

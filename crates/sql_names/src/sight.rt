@@ -1,65 +1,103 @@
-//! The names in sight of an expression.
+//! The names in sight, and what a name stands for.
 
-ghost use Rattle.std.specs.Prelude.{◌≡◌, MatchOption, None, Some, position};
-ghost use Rattle.std.specs.Str.{bytes_eq};
-ghost use Rattle.sql_names.specs.Sight.{place_of, parameter_names, names_of};
-ghost use Rattle.sql_names.specs.Statements.{columns_of};
-ghost use Rattle.catalog_store.specs.View.{plain};
+ghost use Rattle.std.specs.Prelude.{◌≡◌, ◌∷◌, IfOk, map};
+ghost use Rattle.std.specs.List.{list_any};
+ghost use Rattle.sql_names.specs.Sight as spec;
+ghost use Rattle.sql_names.specs.Sight.{seen_by, level_by};
 
-use catalog_store::{Entry, Object, find};
-use row_types::ColumnType;
-use sql_values::Name;
-use syntax_trees::Parameter;
+use crate::name_list::NameList;
+use catalog_store::Catalog;
+use sql_values::{Name, NoMemory};
+use std::alloc::Global;
 
-/// What the names of an expression may stand for: the columns of the row in sight, the parameters of the function, and the catalog's
-/// functions. A row of a table that is not known is taken to have any column.
+/// What a query brings in sight: the columns of the known items of its FROM, and whether an item is
+/// not known. Such an item is taken to have each column that no other item in sight has.
+#[derive(Clone, Copy)]
+pub struct Level<'a> {
+    pub columns: &'a NameList,
+    pub unknown: bool,
+}
+
+/// The queries around an expression, the innermost first, the variables and parameters, and the
+/// catalog.
 #[derive(Clone, Copy)]
 pub struct Sight<'a> {
-    pub columns: &'a [ColumnType],
-    pub any_column: bool,
-    pub parameters: &'a [Parameter],
-    pub catalog: &'a [Entry],
+    pub levels: &'a [Level<'a>],
+    pub variables: &'a NameList,
+    pub catalog: &'a Catalog,
 }
 
-/// The place of the first column of a name.
-pub(crate) fn column_place(columns: &[ColumnType], name: &Name) -> Option<usize>
-    ensures { result ≡ place_of name.now (names_of columns.now) }
-{
-    let place = first_column(columns, name);
-    place
+/// What a name stands for.
+#[derive(Clone, Copy)]
+pub enum Found {
+    /// So many queries outwards, the column of this place.
+    Column(usize, usize),
+    /// A column of an item that is not known.
+    Guessed,
+    /// The variable or parameter of this place.
+    Variable(usize),
+    Unknown,
 }
 
-fn first_column(columns: &[ColumnType], name: &Name) -> Option<usize>
-    ensures { result ≡ position (λ c. bytes_eq c.name name.now) columns.now }
+fn any_unknown(levels: &[Level<'_>]) -> bool
+    ensures { result ≡ list_any (λ l. l.unknown) (map level_by levels.now) }
 {
-    columns.iter().position(|column| column.name.is(name))
-}
-
-/// The place of the first parameter of a name.
-pub(crate) fn parameter_place(parameters: &[Parameter], name: &Name) -> Option<usize>
-    ensures { result ≡ place_of name.now (parameter_names parameters.now) }
-{
-    let place = first_parameter(parameters, name);
-    place
-}
-
-fn first_parameter(parameters: &[Parameter], name: &Name) -> Option<usize>
-    ensures { result ≡ position (λ p. bytes_eq p.name.name name.now) parameters.now }
-{
-    parameters
-        .iter()
-        .position(|parameter| parameter.name.name.is(name))
-}
-
-/// The columns of the table of a name; `None` exactly where no table has it.
-pub(crate) fn table_columns<'a>(catalog: &'a [Entry], name: &Name) -> Option<&'a [ColumnType]>
-    ensures { MatchOption result (columns_of name.now (plain catalog.now) ≡ None) (λ cs. columns_of name.now (plain catalog.now) ≡ Some cs.now) }
-{
-    match find(catalog, name) {
-        Some(found) => match &found.entry.object {
-            Object::Table(table) => Some(table.columns.as_slice()),
-            Object::Function(_) => None,
-        },
-        None => None,
+    for level in levels {
+        if level.unknown {
+            return true;
+        }
     }
+    false
+}
+
+fn guessed(unknown: bool, other: Found) -> Found
+    ensures { result ≡ spec.guessed unknown other }
+{
+    if unknown { Found::Guessed } else { other }
+}
+
+fn variable(place: Option<usize>) -> Found
+    ensures { result ≡ spec.variable place }
+{
+    match place {
+        Some(place) => Found::Variable(place),
+        None => Found::Unknown,
+    }
+}
+
+// A column of a known item, of the innermost query outwards.
+fn outwards(name: &Name, levels: &[Level<'_>], other: Found) -> Found
+    ensures { result ≡ spec.outwards name.now 0 (map level_by levels.now) other }
+{
+    for (depth, level) in levels.iter().enumerate() {
+        if let Some(place) = level.columns.place(name) {
+            return Found::Column(depth, place);
+        }
+    }
+    other
+}
+
+/// A column of a known item, then of any that is not known, then a variable or parameter.
+pub(crate) fn stands_for(name: &Name, sight: &Sight<'_>) -> Found
+    ensures { result ≡ spec.stands_for name.now (seen_by sight.now) }
+{
+    let other = variable(sight.variables.place(name));
+    let other = guessed(any_unknown(sight.levels), other);
+    outwards(name, sight.levels, other)
+}
+
+/// The levels inside a query.
+pub(crate) fn entered<'a>(
+    alloc: Global,
+    inner: Level<'a>,
+    outside: &'a [Level<'a>],
+) -> Result<Vec<Level<'a>>, NoMemory>
+    ensures { IfOk result (λ ls. map level_by ls.items ≡ level_by inner.entry ∷ map level_by outside.now) }
+{
+    let mut levels = Vec::new(alloc);
+    levels.push(inner)?;
+    for outer in outside {
+        levels.push(*outer)?;
+    }
+    Ok(levels)
 }

@@ -1,68 +1,129 @@
 //! Statements: the public call.
 
 ghost use Rattle.std.specs.Prelude.{◌≡◌, IfOk, OnOk};
-ghost use Rattle.catalog_store.specs.Catalog.{routines};
-ghost use Rattle.catalog_store.specs.View.{plain};
 ghost use Rattle.name_faults.specs.Faults.{noted};
-ghost use Rattle.sql_names.specs.Statements.{resolved_statement};
-ghost use Rattle.sql_names.specs.Binds.{Binds, statement_of};
+ghost use Rattle.sql_names.specs.Sight.{at_top};
+ghost use Rattle.sql_names.specs.Queries.{judge_query};
+ghost use Rattle.sql_names.specs.Queries as known;
+ghost use Rattle.sql_names.specs.Statements.{judged_insert, judged_statement};
+ghost use Rattle.sql_names.specs.Statements as spec;
+ghost use Rattle.sql_names.specs.Binds.{Binds, CreateFits};
 
 use crate::create::bind_table;
 use crate::fault::NameFault;
 use crate::function::bind_function;
-use crate::insert::bind_insert;
-use crate::query::bind_query;
+use crate::name_list::NameList;
+use crate::query::{anchor_of_query, bind_query, table_named, width};
+use crate::sight::Sight;
 use bound_trees::{BoundInsert, BoundQuery};
-use catalog_store::Entry;
-use name_faults::Fault;
-use sql_values::NoMemory;
+use catalog_store::{Catalog, Object};
+use name_faults::{Fault, FaultKind, Notes, note_if};
+use sql_values::{Name, NoMemory};
 use std::alloc::Global;
-use syntax_trees::Stmt;
+use syntax_trees::{Insert, Query, Stmt};
 
 /// A statement with its names resolved.
 #[derive(Drop)]
 pub enum BoundStmt {
     /// A new entry of the catalog.
-    Create(Entry),
+    Create(Name, Object),
     /// New rows of a table.
     Insert(BoundInsert),
     /// A query.
     Query(BoundQuery),
 }
 
+// A query outside of which no name is in sight but those of the catalog.
+fn bind_top_query(
+    alloc: Global,
+    query: &Query,
+    catalog: &Catalog,
+    least: &mut Option<Fault>,
+) -> Result<BoundQuery, NoMemory>
+    ensures value { IfOk result (λ q. q ≡ (judge_query query.now (at_top catalog.now)).value) }
+    ensures faults { OnOk result (least.new ≡ noted least.old (judge_query query.now (at_top catalog.now)).faults) }
+{
+    let none = NameList::new(alloc);
+    let sight = Sight {
+        levels: &[],
+        variables: &none,
+        catalog,
+    };
+    let mut notes = Notes::behind(alloc, *least);
+    let bound = bind_query(alloc, query, &sight, &mut notes)?;
+    *least = notes.least;
+    Ok(bound)
+}
+
+// Whether the table is known, and has as many columns as the query.
+fn judge_target(insert: &Insert, catalog: &Catalog, least: &mut Option<Fault>)
+    ensures { least.new ≡ noted least.old (spec.table_faults insert.now (known.table_named insert.now.table.name catalog.now)) }
+{
+    match table_named(&insert.table.name, catalog) {
+        Some(row_type) => {
+            let wrong = width(&insert.source) != row_type.columns.len();
+            note_if(
+                wrong,
+                FaultKind::WrongCount,
+                anchor_of_query(&insert.source),
+                least,
+            );
+        }
+        None => note_if(true, FaultKind::UnknownName, insert.table.anchor, least),
+    }
+}
+
+// An INSERT with its names resolved, and its faults noted.
+fn bind_insert(
+    alloc: Global,
+    insert: &Insert,
+    catalog: &Catalog,
+    least: &mut Option<Fault>,
+) -> Result<BoundInsert, NoMemory>
+    ensures value { IfOk result (λ b. b ≡ (judged_insert insert.now catalog.now).value) }
+    ensures faults { OnOk result (least.new ≡ noted least.old (judged_insert insert.now catalog.now).faults) }
+{
+    judge_target(insert, catalog, least);
+    let source = bind_top_query(alloc, &insert.source, catalog, least)?;
+    let table = insert.table.name.copied()?;
+    Ok(BoundInsert { table, source })
+}
+
 fn bind_parts(
     alloc: Global,
     stmt: &Stmt,
-    catalog: &[Entry],
+    catalog: &Catalog,
     least: &mut Option<Fault>,
 ) -> Result<BoundStmt, NoMemory>
-    ensures value { IfOk result (λ b. statement_of (routines (plain catalog.now)) b ≡ (resolved_statement (plain catalog.now) stmt.now).value) }
-    ensures faults { OnOk result (least.new ≡ noted least.old (resolved_statement (plain catalog.now) stmt.now).faults) }
+    ensures value { IfOk result (λ b. b ≡ (judged_statement stmt.now catalog.now).value) }
+    ensures faults { OnOk result (least.new ≡ noted least.old (judged_statement stmt.now catalog.now).faults) }
 {
     match stmt {
         Stmt::CreateTable(create) => {
-            let entry = bind_table(alloc, create, catalog, least)?;
-            Ok(BoundStmt::Create(entry))
+            let object = bind_table(alloc, create, catalog, least)?;
+            Ok(BoundStmt::Create(create.name.name.copied()?, object))
         }
         Stmt::CreateFunction(create) => {
-            let entry = bind_function(alloc, create, catalog, least)?;
-            Ok(BoundStmt::Create(entry))
+            let object = bind_function(alloc, create, catalog, least)?;
+            Ok(BoundStmt::Create(create.name.name.copied()?, object))
         }
         Stmt::Insert(insert) => {
             let bound = bind_insert(alloc, insert, catalog, least)?;
             Ok(BoundStmt::Insert(bound))
         }
         Stmt::Query(query) => {
-            let bound = bind_query(alloc, query, catalog, least)?;
+            let bound = bind_top_query(alloc, query, catalog, least)?;
             Ok(BoundStmt::Query(bound))
         }
     }
 }
 
-/// A statement with its names resolved. Fault: exactly where it has a fault, and then the least, by place and then kind.
-#[tactic(auto, using(name_faults::proofs::Sooner::is_free))]
-pub fn bind_statement(alloc: Global, stmt: &Stmt, catalog: &[Entry]) -> Result<BoundStmt, NameFault>
-    ensures { Binds (resolved_statement (plain catalog.now) stmt.now) (statement_of (routines (plain catalog.now))) result }
+/// A statement with its names resolved. Fault: exactly where it has a fault, and then the least, by
+/// place and then kind. What is made has a free name, and fits the catalog.
+#[tactic(auto, using(name_faults::proofs::Laws::is_free, crate::proofs::Made::bound_fits))]
+pub fn bind_statement(alloc: Global, stmt: &Stmt, catalog: &Catalog) -> Result<BoundStmt, NameFault>
+    ensures binds { Binds (judged_statement stmt.now catalog.now) result }
+    ensures fits { IfOk result (CreateFits catalog.now) }
 {
     let mut least = None;
     let bound = bind_parts(alloc, stmt, catalog, &mut least)?;

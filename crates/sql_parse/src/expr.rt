@@ -3,7 +3,8 @@
 ghost use Rattle.std.specs.Prelude.{◌≡◌, ◌∷◌, IfOk};
 ghost use Rattle.token_grammar.specs.Reading.{begins, first, reading};
 ghost use Rattle.token_grammar.specs.Reads.{Reads};
-ghost use Rattle.sql_grammar.specs.Sql as g;
+ghost use Rattle.sql_grammar.specs.Trees as trees;
+ghost use Rattle.sql_grammar.specs.Expressions as expressions;
 ghost use Rattle.sql_grammar.specs.Sql.{rules};
 
 use crate::place::{anchor, anchor_in, ident};
@@ -28,9 +29,18 @@ pub(crate) fn with_first<T: Drop>(
     Ok(all)
 }
 
+/// A list of one.
+pub(crate) fn only<T: Drop>(alloc: Global, item: T) -> Result<Items<T>, AllocError>
+    ensures { IfOk result (λ all. all ≡ trees.only item) }
+{
+    let mut all = Items::new(alloc);
+    all.push(item)?;
+    Ok(all)
+}
+
 // A chain of one is no chain.
 fn chained(alloc: Global, first: Expr, links: Items<Link>) -> Result<Expr, AllocError>
-    ensures { IfOk result (λ e. e ≡ g.chain first links) }
+    ensures { IfOk result (λ e. e ≡ expressions.chain first links) }
 {
     if links.is_empty() {
         Ok(first)
@@ -39,36 +49,38 @@ fn chained(alloc: Global, first: Expr, links: Items<Link>) -> Result<Expr, Alloc
     }
 }
 
-#[tactic(auto, unfolding(token_grammar::specs::Reading::same_kind, sql_grammar::specs::Sql::exprs, sql_grammar::specs::Sql::expr, sql_grammar::specs::Sql::term, sql_grammar::specs::Sql::signed, sql_grammar::specs::Sql::if_sign, sql_grammar::specs::Sql::unary_sign, sql_grammar::specs::Sql::primary, sql_grammar::specs::Sql::named, sql_grammar::specs::Sql::ident, sql_grammar::specs::Sql::bracketed))]
+#[tactic(auto, unfolding(token_grammar::specs::Reading::same_kind, sql_grammar::specs::Expressions::exprs, sql_grammar::specs::Expressions::expr, sql_grammar::specs::Expressions::term, sql_grammar::specs::Expressions::signed, sql_grammar::specs::Expressions::if_sign, sql_grammar::specs::Expressions::unary_sign, sql_grammar::specs::Expressions::primary, sql_grammar::specs::Expressions::named, sql_grammar::specs::Trees::ident, sql_grammar::specs::Trees::bracketed))]
 fn begins_exprs(input: &Input<'_>) -> bool
-    ensures { result ≡ begins (first g.exprs) input.now.rest.now }
+    ensures { result ≡ begins (first expressions.exprs) input.now.rest.now }
 {
-    input.sees(Kind::Sign(Sign::Plus))
-        || input.sees(Kind::Sign(Sign::Minus))
-        || input.sees(Kind::Number)
-        || input.sees(Kind::Word(Word::Null))
-        || input.sees(Kind::Name)
-        || input.sees(Kind::Sign(Sign::LeftParen))
+    input.sees_any(&[
+        Kind::Sign(Sign::Plus),
+        Kind::Sign(Sign::Minus),
+        Kind::Number,
+        Kind::Word(Word::Null),
+        Kind::Name,
+        Kind::Sign(Sign::LeftParen),
+    ])
 }
 
-#[tactic(auto, unfolding(sql_grammar::specs::Sql::factor_operator, sql_grammar::specs::Sql::factor))]
+#[tactic(auto, unfolding(sql_grammar::specs::Expressions::factor_operator, sql_grammar::specs::Expressions::factor))]
 fn begins_factor(input: &Input<'_>) -> bool
-    ensures { result ≡ begins (first g.factor) input.now.rest.now }
+    ensures { result ≡ begins (first expressions.factor) input.now.rest.now }
 {
-    input.sees(Kind::Sign(Sign::Asterisk)) || input.sees(Kind::Sign(Sign::Solidus))
+    input.sees_any(&[Kind::Sign(Sign::Asterisk), Kind::Sign(Sign::Solidus)])
 }
 
-#[tactic(auto, unfolding(sql_grammar::specs::Sql::addend_operator, sql_grammar::specs::Sql::addend))]
+#[tactic(auto, unfolding(sql_grammar::specs::Expressions::addend_operator, sql_grammar::specs::Expressions::addend))]
 fn begins_addend(input: &Input<'_>) -> bool
-    ensures { result ≡ begins (first g.addend) input.now.rest.now }
+    ensures { result ≡ begins (first expressions.addend) input.now.rest.now }
 {
-    input.sees(Kind::Sign(Sign::Plus)) || input.sees(Kind::Sign(Sign::Minus))
+    input.sees_any(&[Kind::Sign(Sign::Plus), Kind::Sign(Sign::Minus)])
 }
 
-#[tactic(auto, unfolding(sql_grammar::specs::Sql::primary, sql_grammar::specs::Sql::named, sql_grammar::specs::Sql::ident))]
+#[tactic(auto, unfolding(sql_grammar::specs::Expressions::primary, sql_grammar::specs::Expressions::named, sql_grammar::specs::Trees::ident))]
 #[cycle(parser)]
 fn primary(alloc: Global, input: &mut Input<'_>, room: u32) -> Result<Expr, ParseError>
-    ensures { Reads (reading rules room g.primary input.old.rest.now) result input.new.rest.now }
+    ensures { Reads (reading rules room expressions.primary input.old.rest.now) result input.new.rest.now }
 {
     if input.sees(Kind::Number) {
         let token = input.expect(Kind::Number)?;
@@ -84,10 +96,10 @@ fn primary(alloc: Global, input: &mut Input<'_>, room: u32) -> Result<Expr, Pars
     in_brackets(alloc, input, room)
 }
 
-#[tactic(auto, unfolding(sql_grammar::specs::Sql::bracketed))]
+#[tactic(auto, unfolding(sql_grammar::specs::Trees::bracketed))]
 #[cycle(parser)]
 fn in_brackets(alloc: Global, input: &mut Input<'_>, room: u32) -> Result<Expr, ParseError>
-    ensures { Reads (reading rules room (g.bracketed g.Bracketed) input.old.rest.now) result input.new.rest.now }
+    ensures { Reads (reading rules room (trees.bracketed trees.Bracketed) input.old.rest.now) result input.new.rest.now }
 {
     let left = input.open(room, Kind::Sign(Sign::LeftParen))?;
     let inner = expr(alloc, input, left)?;
@@ -95,9 +107,9 @@ fn in_brackets(alloc: Global, input: &mut Input<'_>, room: u32) -> Result<Expr, 
 }
 
 // A sign, with its anchor.
-#[tactic(auto, unfolding(sql_grammar::specs::Sql::unary_sign))]
+#[tactic(auto, unfolding(sql_grammar::specs::Expressions::unary_sign))]
 fn unary_sign(input: &mut Input<'_>, room: u32) -> Result<(UnarySign, Anchor), ParseError>
-    ensures { Reads (reading rules room g.unary_sign input.old.rest.now) result input.new.rest.now }
+    ensures { Reads (reading rules room expressions.unary_sign input.old.rest.now) result input.new.rest.now }
 {
     let anchor = anchor(input);
     if input.eat(Kind::Sign(Sign::Plus)) {
@@ -107,24 +119,24 @@ fn unary_sign(input: &mut Input<'_>, room: u32) -> Result<(UnarySign, Anchor), P
     Ok((UnarySign::Minus, anchor))
 }
 
-#[tactic(auto, unfolding(sql_grammar::specs::Sql::if_sign, sql_grammar::specs::Sql::unary_sign))]
+#[tactic(auto, unfolding(sql_grammar::specs::Expressions::if_sign, sql_grammar::specs::Expressions::unary_sign))]
 fn if_sign(input: &mut Input<'_>, room: u32) -> Result<Option<(UnarySign, Anchor)>, ParseError>
-    ensures { Reads (reading rules room g.if_sign input.old.rest.now) result input.new.rest.now }
+    ensures { Reads (reading rules room expressions.if_sign input.old.rest.now) result input.new.rest.now }
 {
-    if input.sees(Kind::Sign(Sign::Plus)) || input.sees(Kind::Sign(Sign::Minus)) {
+    if input.sees_any(&[Kind::Sign(Sign::Plus), Kind::Sign(Sign::Minus)]) {
         Ok(Some(unary_sign(input, room)?))
     } else {
         Ok(None)
     }
 }
 
-// An operand behind its sign, if it has one.
+// An operand after its sign, if it has one.
 fn with_sign(
     alloc: Global,
     sign: Option<(UnarySign, Anchor)>,
     operand: Expr,
 ) -> Result<Expr, AllocError>
-    ensures { IfOk result (λ e. e ≡ g.with_sign sign operand) }
+    ensures { IfOk result (λ e. e ≡ expressions.with_sign sign operand) }
 {
     match sign {
         None => Ok(operand),
@@ -132,20 +144,20 @@ fn with_sign(
     }
 }
 
-#[tactic(auto, unfolding(sql_grammar::specs::Sql::signed))]
+#[tactic(auto, unfolding(sql_grammar::specs::Expressions::signed))]
 #[cycle(parser)]
 fn signed(alloc: Global, input: &mut Input<'_>, room: u32) -> Result<Expr, ParseError>
-    ensures { Reads (reading rules room g.signed input.old.rest.now) result input.new.rest.now }
+    ensures { Reads (reading rules room expressions.signed input.old.rest.now) result input.new.rest.now }
 {
     let sign = if_sign(input, room)?;
     let operand = primary(alloc, input, room)?;
     Ok(with_sign(alloc, sign, operand)?)
 }
 
-#[tactic(auto, unfolding(sql_grammar::specs::Sql::named, sql_grammar::specs::Sql::bracketed))]
+#[tactic(auto, unfolding(sql_grammar::specs::Expressions::named, sql_grammar::specs::Trees::bracketed))]
 #[cycle(parser)]
 fn named(alloc: Global, input: &mut Input<'_>, room: u32) -> Result<Expr, ParseError>
-    ensures { Reads (reading rules room g.named input.old.rest.now) result input.new.rest.now }
+    ensures { Reads (reading rules room expressions.named input.old.rest.now) result input.new.rest.now }
 {
     let name = ident(input, room)?;
     if input.sees(Kind::Sign(Sign::LeftParen)) {
@@ -154,10 +166,10 @@ fn named(alloc: Global, input: &mut Input<'_>, room: u32) -> Result<Expr, ParseE
     Ok(Expr::Name(name))
 }
 
-#[tactic(auto, unfolding(sql_grammar::specs::Sql::bracketed))]
+#[tactic(auto, unfolding(sql_grammar::specs::Trees::bracketed))]
 #[cycle(parser)]
 fn arguments(alloc: Global, input: &mut Input<'_>, room: u32) -> Result<Items<Expr>, ParseError>
-    ensures { Reads (reading rules room (g.bracketed g.Arguments) input.old.rest.now) result input.new.rest.now }
+    ensures { Reads (reading rules room (trees.bracketed trees.Arguments) input.old.rest.now) result input.new.rest.now }
 {
     let left = input.open(room, Kind::Sign(Sign::LeftParen))?;
     let inner = in_arguments(alloc, input, left)?;
@@ -166,7 +178,7 @@ fn arguments(alloc: Global, input: &mut Input<'_>, room: u32) -> Result<Items<Ex
 
 #[cycle(parser)]
 fn in_arguments(alloc: Global, input: &mut Input<'_>, room: u32) -> Result<Items<Expr>, ParseError>
-    ensures { Reads (reading rules room (rules g.Arguments) input.old.rest.now) result input.new.rest.now }
+    ensures { Reads (reading rules room (rules trees.Arguments) input.old.rest.now) result input.new.rest.now }
 {
     if begins_exprs(input) {
         exprs(alloc, input, room)
@@ -175,10 +187,10 @@ fn in_arguments(alloc: Global, input: &mut Input<'_>, room: u32) -> Result<Items
     }
 }
 
-#[tactic(auto, unfolding(sql_grammar::specs::Sql::factor, sql_grammar::specs::Sql::factor_operator))]
+#[tactic(auto, unfolding(sql_grammar::specs::Expressions::factor, sql_grammar::specs::Expressions::factor_operator))]
 #[cycle(parser)]
 fn factor(alloc: Global, input: &mut Input<'_>, room: u32) -> Result<Link, ParseError>
-    ensures { Reads (reading rules room g.factor input.old.rest.now) result input.new.rest.now }
+    ensures { Reads (reading rules room expressions.factor input.old.rest.now) result input.new.rest.now }
 {
     let anchor = anchor(input);
     let operator = if input.eat(Kind::Sign(Sign::Asterisk)) {
@@ -195,10 +207,10 @@ fn factor(alloc: Global, input: &mut Input<'_>, room: u32) -> Result<Link, Parse
     })
 }
 
-#[tactic(auto, unfolding(sql_grammar::specs::Sql::factors, sql_grammar::specs::Sql::factor))]
+#[tactic(auto, unfolding(sql_grammar::specs::Expressions::factors, sql_grammar::specs::Expressions::factor))]
 #[cycle(parser)]
 fn factors(alloc: Global, input: &mut Input<'_>, room: u32) -> Result<Items<Link>, ParseError>
-    ensures { Reads (reading rules room g.factors input.old.rest.now) result input.new.rest.now }
+    ensures { Reads (reading rules room expressions.factors input.old.rest.now) result input.new.rest.now }
 {
     let mut found = Items::new(alloc);
     'more: while begins_factor(input) {
@@ -210,20 +222,20 @@ fn factors(alloc: Global, input: &mut Input<'_>, room: u32) -> Result<Items<Link
     Ok(found)
 }
 
-#[tactic(auto, unfolding(sql_grammar::specs::Sql::term))]
+#[tactic(auto, unfolding(sql_grammar::specs::Expressions::term))]
 #[cycle(parser)]
 fn term(alloc: Global, input: &mut Input<'_>, room: u32) -> Result<Expr, ParseError>
-    ensures { Reads (reading rules room g.term input.old.rest.now) result input.new.rest.now }
+    ensures { Reads (reading rules room expressions.term input.old.rest.now) result input.new.rest.now }
 {
     let first = signed(alloc, input, room)?;
     let links = factors(alloc, input, room)?;
     Ok(chained(alloc, first, links)?)
 }
 
-#[tactic(auto, unfolding(sql_grammar::specs::Sql::addend, sql_grammar::specs::Sql::addend_operator))]
+#[tactic(auto, unfolding(sql_grammar::specs::Expressions::addend, sql_grammar::specs::Expressions::addend_operator))]
 #[cycle(parser)]
 fn addend(alloc: Global, input: &mut Input<'_>, room: u32) -> Result<Link, ParseError>
-    ensures { Reads (reading rules room g.addend input.old.rest.now) result input.new.rest.now }
+    ensures { Reads (reading rules room expressions.addend input.old.rest.now) result input.new.rest.now }
 {
     let anchor = anchor(input);
     let operator = if input.eat(Kind::Sign(Sign::Plus)) {
@@ -240,10 +252,10 @@ fn addend(alloc: Global, input: &mut Input<'_>, room: u32) -> Result<Link, Parse
     })
 }
 
-#[tactic(auto, unfolding(sql_grammar::specs::Sql::addends, sql_grammar::specs::Sql::addend))]
+#[tactic(auto, unfolding(sql_grammar::specs::Expressions::addends, sql_grammar::specs::Expressions::addend))]
 #[cycle(parser)]
 fn addends(alloc: Global, input: &mut Input<'_>, room: u32) -> Result<Items<Link>, ParseError>
-    ensures { Reads (reading rules room g.addends input.old.rest.now) result input.new.rest.now }
+    ensures { Reads (reading rules room expressions.addends input.old.rest.now) result input.new.rest.now }
 {
     let mut found = Items::new(alloc);
     'more: while begins_addend(input) {
@@ -255,20 +267,20 @@ fn addends(alloc: Global, input: &mut Input<'_>, room: u32) -> Result<Items<Link
     Ok(found)
 }
 
-#[tactic(auto, unfolding(sql_grammar::specs::Sql::expr))]
+#[tactic(auto, unfolding(sql_grammar::specs::Expressions::expr))]
 #[cycle(parser)]
 pub(crate) fn expr(alloc: Global, input: &mut Input<'_>, room: u32) -> Result<Expr, ParseError>
-    ensures { Reads (reading rules room g.expr input.old.rest.now) result input.new.rest.now }
+    ensures { Reads (reading rules room expressions.expr input.old.rest.now) result input.new.rest.now }
 {
     let first = term(alloc, input, room)?;
     let links = addends(alloc, input, room)?;
     Ok(chained(alloc, first, links)?)
 }
 
-#[tactic(auto, unfolding(sql_grammar::specs::Sql::more_exprs))]
+#[tactic(auto, unfolding(sql_grammar::specs::Expressions::more_exprs))]
 #[cycle(parser)]
 fn more_exprs(alloc: Global, input: &mut Input<'_>, room: u32) -> Result<Items<Expr>, ParseError>
-    ensures { Reads (reading rules room g.more_exprs input.old.rest.now) result input.new.rest.now }
+    ensures { Reads (reading rules room expressions.more_exprs input.old.rest.now) result input.new.rest.now }
 {
     let mut found = Items::new(alloc);
     'more: while input.eat(Kind::Sign(Sign::Comma)) {
@@ -280,14 +292,14 @@ fn more_exprs(alloc: Global, input: &mut Input<'_>, room: u32) -> Result<Items<E
     Ok(found)
 }
 
-#[tactic(auto, unfolding(sql_grammar::specs::Sql::exprs))]
+#[tactic(auto, unfolding(sql_grammar::specs::Expressions::exprs))]
 #[cycle(parser)]
 pub(crate) fn exprs(
     alloc: Global,
     input: &mut Input<'_>,
     room: u32,
 ) -> Result<Items<Expr>, ParseError>
-    ensures { Reads (reading rules room g.exprs input.old.rest.now) result input.new.rest.now }
+    ensures { Reads (reading rules room expressions.exprs input.old.rest.now) result input.new.rest.now }
 {
     let first = expr(alloc, input, room)?;
     let more = more_exprs(alloc, input, room)?;

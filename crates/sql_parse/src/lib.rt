@@ -1,5 +1,5 @@
-//! The parser, by recursive descent. Each function gives what the grammar's reader gives for its rule, and where it fails leaves
-//! the input at the token that does not go on with what was read.
+//! The parser, by recursive descent. Each function gives what the grammar's reader gives for its
+//! rule, and where it fails leaves the input at the token that does not go on with what was read.
 #![tactic(auto)]
 
 mod create;
@@ -9,6 +9,8 @@ mod parse;
 mod place;
 mod query;
 mod statement;
+#[cfg(test)]
+mod tests;
 mod values;
 
 pub use parse::{parse_ddl, parse_dml, parse_query, parse_statement};

@@ -3,7 +3,8 @@
 ghost use Rattle.std.specs.Prelude.{◌≡◌};
 ghost use Rattle.token_grammar.specs.Reading.{reading};
 ghost use Rattle.token_grammar.specs.Reads.{Reads};
-ghost use Rattle.sql_grammar.specs.Sql as g;
+ghost use Rattle.sql_grammar.specs.Writing as writing;
+ghost use Rattle.sql_grammar.specs.Sql as sql;
 ghost use Rattle.sql_grammar.specs.Sql.{rules};
 
 use crate::create::ddl;
@@ -15,16 +16,16 @@ use syntax_trees::Stmt;
 use token_grammar::{Input, ParseError};
 
 /// A statement that changes data.
-#[tactic(auto, unfolding(sql_grammar::specs::Sql::dml))]
+#[tactic(auto, unfolding(sql_grammar::specs::Writing::dml))]
 pub(crate) fn dml(alloc: Global, input: &mut Input<'_>, room: u32) -> Result<Stmt, ParseError>
-    ensures { Reads (reading rules room g.dml input.old.rest.now) result input.new.rest.now }
+    ensures { Reads (reading rules room writing.dml input.old.rest.now) result input.new.rest.now }
 {
     Ok(Stmt::Insert(insert(alloc, input, room)?))
 }
 
-#[tactic(auto, unfolding(sql_grammar::specs::Sql::unended, sql_grammar::specs::Sql::ddl, sql_grammar::specs::Sql::dml, sql_grammar::specs::Sql::insert))]
+#[tactic(auto, unfolding(sql_grammar::specs::Sql::unended, sql_grammar::specs::Definitions::ddl, sql_grammar::specs::Definitions::create_word, sql_grammar::specs::Writing::dml, sql_grammar::specs::Writing::insert, sql_grammar::specs::Writing::insert_word))]
 fn unended(alloc: Global, input: &mut Input<'_>, room: u32) -> Result<Stmt, ParseError>
-    ensures { Reads (reading rules room g.unended input.old.rest.now) result input.new.rest.now }
+    ensures { Reads (reading rules room sql.unended input.old.rest.now) result input.new.rest.now }
 {
     if input.sees(Kind::Word(Word::Create)) {
         return ddl(alloc, input, room);
@@ -38,7 +39,7 @@ fn unended(alloc: Global, input: &mut Input<'_>, room: u32) -> Result<Stmt, Pars
 /// A statement with its semicolon.
 #[tactic(auto, unfolding(sql_grammar::specs::Sql::statement))]
 pub(crate) fn statement(alloc: Global, input: &mut Input<'_>, room: u32) -> Result<Stmt, ParseError>
-    ensures { Reads (reading rules room g.statement input.old.rest.now) result input.new.rest.now }
+    ensures { Reads (reading rules room sql.statement input.old.rest.now) result input.new.rest.now }
 {
     let tree = unended(alloc, input, room)?;
     input.close(Kind::Sign(Sign::Semicolon), tree)

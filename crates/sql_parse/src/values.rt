@@ -3,7 +3,8 @@
 ghost use Rattle.std.specs.Prelude.{◌≡◌};
 ghost use Rattle.token_grammar.specs.Reading.{reading};
 ghost use Rattle.token_grammar.specs.Reads.{Reads};
-ghost use Rattle.sql_grammar.specs.Sql as g;
+ghost use Rattle.sql_grammar.specs.Trees as trees;
+ghost use Rattle.sql_grammar.specs.Queries as queries;
 ghost use Rattle.sql_grammar.specs.Sql.{rules};
 
 use crate::expr::{exprs, with_first};
@@ -11,25 +12,28 @@ use crate::place::anchor_in;
 use sql_lex::{Kind, Sign, Word};
 use sqlite_items::Items;
 use std::alloc::Global;
-use syntax_trees::{Anchor, Expr, Values};
+use syntax_trees::{Anchor, Expr, ValueRow, Values};
 use token_grammar::{Input, ParseError};
 
-#[tactic(auto, unfolding(sql_grammar::specs::Sql::row, sql_grammar::specs::Sql::bracketed))]
-fn row(alloc: Global, input: &mut Input<'_>, room: u32) -> Result<Items<Expr>, ParseError>
-    ensures { Reads (reading rules room g.row input.old.rest.now) result input.new.rest.now }
+#[tactic(auto, unfolding(sql_grammar::specs::Trees::bracketed))]
+fn row_values(alloc: Global, input: &mut Input<'_>, room: u32) -> Result<Items<Expr>, ParseError>
+    ensures { Reads (reading rules room (trees.bracketed trees.RowValues) input.old.rest.now) result input.new.rest.now }
 {
     let left = input.open(room, Kind::Sign(Sign::LeftParen))?;
     let inner = exprs(alloc, input, left)?;
     input.close(Kind::Sign(Sign::RightParen), inner)
 }
 
-#[tactic(auto, unfolding(sql_grammar::specs::Sql::more_rows))]
-fn more_rows(
-    alloc: Global,
-    input: &mut Input<'_>,
-    room: u32,
-) -> Result<Items<Items<Expr>>, ParseError>
-    ensures { Reads (reading rules room g.more_rows input.old.rest.now) result input.new.rest.now }
+#[tactic(auto, unfolding(sql_grammar::specs::Queries::row))]
+fn row(alloc: Global, input: &mut Input<'_>, room: u32) -> Result<ValueRow, ParseError>
+    ensures { Reads (reading rules room queries.row input.old.rest.now) result input.new.rest.now }
+{
+    Ok(ValueRow::Row(row_values(alloc, input, room)?))
+}
+
+#[tactic(auto, unfolding(sql_grammar::specs::Queries::more_rows))]
+fn more_rows(alloc: Global, input: &mut Input<'_>, room: u32) -> Result<Items<ValueRow>, ParseError>
+    ensures { Reads (reading rules room queries.more_rows input.old.rest.now) result input.new.rest.now }
 {
     let mut found = Items::new(alloc);
     'more: while input.eat(Kind::Sign(Sign::Comma)) {
@@ -41,27 +45,27 @@ fn more_rows(
     Ok(found)
 }
 
-#[tactic(auto, unfolding(sql_grammar::specs::Sql::rows))]
-fn rows(alloc: Global, input: &mut Input<'_>, room: u32) -> Result<Items<Items<Expr>>, ParseError>
-    ensures { Reads (reading rules room g.rows input.old.rest.now) result input.new.rest.now }
+#[tactic(auto, unfolding(sql_grammar::specs::Queries::rows))]
+fn rows(alloc: Global, input: &mut Input<'_>, room: u32) -> Result<Items<ValueRow>, ParseError>
+    ensures { Reads (reading rules room queries.rows input.old.rest.now) result input.new.rest.now }
 {
     let first = row(alloc, input, room)?;
     let more = more_rows(alloc, input, room)?;
     Ok(with_first(alloc, first, more)?)
 }
 
-#[tactic(auto, unfolding(sql_grammar::specs::Sql::values_word))]
+#[tactic(auto, unfolding(sql_grammar::specs::Queries::values_word))]
 fn values_word(input: &mut Input<'_>, room: u32) -> Result<Anchor, ParseError>
-    ensures { Reads (reading rules room g.values_word input.old.rest.now) result input.new.rest.now }
+    ensures { Reads (reading rules room queries.values_word input.old.rest.now) result input.new.rest.now }
 {
     let token = input.expect(Kind::Word(Word::Values))?;
     Ok(anchor_in(token))
 }
 
 /// VALUES with its rows.
-#[tactic(auto, unfolding(sql_grammar::specs::Sql::values))]
+#[tactic(auto, unfolding(sql_grammar::specs::Queries::values))]
 pub(crate) fn values(alloc: Global, input: &mut Input<'_>, room: u32) -> Result<Values, ParseError>
-    ensures { Reads (reading rules room g.values input.old.rest.now) result input.new.rest.now }
+    ensures { Reads (reading rules room queries.values input.old.rest.now) result input.new.rest.now }
 {
     let anchor = values_word(input, room)?;
     let rows = rows(alloc, input, room)?;

@@ -3,6 +3,7 @@ use Rattle.std.specs.Prelude.{Bool, true, false, Option, Some, None}
 use Rattle.std.specs.declared.cmp.Ordering.{Ordering}
 use Rattle.std.specs.declared.cmp.Ordering.TheVariants.{Less, Equal, Greater}
 use Rattle.sql_values.specs.declared.value.Value.{Value}
+use Rattle.sql_values.specs.declared.value.Value.TheVariants.{Null, Bool as Truth}
 use Rattle.sql_values.specs.declared.operators.Operator.{Operator}
 use Rattle.sql_values.specs.declared.operators.Operator.TheVariants.{Add, Subtract, Multiply, Divide}
 use Rattle.sql_values.specs.declared.operators.Comparison.{Comparison}
@@ -36,10 +37,11 @@ allows GreaterThanOrEquals Less = false
 allows GreaterThanOrEquals Equal = true
 allows GreaterThanOrEquals Greater = true
 
-abbrev pub is_true_in : Comparison → Option Ordering → Bool
-is_true_in comparison None = false
-is_true_in comparison (Some order) = allows comparison order
+-- the truth value of a comparison of two values in this order; unknown without one
+abbrev pub truth_in : Comparison → Option Ordering → Value
+truth_in comparison None = Null
+truth_in comparison (Some order) = Truth (allows comparison order)
 
--- the comparison is true of the two values; it is unknown, and so not true, where one is NULL
-abbrev pub compared : Comparison → Value → Value → Bool
-compared comparison a b = is_true_in comparison (order_of a b)
+-- TRUE or FALSE, or unknown where an operand is NULL
+abbrev pub compared : Comparison → Value → Value → Value
+compared comparison a b = truth_in comparison (order_of a b)

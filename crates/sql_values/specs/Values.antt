@@ -1,9 +1,11 @@
--- What the operations on values give: ISO/IEC 9075-2, 6.27 (numeric value expression) and 8.2 (comparison predicate).
-use Rattle.std.specs.Prelude.{zero, suc, ℤ, pos, negsuc, ◌+ℤ◌, ◌-ℤ◌, ◌*ℤ◌, neg_ℤ, int_div, int_le, int_lt, ◌^◌, ◌-◌, ◌&&◌, Bool, if◌then◌else◌, Option, Some, None, Result, Ok, Err}
+-- What the operations on values give: ISO/IEC 9075-2, 6.27 (numeric value expression), 8.2 (comparison predicate) and 9.2 (store assignment).
+use Rattle.std.specs.Prelude.{ℤ, pos, negsuc, ◌+ℤ◌, ◌-ℤ◌, ◌*ℤ◌, neg_ℤ, int_div, int_le, ◌^◌, ◌-◌, ◌&&◌, Bool, true, false, if◌then◌else◌, Option, Some, None, Result, Ok, Err}
+use Rattle.std.specs.Ordering.{int_cmp, bool_cmp, int_eq}
 use Rattle.std.specs.declared.cmp.Ordering.{Ordering}
-use Rattle.std.specs.declared.cmp.Ordering.TheVariants.{Less, Equal, Greater}
 use Rattle.sql_values.specs.declared.value.Value.{Value}
-use Rattle.sql_values.specs.declared.value.Value.TheVariants.{Null, Int}
+use Rattle.sql_values.specs.declared.value.Value.TheVariants.{Null, Int, Bool as Truth}
+use Rattle.sql_values.specs.declared.value.SqlType.{SqlType}
+use Rattle.sql_values.specs.declared.value.SqlType.TheVariants.{Integer}
 use Rattle.sql_values.specs.declared.value.ValueFault.{ValueFault}
 use Rattle.sql_values.specs.declared.value.ValueFault.TheVariants.{OutOfRange, DivZero}
 
@@ -18,11 +20,12 @@ Outcome = Result Value ValueFault
 abbrev pub ranged : ℤ → Outcome
 ranged z = if is_integer z then Ok (Int z) else Err OutOfRange
 
--- both operands, where neither is NULL; a NULL operand gives NULL
+-- two numbers; a NULL operand gives NULL
 abbrev pub of_numbers : (ℤ → ℤ → Outcome) → Value → Value → Outcome
-of_numbers f Null Null = Ok Null
-of_numbers f Null (Int y) = Ok Null
+of_numbers f Null b = Ok Null
+of_numbers f (Truth p) b = Ok Null
 of_numbers f (Int x) Null = Ok Null
+of_numbers f (Int x) (Truth q) = Ok Null
 of_numbers f (Int x) (Int y) = f x y
 
 abbrev pub sum_of : Value → Value → Outcome
@@ -36,23 +39,36 @@ product_of = of_numbers (λ x y. ranged (x *ℤ y))
 
 -- the quotient, cut towards zero; a zero divisor is a fault
 abbrev pub divided : ℤ → ℤ → Outcome
-divided x (pos zero) = Err DivZero
-divided x (pos (suc n)) = ranged (int_div x (pos (suc n)))
-divided x (negsuc n) = ranged (int_div x (negsuc n))
+divided x y = if int_eq y (pos 0) then Err DivZero else ranged (int_div x y)
 
 abbrev pub quotient_of : Value → Value → Outcome
 quotient_of = of_numbers divided
 
 abbrev pub negation_of : Value → Outcome
 negation_of Null = Ok Null
+negation_of (Truth p) = Ok Null
 negation_of (Int x) = ranged (neg_ℤ x)
 
-abbrev pub int_order : ℤ → ℤ → Ordering
-int_order x y = if int_lt x y then Less else if int_lt y x then Greater else Equal
-
--- the order of two numbers; unknown where an operand is NULL
+-- the order of two values of one kind, FALSE before TRUE; unknown where an operand is NULL
 abbrev pub order_of : Value → Value → Option Ordering
-order_of Null Null = None
-order_of Null (Int y) = None
+order_of Null b = None
 order_of (Int x) Null = None
-order_of (Int x) (Int y) = Some (int_order x y)
+order_of (Int x) (Int y) = Some (int_cmp x y)
+order_of (Int x) (Truth q) = None
+order_of (Truth p) Null = None
+order_of (Truth p) (Int y) = None
+order_of (Truth p) (Truth q) = Some (bool_cmp p q)
+
+-- the value that a target of a type takes (9.2, store assignment)
+abbrev pub assigned : SqlType → Value → Outcome
+assigned Integer v = Ok v
+
+abbrev pub is_null : Value → Bool
+is_null Null = true
+is_null (Int n) = false
+is_null (Truth p) = false
+
+abbrev pub is_true : Value → Bool
+is_true Null = false
+is_true (Int n) = false
+is_true (Truth p) = p

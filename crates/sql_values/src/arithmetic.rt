@@ -2,10 +2,9 @@
 
 ghost use Rattle.std.specs.Prelude.{◌≡◌, ℤ, SomeIff, FitsSigned};
 ghost use Rattle.std.specs.Int.{w64};
-ghost use Rattle.sql_values.specs.Values.{sum_of, difference_of, product_of, quotient_of, negation_of, order_of};
-ghost use Rattle.sql_values.specs.Values.{int_order, ranged as ranged_by};
+ghost use Rattle.sql_values.specs.Values.{sum_of, difference_of, product_of, quotient_of, divided, negation_of, order_of, assigned, ranged as ranged_by};
 
-use crate::{Value, ValueFault};
+use crate::{SqlType, Value, ValueFault};
 use std::cmp::Ordering;
 
 // The exact result, which a checked operation has where it is in range.
@@ -48,19 +47,24 @@ pub fn mul(a: &Value, b: &Value) -> Result<Value, ValueFault>
     }
 }
 
+// The quotient of two numbers.
+fn quotient(x: i64, y: i64) -> Result<Value, ValueFault>
+    ensures { result ≡ divided x y }
+{
+    if y == 0 {
+        Err(ValueFault::DivZero)
+    } else {
+        ranged(x.checked_div(y))
+    }
+}
+
 /// The quotient, cut towards zero. `DivZero` comes exactly where the divisor is zero and the dividend isn't NULL;
 /// `OutOfRange` exactly for the least INTEGER divided by -1.
 pub fn div(a: &Value, b: &Value) -> Result<Value, ValueFault>
     ensures { result ≡ quotient_of a.now b.now }
 {
     match (a, b) {
-        (Value::Int(x), Value::Int(y)) => {
-            if *y == 0 {
-                Err(ValueFault::DivZero)
-            } else {
-                ranged(x.checked_div(*y))
-            }
-        }
+        (Value::Int(x), Value::Int(y)) => quotient(*x, *y),
         _ => Ok(Value::Null),
     }
 }
@@ -72,28 +76,26 @@ pub fn neg(a: &Value) -> Result<Value, ValueFault>
     match a {
         Value::Int(x) => ranged(x.checked_neg()),
         Value::Null => Ok(Value::Null),
+        Value::Bool(_) => Ok(Value::Null),
     }
 }
 
-/// The order of two values; `None` exactly where one of them is NULL.
+/// The order of two values of one kind; `None` exactly where one of them is NULL.
 pub fn cmp(a: &Value, b: &Value) -> Option<Ordering>
     ensures { result ≡ order_of a.now b.now }
 {
     match (a, b) {
-        (Value::Int(x), Value::Int(y)) => Some(order(*x, *y)),
+        (Value::Int(x), Value::Int(y)) => Some(x.cmp(y)),
+        (Value::Bool(p), Value::Bool(q)) => Some(p.cmp(q)),
         _ => None,
     }
 }
 
-// The order of two numbers.
-fn order(x: i64, y: i64) -> Ordering
-    ensures { result ≡ int_order x y }
+/// The value that a target of a type takes (ISO/IEC 9075-2, 9.2). An INTEGER takes each number, and NULL.
+pub fn assign(v: Value, to: SqlType) -> Result<Value, ValueFault>
+    ensures { result ≡ assigned to v }
 {
-    if x < y {
-        Ordering::Less
-    } else if y < x {
-        Ordering::Greater
-    } else {
-        Ordering::Equal
+    match to {
+        SqlType::Integer => Ok(v),
     }
 }

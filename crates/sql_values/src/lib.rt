@@ -1,18 +1,13 @@
-//! The values of SQL: names, texts, types, and whole numbers with NULL.
+//! The values of SQL: types, whole numbers and truth values with NULL, and the operations on them.
 #![tactic(auto)]
 
 mod arithmetic;
-mod memory;
-mod name;
 mod operators;
 #[cfg(test)]
 mod tests;
-mod text;
 mod value;
 
-pub use arithmetic::{add, cmp, div, mul, neg, sub};
-pub use memory::NoMemory;
-pub use name::Name;
+pub use arithmetic::{add, assign, cmp, div, mul, neg, sub};
 pub use operators::{Comparison, Operator};
-pub use text::Text;
+pub use sql_texts::{Name, NoMemory, Text};
 pub use value::{SqlType, Value, ValueFault};

@@ -41,13 +41,13 @@ impl Operator {
 }
 
 impl Comparison {
-    /// Whether the comparison is true of two values. It is unknown, and so not true, where one of them is NULL.
-    pub fn holds(self, a: &Value, b: &Value) -> bool
+    /// The truth value of the comparison of two values; unknown, which is NULL, exactly where one of them is NULL.
+    pub fn of(self, a: &Value, b: &Value) -> Value
         ensures { result ≡ compared self a.now b.now }
     {
         match cmp(a, b) {
-            Some(order) => self.allows(order),
-            None => false,
+            Some(order) => Value::Bool(self.allows(order)),
+            None => Value::Null,
         }
     }
 

@@ -1,8 +1,7 @@
 //! Vectors from outside: the ends of the range, the signs of quotients, and NULL.
 
-use crate::{Name, Value, ValueFault, add, cmp, div, mul, neg, sub};
+use crate::{Comparison, SqlType, Value, ValueFault, add, assign, cmp, div, mul, neg, sub};
 use std::cmp::Ordering;
-use std::test::Fail;
 
 const LEAST: i64 = i64::MIN;
 
@@ -39,13 +38,17 @@ fn null_gives_null_and_no_order(rt: HostRuntime) {
     assert_eq!(rt; neg(&Value::Null), Ok(Value::Null));
     assert_eq!(rt; cmp(&Value::Null, &Value::Null), None);
     assert_eq!(rt; cmp(&Value::Int(-1), &Value::Int(1)), Some(Ordering::Less));
-}
-
-#[test]
-fn names_are_folded_to_capitals(rt: HostRuntime) -> Result<(), Fail> {
-    let name = Name::folded(rt.alloc(), b"a_1z").ok().ok_or("no memory")?;
-    assert_eq!(rt; name.as_bytes(), b"A_1Z".as_slice());
-    let copy = name.copied().ok().ok_or("no memory")?;
-    assert!(rt; copy.is(&name));
-    Ok(())
+    assert_eq!(rt;
+        cmp(&Value::Bool(true), &Value::Bool(false)),
+        Some(Ordering::Greater)
+    );
+    assert_eq!(rt;
+        Comparison::LessThan.of(&Value::Int(1), &Value::Null),
+        Value::Null
+    );
+    assert_eq!(rt;
+        Comparison::LessThan.of(&Value::Int(1), &Value::Int(1)),
+        Value::Bool(false)
+    );
+    assert_eq!(rt; assign(Value::Int(7), SqlType::Integer), Ok(Value::Int(7)));
 }

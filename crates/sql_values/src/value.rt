@@ -7,13 +7,16 @@ pub enum SqlType {
     Integer,
 }
 
-/// A value, or NULL.
-#[derive(Clone, Debug, PartialEq, Eq, Drop)]
+/// A value, or NULL. An unknown truth value is NULL.
+#[derive(Clone, Debug, Default, PartialEq, Eq, Drop)]
 pub enum Value {
     /// The null value, which every type has.
+    #[default]
     Null,
     /// A whole number.
     Int(i64),
+    /// A truth value.
+    Bool(bool),
 }
 
 /// Why an operation gives no value.

@@ -1,7 +1,7 @@
 //! Expressions.
 
 use crate::{Anchor, Ident};
-use sql_values::Operator;
+use sql_values::{Comparison, Operator};
 use sqlite_items::{Boxed, Items};
 
 /// A sign before an operand.
@@ -25,11 +25,14 @@ pub enum Expr {
     Call(Ident, Items<Expr>),
     /// A sign and its operand. Its anchor is the sign.
     Signed(Anchor, UnarySign, Boxed<Expr>),
-    /// A chain of operators, read from the left, with at least one. Its anchor is the first operator.
+    /// A chain of operators, read from the left, with at least one. Its anchor is the first
+    /// operator.
     Chain(Boxed<Expr>, Items<Link>),
+    /// A comparison (ISO/IEC 9075-2, 8.2). Its anchor is the operator.
+    Compare(Anchor, Comparison, Boxed<Expr>, Boxed<Expr>),
 }
 
-/// An operator of a chain, and the operand behind it.
+/// An operator of a chain, and the operand after it.
 #[cycle(tree)]
 #[derive(Drop)]
 pub struct Link {

@@ -1,12 +1,15 @@
-//! Statements as they are written. Brackets leave no node, a chain of operators is a list, and each node has its anchor.
+//! Statements as they are written. Brackets leave no node, a chain of operators is a list, and each
+//! node has its anchor.
 #![tactic(auto)]
 
 mod anchor;
+mod data_type;
 mod expr;
 mod query;
 mod statement;
 
 pub use anchor::{Anchor, Ident};
+pub use data_type::{DataType, TypeName};
 pub use expr::{Expr, Link, UnarySign};
-pub use query::{Query, Select, Test, Values};
+pub use query::{FromItem, Query, Select, ValueRow, Values};
 pub use statement::{Column, Constraint, CreateFunction, CreateTable, Insert, Parameter, Stmt};

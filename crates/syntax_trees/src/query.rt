@@ -1,7 +1,6 @@
 //! Queries.
 
 use crate::{Anchor, Expr, Ident};
-use sql_values::Comparison;
 use sqlite_items::Items;
 
 /// A query expression (ISO/IEC 9075-2, 7.17).
@@ -11,30 +10,36 @@ pub enum Query {
     Values(Values),
 }
 
-/// `VALUES rows` (ISO/IEC 9075-2, 7.3): one row or more, each of one expression or more.
+/// `VALUES rows` (ISO/IEC 9075-2, 7.3): one row or more.
 #[derive(Drop)]
 pub struct Values {
     /// The word VALUES.
     pub anchor: Anchor,
-    pub rows: Items<Items<Expr>>,
+    pub rows: Items<ValueRow>,
 }
 
-/// `SELECT items FROM table [WHERE test]` (ISO/IEC 9075-2, 7.16).
+/// A row of VALUES (ISO/IEC 9075-2, 7.1).
+#[derive(Drop)]
+pub enum ValueRow {
+    /// Its values, of which there is at least one.
+    Row(Items<Expr>),
+}
+
+/// `SELECT items FROM tables [WHERE condition]` (ISO/IEC 9075-2, 7.16).
 #[derive(Drop)]
 pub struct Select {
     /// The word SELECT.
     pub anchor: Anchor,
     pub items: Items<Expr>,
-    pub table: Ident,
-    pub filter: Option<Test>,
+    /// The items of FROM, of which there is at least one.
+    pub from: Items<FromItem>,
+    /// The conditions of WHERE, all of which a row must meet. Without WHERE there is none.
+    pub conditions: Items<Expr>,
 }
 
-/// A comparison of two expressions.
+/// An item of FROM (ISO/IEC 9075-2, 7.6).
 #[derive(Drop)]
-pub struct Test {
-    pub left: Expr,
-    pub comparison: Comparison,
-    /// The comparison's token.
-    pub anchor: Anchor,
-    pub right: Expr,
+pub enum FromItem {
+    /// A table by its name.
+    Table(Ident),
 }

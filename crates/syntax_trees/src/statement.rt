@@ -1,7 +1,6 @@
 //! Statements.
 
-use crate::{Anchor, Expr, Ident, Query, Values};
-use sql_values::SqlType;
+use crate::{Anchor, DataType, Expr, Ident, Query};
 use sqlite_items::Items;
 
 /// A statement of a script.
@@ -16,6 +15,8 @@ pub enum Stmt {
 /// `CREATE TABLE name (columns)` (ISO/IEC 9075-2, 11.3).
 #[derive(Drop)]
 pub struct CreateTable {
+    /// The word CREATE.
+    pub anchor: Anchor,
     pub name: Ident,
     pub columns: Items<Column>,
 }
@@ -24,7 +25,7 @@ pub struct CreateTable {
 #[derive(Drop)]
 pub struct Column {
     pub name: Ident,
-    pub data_type: SqlType,
+    pub data_type: DataType,
     pub constraints: Items<Constraint>,
 }
 
@@ -36,12 +37,15 @@ pub enum Constraint {
     PrimaryKey(Anchor),
 }
 
-/// `CREATE FUNCTION name (parameters) RETURNS type RETURN result` (ISO/IEC 9075-4, 9.20, and 14.34 for RETURN).
+/// `CREATE FUNCTION name (parameters) RETURNS type RETURN result` (ISO/IEC 9075-4, 9.20, and 14.34
+/// for RETURN).
 #[derive(Drop)]
 pub struct CreateFunction {
+    /// The word CREATE.
+    pub anchor: Anchor,
     pub name: Ident,
     pub parameters: Items<Parameter>,
-    pub returns: SqlType,
+    pub returns: DataType,
     pub result: Expr,
 }
 
@@ -49,12 +53,15 @@ pub struct CreateFunction {
 #[derive(Drop)]
 pub struct Parameter {
     pub name: Ident,
-    pub data_type: SqlType,
+    pub data_type: DataType,
 }
 
-/// `INSERT INTO table VALUES rows` (ISO/IEC 9075-2, 14.11).
+/// `INSERT INTO table source` (ISO/IEC 9075-2, 14.11).
 #[derive(Drop)]
 pub struct Insert {
+    /// The word INSERT.
+    pub anchor: Anchor,
     pub table: Ident,
-    pub values: Values,
+    /// The query whose rows are put in.
+    pub source: Query,
 }

@@ -1,8 +1,6 @@
-pub mod Order
-pub mod Puts
-pub mod Greatest
-pub mod Steps
-pub mod Whole
-pub mod Names
-pub mod Lacking
-pub mod Sorted
+pub mod Halving
+pub mod Memory
+pub mod Kept
+pub mod Packing
+pub mod Named
+pub mod Laws

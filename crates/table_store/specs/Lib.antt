@@ -1,2 +1,4 @@
-pub mod Keys
-pub mod Inserting
+pub mod Kept
+pub mod Memory
+pub mod Blocks
+pub mod Examples

@@ -1,16 +1,14 @@
-//! Tables: rows in key order, and what an INSERT makes of them.
+//! Tables: rows in key order, with memory for more.
 #![tactic(auto)]
 
-mod inserted;
-mod keys;
-mod merge;
-mod sort;
+mod block;
+mod blocks;
+mod rows;
+mod search;
 mod table;
 mod tables;
 #[cfg(test)]
 mod tests;
 
-pub use inserted::Inserted;
-pub use keys::Row;
 pub use table::Table;
 pub use tables::Tables;

@@ -1,89 +1,167 @@
 //! One table.
 
-ghost use Rattle.std.specs.Prelude.{◌≡◌, [], IfOk, OnErr, IsTrue};
-ghost use Rattle.rel_algebra.specs.Tables.{Table as PlainTable, inserted};
-ghost use Rattle.table_store.specs.Keys.{rises};
-ghost use Rattle.table_store.specs.Inserting.{answer_to, table_with};
+ghost use Rattle.std.specs.Prelude.{◌≡◌, ◌<◌, ◌≤◌, ◌+◌, ◌-◌, ◌^◌, [], length, slice_index_or, slice_set, OnOk, IsTrue};
+ghost use Rattle.std.specs.List.{insert, remove};
+ghost use Rattle.std.specs.Ordering.{is_eq};
+ghost use Rattle.row_types.specs.Ordered.{searched};
+ghost use Rattle.row_types.specs.Rows.{by_key, to_key, has_key_columns};
+ghost use Rattle.row_types.specs.Tables.{with_rows};
+ghost use Rattle.table_store.specs.Kept.{IsKept, CanInsert, CanReplace};
 
-use crate::Inserted;
-use crate::keys::{Row, any_lacks_value};
-use crate::merge::add;
-use crate::sort::in_order;
-use row_types::ColumnType;
+use crate::rows::Rows;
+use crate::search::{find, place_of};
+use row_types::{ColumnType, Key, Row, RowType, Steps, order_by_key};
 use sql_values::NoMemory;
-use sqlite_items::Items;
 use std::alloc::Global;
+use std::cmp::Ordering;
 use std::marker::Model;
+use std::sync::ledger::Ledger;
 
-/// A table (ISO/IEC 9075-2, 4.14): its columns, the place of its key column, and its rows in increasing order of
-/// their keys, none of which is NULL.
+/// A table (ISO/IEC 9075-2, 4.14): its columns, the places of its key columns, and its rows, each
+/// of which fits, in increasing order of their keys; and the number of rows that it has memory for.
 #[derive(Drop)]
 pub struct Table {
-    types: Items<ColumnType>,
-    place: usize,
-    stored: Vec<Row>,
+    row_type: RowType,
+    stored: Rows,
 }
 
 impl Model for Table {
     ghost use Rattle.std.specs.Prelude.{IsTrue};
-    ghost use Rattle.rel_algebra.specs.Tables.{Table as PlainTable};
-    ghost use Rattle.table_store.specs.Keys.{rises};
+    ghost use Rattle.table_store.specs.Kept.{Kept};
+    ghost use Rattle.row_types.specs.Rows.{has_key_columns, well_kept};
 
-    ghost Value = { PlainTable };
+    ghost Value = { Kept };
 
-    ghost view = { λ t. record { columns = t.types; key = t.place; rows = t.stored.items } };
+    ghost view = { λ t. record { table = record { columns = t.row_type.columns; key = t.row_type.key; rows = t.stored.rows }; capacity = t.stored.capacity } };
 
-    ghost invariant = { λ t. IsTrue (rises t.place t.stored.items) };
+    ghost invariant = { λ t. IsTrue (has_key_columns t.row_type.columns t.row_type.key) × IsTrue (well_kept t.row_type.columns t.row_type.key t.stored.rows) };
 }
 
 impl Table {
     /// A table without rows.
-    pub fn new(alloc: Global, columns: Items<ColumnType>, key: usize) -> Table
-        ensures { result ≡ record { columns = columns; key = key; rows = [] } }
+    pub fn new(alloc: Global, row_type: RowType) -> Table
+        requires { IsTrue (has_key_columns row_type.columns row_type.key) }
+        ensures { result.table ≡ record { columns = row_type.columns; key = row_type.key; rows = [] } }
     {
         Table {
-            types: columns,
-            place: key,
-            stored: Vec::new(alloc),
+            row_type,
+            stored: Rows::new(alloc),
         }
     }
 
     /// The columns, in the order of a row's values.
     pub fn columns(&self) -> &[ColumnType]
-        ensures { result.now ≡ self.now.columns }
+        ensures { result.now ≡ self.now.table.columns }
     {
-        self.types.as_slice()
+        self.row_type.columns.as_slice()
     }
 
-    /// The place of the key column.
-    pub fn key(&self) -> usize
-        ensures { result ≡ self.now.key }
+    /// The places of the key columns.
+    pub fn key(&self) -> &[usize]
+        ensures value { result.now ≡ self.now.table.key }
+        ensures columns { IsTrue (has_key_columns self.now.table.columns self.now.table.key) }
     {
-        self.place
+        self.row_type.key.as_slice()
     }
 
-    /// The rows, in increasing order of their keys.
-    pub fn rows(&self) -> &[Row]
-        ensures value { result.now ≡ self.now.rows }
-        ensures order { IsTrue (rises self.now.key self.now.rows) }
+    /// The number of rows.
+    pub fn len(&self) -> usize
+        ensures value { result ≡ length self.now.table.rows }
+        ensures kept { IsKept self.now }
+        ensures small { result < 2 ^ 63 }
     {
-        self.stored.as_slice()
+        self.stored.len()
     }
 
-    /// Stores all new rows (ISO/IEC 9075-2, 14.11), or refuses them all: exactly where one of them has NULL in a column
-    /// that takes none, or as its key, or a key stands twice in the rows with the new ones. Without memory nothing changes.
-    pub fn insert(&mut self, alloc: Global, new: Vec<Row>) -> Result<Inserted, NoMemory>
-        ensures answer { IfOk result (λ i. i ≡ answer_to (inserted self.old.columns self.old.key self.old.rows new.items)) }
-        ensures rows { IfOk result (λ i. self.new ≡ table_with (inserted self.old.columns self.old.key self.old.rows new.items) self.old) }
-        ensures unchanged { OnErr result (self.new ≡ self.old) }
+    /// The row at a place, in key order.
+    pub fn row_at(&self, at: usize) -> &Row
+        requires { at < length self.now.table.rows }
+        ensures { result.now ≡ slice_index_or self.now.table.rows at result.now }
     {
-        if any_lacks_value(&new, self.types.as_slice()) {
-            return Ok(Inserted::Refused);
+        self.stored.row_at(at)
+    }
+
+    /// The row at a place, in key order. Reading it is a step.
+    pub fn read_row<L: Ledger>(&self, at: usize, steps: &mut Steps<L>) -> &Row
+        requires { at < length self.now.table.rows }
+        ensures row { result.now ≡ slice_index_or self.now.table.rows at result.now }
+        ensures step { steps.new ≡ steps.old + 1 }
+    {
+        steps.tick();
+        self.stored.row_at(at)
+    }
+
+    /// Where the key of a row stands; `Err` is the place to insert the row.
+    pub fn place_of(&self, row: &Row) -> Result<usize, usize>
+        ensures place { result ≡ searched (λ r. by_key self.now.table.key r row.now) self.now.table.rows }
+        ensures kept { IsKept self.now }
+    {
+        let _rows = self.stored.len();
+        place_of(&self.stored, row, self.row_type.key.as_slice())
+    }
+
+    /// Where a key stands; `Err` is the place to insert a row with it.
+    pub fn find(&self, key: &Key) -> Result<usize, usize>
+        requires { length key.now ≡ length self.now.table.key }
+        ensures { result ≡ searched (to_key self.now.table.key key.now) self.now.table.rows }
+    {
+        find(&self.stored, key.as_slice(), self.row_type.key.as_slice())
+    }
+
+    /// Whether a row has the key of the row at a place.
+    pub fn has_key_at(&self, at: usize, row: &Row) -> bool
+        requires { at < length self.now.table.rows }
+        ensures { result ≡ is_eq (by_key self.now.table.key row.now (slice_index_or self.now.table.rows at row.now)) }
+    {
+        match order_by_key(row, self.stored.row_at(at), self.row_type.key.as_slice()) {
+            Ordering::Equal => true,
+            Ordering::Less => false,
+            Ordering::Greater => false,
         }
-        let Some(more) = in_order(new, self.place)? else {
-            return Ok(Inserted::Refused);
-        };
-        let answer = add(alloc, &mut self.stored, more, self.place)?;
-        Ok(answer)
+    }
+
+    /// Puts a row in at a place where it keeps the key order. There is memory for it.
+    pub fn insert_at(&mut self, at: usize, row: Row)
+        requires { CanInsert self.old at row }
+        ensures rows { self.new.table ≡ with_rows (insert self.old.table.rows at row) self.old.table }
+        ensures capacity { self.old.capacity ≤ self.new.capacity }
+    {
+        self.stored.insert_at(at, row);
+    }
+
+    /// Takes the row at a place out and hands it back; its memory is kept.
+    pub fn remove_at(&mut self, at: usize) -> Row
+        requires { at < length self.old.table.rows }
+        ensures row { result ≡ slice_index_or self.old.table.rows at result }
+        ensures rows { self.new.table ≡ with_rows (remove self.old.table.rows at) self.old.table }
+        ensures capacity { self.new.capacity ≡ self.old.capacity }
+    {
+        self.stored.remove_at(at)
+    }
+
+    /// Puts a row in the place of another and hands that back.
+    pub fn replace_at(&mut self, at: usize, row: Row) -> Row
+        requires { CanReplace self.old at row }
+        ensures row { result ≡ slice_index_or self.old.table.rows at result }
+        ensures rows { self.new.table ≡ with_rows (slice_set self.old.table.rows at row) self.old.table }
+        ensures capacity { self.new.capacity ≡ self.old.capacity }
+    {
+        self.stored.replace_at(at, row)
+    }
+
+    /// For how many more rows there is memory.
+    pub fn spare(&self) -> usize
+        ensures { result ≡ self.now.capacity - length self.now.table.rows }
+    {
+        self.stored.spare()
+    }
+
+    /// Memory for more rows. Without it the table stays.
+    pub fn reserve(&mut self, n: usize) -> Result<(), NoMemory>
+        ensures rows { self.new.table ≡ self.old.table }
+        ensures room { OnOk result (length self.new.table.rows + n ≤ self.new.capacity) }
+        ensures capacity { self.old.capacity ≤ self.new.capacity }
+    {
+        self.stored.reserve(n)
     }
 }

@@ -1,128 +1,136 @@
 //! All tables, by their names.
 
-ghost use Rattle.std.specs.Prelude.{◌≡◌, ◌↔◌, ◌++◌, ◌∷◌, [], IfOk, OnOk, OnErr, MatchOption, None, IsTrue, unwrap_or};
-ghost use Rattle.std.specs.Option.{option_copied};
-ghost use Rattle.rel_algebra.specs.Tables.{Stored as PlainNamed, Tables as PlainTables, table_named};
-ghost use Rattle.table_store.specs.Inserting.{answer_to, table_with, stored_in, IsFirstNamed};
-ghost use Rattle.rel_algebra.specs.Tables.{inserted};
+ghost use Rattle.std.specs.Prelude.{◌≡◌, ◌<◌, ◌≤◌, ◌+◌, [], length, slice_index, slice_index_or, slice_set, OnOk, OnErr, None};
+ghost use Rattle.std.specs.Option.{option_copied, option_map};
+ghost use Rattle.std.specs.List.{insert, remove};
+ghost use Rattle.row_types.specs.Tables.{table_at, table_named, with_rows_at, without_table_named, place_named, HaveDistinctNames};
+ghost use Rattle.table_store.specs.Kept.{CanInsert, CanReplace};
+ghost use Rattle.table_store.specs.Memory.{with_one_more, without_place, kept_at, table_of, NoLess};
 
-use crate::keys::Row;
-use crate::{Inserted, Table};
+use crate::table::Table;
+use indexmap::IndexMap;
+use row_types::Row;
 use sql_values::{Name, NoMemory};
 use std::alloc::Global;
 use std::marker::Model;
 
-// A table with its name.
-#[derive(Drop)]
-struct Named {
-    called: Name,
-    held: Table,
-}
-
-impl Model for Named {
-    ghost use Rattle.rel_algebra.specs.Tables.{Stored as PlainNamed};
-
-    ghost Value = { PlainNamed };
-
-    ghost view = { λ n. record { name = n.called; table = n.held } };
-}
-
-/// A finite map of names to tables, in the order of their making. Where a name were to stand twice, its first table counts.
+/// A finite map of names to tables, in the order of their making; and the number of rows that each
+/// has memory for. A name is found in the same time however many tables there are.
 #[derive(Drop)]
 pub struct Tables {
-    entries: Vec<Named>,
+    entries: IndexMap<Name, Table>,
 }
 
 impl Model for Tables {
-    ghost use Rattle.rel_algebra.specs.Tables.{Tables as PlainTables};
+    ghost use Rattle.table_store.specs.Memory.{Memory, memory_of};
 
-    ghost Value = { PlainTables };
+    ghost Value = { Memory };
 
-    ghost view = { λ t. t.entries.items };
-}
-
-impl Named {
-    fn is_called(&self, name: &Name) -> bool
-        ensures { IsTrue result ↔ (self.now.name ≡ name.now) }
-    {
-        self.called.is(name)
-    }
-
-    fn table(&self) -> &Table
-        ensures { result.now ≡ self.now.table }
-    {
-        &self.held
-    }
-
-    fn insert(&mut self, alloc: Global, new: Vec<Row>) -> Result<Inserted, NoMemory>
-        ensures answer { IfOk result (λ i. i ≡ answer_to (inserted self.old.table.columns self.old.table.key self.old.table.rows new.items)) }
-        ensures rows { IfOk result (λ i. self.new ≡ record self.old { table = table_with (inserted self.old.table.columns self.old.table.key self.old.table.rows new.items) self.old.table }) }
-        ensures unchanged { OnErr result (self.new ≡ self.old) }
-    {
-        self.held.insert(alloc, new)
-    }
-}
-
-// The place of the first table of a name.
-fn place_of(entries: &[Named], name: &Name) -> Option<usize>
-    ensures { MatchOption result (table_named name.now entries.now ≡ None) (λ i. IsFirstNamed name.now entries.now i) }
-{
-    for (place, entry) in entries.iter().enumerate() {
-        if entry.is_called(name) {
-            return Some(place);
-        }
-    }
-    None
+    ghost view = { λ t. memory_of t.entries.entries };
 }
 
 impl Tables {
     /// No tables.
     pub fn new(alloc: Global) -> Tables
-        ensures { result ≡ [] }
+        ensures { result ≡ record { tables = []; capacities = [] } }
     {
         Tables {
-            entries: Vec::new(alloc),
+            entries: IndexMap::new(alloc),
         }
+    }
+
+    /// The number of tables.
+    pub fn len(&self) -> usize
+        ensures value { result ≡ length self.now.tables }
+        ensures names { HaveDistinctNames self.now.tables }
+    {
+        self.entries.len()
+    }
+
+    /// Where a name stands; `None` exactly where no table has it.
+    pub fn place_of(&self, name: &Name) -> Option<usize>
+        ensures place { result ≡ place_named name.now self.now.tables }
+        ensures names { HaveDistinctNames self.now.tables }
+    {
+        self.entries.get_index_of(name)
     }
 
     /// The table of a name; `None` exactly where none has it.
     pub fn table(&self, name: &Name) -> Option<&Table>
-        ensures { option_copied result ≡ table_named name.now self.now }
+        ensures kept { option_copied result ≡ option_map (kept_at self.now) (place_named name.now self.now.tables) }
+        ensures table { option_map table_of (option_copied result) ≡ table_named name.now self.now.tables }
     {
-        match place_of(&self.entries, name) {
-            Some(place) => Some(self.entries[place].table()),
-            None => None,
-        }
+        self.entries.get(name)
     }
 
-    /// A table more, behind the others. Without memory nothing changes.
-    pub fn add(&mut self, name: Name, table: Table) -> Result<(), NoMemory>
-        ensures ok { OnOk result (self.new ≡ self.old ++ record { name = name; table = table } ∷ []) }
+    /// A table more of a free name, behind the others. Without memory nothing changes.
+    pub fn add_table(&mut self, name: Name, table: Table) -> Result<(), NoMemory>
+        requires { table_named name self.old.tables ≡ None }
+        ensures ok { OnOk result (self.new ≡ with_one_more self.old name table) }
         ensures unchanged { OnErr result (self.new ≡ self.old) }
     {
-        self.entries.push(Named {
-            called: name,
-            held: table,
-        })?;
+        self.entries.insert(name, table)?;
         Ok(())
     }
 
-    /// Stores all new rows in the table of a name, or refuses them all, as `Table::insert` does. Where no table has the name,
-    /// nothing is stored and nothing refused. Without memory nothing changes.
-    pub fn insert(
-        &mut self,
-        alloc: Global,
-        name: &Name,
-        new: Vec<Row>,
-    ) -> Result<Inserted, NoMemory>
-        ensures answer { IfOk result (λ i. i ≡ answer_to (stored_in name.now new.items self.old)) }
-        ensures rows { IfOk result (λ i. self.new ≡ unwrap_or (stored_in name.now new.items self.old) self.old) }
-        ensures unchanged { OnErr result (self.new ≡ self.old) }
+    /// The table of a name goes; the others stay in their order.
+    pub fn drop_table(&mut self, name: &Name)
+        ensures memory { self.new ≡ without_place (place_named name.now self.old.tables) self.old }
+        ensures tables { self.new.tables ≡ without_table_named name.now self.old.tables }
     {
-        let Some(place) = place_of(&self.entries, name) else {
-            return Ok(Inserted::Stored);
+        let Some(at) = self.entries.get_index_of(name) else {
+            return;
         };
-        let answer = self.entries[place].insert(alloc, new)?;
-        Ok(answer)
+        let _table = self.entries.shift_remove_index(at);
+    }
+
+    /// The table at a place.
+    pub fn table_at(&self, t: usize) -> &Table
+        requires { t < length self.now.tables }
+        ensures { result.now ≡ kept_at self.now t }
+    {
+        &self.entries[t]
+    }
+
+    /// Puts a row into the table at a place, where it keeps the key order. There is memory for it.
+    pub fn insert_at(&mut self, t: usize, at: usize, row: Row)
+        requires there { t < length self.old.tables }
+        requires can { CanInsert (kept_at self.old t) at row }
+        ensures tables { self.new.tables ≡ with_rows_at t (insert (table_at self.old.tables t).rows at row) self.old.tables }
+        ensures capacities { NoLess self.old.capacities self.new.capacities }
+    {
+        self.entries[t].insert_at(at, row);
+    }
+
+    /// Takes a row out of the table at a place and hands it back; its memory is kept.
+    pub fn remove_at(&mut self, t: usize, at: usize) -> Row
+        requires there { t < length self.old.tables }
+        requires place { at < length (table_at self.old.tables t).rows }
+        ensures row { result ≡ slice_index_or (table_at self.old.tables t).rows at result }
+        ensures tables { self.new.tables ≡ with_rows_at t (remove (table_at self.old.tables t).rows at) self.old.tables }
+        ensures capacities { NoLess self.old.capacities self.new.capacities }
+    {
+        self.entries[t].remove_at(at)
+    }
+
+    /// Puts a row in the place of another in the table at a place, and hands that back.
+    pub fn replace_at(&mut self, t: usize, at: usize, row: Row) -> Row
+        requires there { t < length self.old.tables }
+        requires can { CanReplace (kept_at self.old t) at row }
+        ensures row { result ≡ slice_index_or (table_at self.old.tables t).rows at result }
+        ensures tables { self.new.tables ≡ with_rows_at t (slice_set (table_at self.old.tables t).rows at row) self.old.tables }
+        ensures capacities { NoLess self.old.capacities self.new.capacities }
+    {
+        self.entries[t].replace_at(at, row)
+    }
+
+    /// Memory for more rows in the table at a place. Without it the tables stay.
+    pub fn reserve(&mut self, t: usize, n: usize) -> Result<(), NoMemory>
+        requires { t < length self.old.tables }
+        ensures tables { self.new.tables ≡ self.old.tables }
+        ensures room { OnOk result (length (table_at self.new.tables t).rows + n ≤ slice_index self.new.capacities t) }
+        ensures capacities { NoLess self.old.capacities self.new.capacities }
+    {
+        self.entries[t].reserve(n)
     }
 }

@@ -1,5 +1,6 @@
 -- What is left after a part is the tokens from a later place on.
 use Rattle.std.proofs.Common.{◌≡◌, ℕ, zero, suc, ◌+◌, ◌-◌, ◌≤◌, List, [], ◌∷◌, length, drop, Some, None, refl, ap, sym, ◌∙◌, subst, inl, inr, arith, length-drop}
+use Rattle.std.proofs.lemmas.List.{drop-drop}
 use Rattle.sql_lex.specs.declared.token.Kind.{Kind}
 use Rattle.sql_lex.specs.declared.token.Token.{Token}
 use Rattle.token_grammar.specs.declared.stage.Stage.{Stage}
@@ -11,19 +12,10 @@ After ts rest = (k : ℕ) × (k ≤ length ts) × (rest ≡ drop k ts)
 after_same : (ts rest : List Token) → ts ≡ rest → After ts rest
 after_same ts rest e = (0, omega arith, sym e)
 
-drop_nil : (n : ℕ) → drop {A = Token} n [] ≡ []
-drop_nil zero = refl
-drop_nil (suc n) = refl
-
-pub drop_more : (a b : ℕ) (ts : List Token) → drop b (drop a ts) ≡ drop (a + b) ts
-drop_more zero b ts = ap (λ z. drop z ts) (let e : b ≡ 0 + b = omega arith in e)
-drop_more (suc a) b [] = drop_nil b ∙ sym (drop_nil (suc a + b))
-drop_more (suc a) b (t ∷ ts) = drop_more a b ts ∙ ap (λ z. drop z (t ∷ ts)) (let e : suc (a + b) ≡ suc a + b = omega arith in e)
-
 pub after_next : (ts mid rest : List Token) → After ts mid → After mid rest → After ts rest
 after_next ts mid rest (a, la, ea) (b, lb, eb) =
     let l : length mid ≡ length ts - a = ap length ea ∙ length-drop a ts in
-    (a + b, omega arith, eb ∙ ap (drop b) ea ∙ drop_more a b ts)
+    (a + b, omega arith, eb ∙ ap (drop b) ea ∙ drop-drop b a ts)
 
 after_takes : (kind : Kind) (t : Token) (ts rest : List Token) → Takes kind t ts rest → After ts rest
 after_takes kind t ts rest (k, e) = subst (λ z. After z rest) (sym e) (1, omega arith, refl)

@@ -1,5 +1,6 @@
 -- Tests of the next token.
 use Rattle.std.proofs.Common.{◌≡◌, Bool, true, false, not, ◌&&◌, ◌||◌, List, [], ◌∷◌, ◌++◌, refl, ap, sym, ◌∙◌, subst, inl, inr, ◌⊎◌}
+use Rattle.std.proofs.lemmas.Bool.{and_parts, or_cases, or_left, or_right, or_parts, not-true}
 use denote.Enum.Bare.{same_true, true_same}
 use Rattle.sql_lex.specs.Tokens.{kind_of}
 use Rattle.sql_lex.specs.contracts.word.Word.{the_type as words}
@@ -34,31 +35,6 @@ same_self kind.Bad = refl
 pub is_same : (a b : Kind) → a ≡ b → same_kind a b ≡ true
 is_same a b e = subst (λ z. same_kind a z ≡ true) e (same_self a)
 
-pub and_true : (a b : Bool) → (a && b) ≡ true → (a ≡ true) × (b ≡ true)
-and_true true true e = (refl, refl)
-and_true true false e = cc
-and_true false b e = cc
-
-pub or_cases : (a b : Bool) → (a || b) ≡ true → (a ≡ true) ⊎ (b ≡ true)
-or_cases true b e = inl refl
-or_cases false b e = inr e
-
-pub or_left : (a b : Bool) → a ≡ true → (a || b) ≡ true
-or_left true b e = refl
-or_left false b e = cc
-
-pub or_right : (a b : Bool) → b ≡ true → (a || b) ≡ true
-or_right true b e = refl
-or_right false b e = e
-
-pub or_false : (a b : Bool) → (a || b) ≡ false → (a ≡ false) × (b ≡ false)
-or_false true b e = cc
-or_false false b e = (refl, e)
-
-pub not_true : (a : Bool) → not a ≡ true → a ≡ false
-not_true true e = cc
-not_true false e = refl
-
 pub not_both : (a : Bool) → a ≡ true → a ≡ false → ⊥
 not_both a t f = cc
 
@@ -74,6 +50,13 @@ pub begins-append : (xs ys : List Kind) (ts : List Token) → begins (xs ++ ys) 
 begins-append xs ys [] = refl
 begins-append xs ys (t ∷ ts) = one_of-append (kind_of t.lexeme) xs ys
 
+pub begins_none : (ts : List Token) → begins [] ts ≡ false
+begins_none [] = refl
+begins_none (t ∷ ts) = refl
+
+pub begins_more : (k : Kind) (ks : List Kind) (ts : List Token) → begins (k ∷ ks) ts ≡ (begins (k ∷ []) ts || begins ks ts)
+begins_more k ks ts = begins-append (k ∷ []) ks ts
+
 pub begins_left : (xs ys : List Kind) (ts : List Token) → begins xs ts ≡ true → begins (xs ++ ys) ts ≡ true
 begins_left xs ys ts e = begins-append xs ys ts ∙ or_left (begins xs ts) (begins ys ts) e
 
@@ -81,15 +64,15 @@ pub begins_right : (xs ys : List Kind) (ts : List Token) → begins ys ts ≡ tr
 begins_right xs ys ts e = begins-append xs ys ts ∙ or_right (begins xs ts) (begins ys ts) e
 
 pub stops_both : (xs ys : List Kind) (ts : List Token) → begins (xs ++ ys) ts ≡ false → (begins xs ts ≡ false) × (begins ys ts ≡ false)
-stops_both xs ys ts e = or_false (begins xs ts) (begins ys ts) (sym (begins-append xs ys ts) ∙ e)
+stops_both xs ys ts e = or_parts (begins xs ts) (begins ys ts) (sym (begins-append xs ys ts) ∙ e)
 
 apart_one : (k : Kind) (xs ys : List Kind) → apart xs ys ≡ true → is_one_of k xs ≡ true → is_one_of k ys ≡ false
 apart_one k [] ys a e = cc
-apart_one k (x ∷ xs) ys a e = go (or_cases (same_kind k x) (is_one_of k xs) e) (and_true (not (is_one_of x ys)) (apart xs ys) a) (λ later. λ here. apart_one k xs ys later here)
+apart_one k (x ∷ xs) ys a e = go (or_cases (same_kind k x) (is_one_of k xs) e) (and_parts (not (is_one_of x ys)) (apart xs ys) a) (λ later. λ here. apart_one k xs ys later here)
   where
     go : (same_kind k x ≡ true) ⊎ (is_one_of k xs ≡ true) → (not (is_one_of x ys) ≡ true) × (apart xs ys ≡ true)
         → (apart xs ys ≡ true → is_one_of k xs ≡ true → is_one_of k ys ≡ false) → is_one_of k ys ≡ false
-    go (inl same) p ih = subst (λ (z : Kind). is_one_of z ys ≡ false) (sym (same_is k x same)) (not_true (is_one_of x ys) p.0)
+    go (inl same) p ih = subst (λ (z : Kind). is_one_of z ys ≡ false) (sym (same_is k x same)) (not-true (is_one_of x ys) p.0)
     go (inr later) p ih = ih p.1 later
 
 pub apart_stops : (xs ys : List Kind) (ts : List Token) → apart xs ys ≡ true → begins xs ts ≡ true → begins ys ts ≡ false
@@ -106,7 +89,7 @@ passes_begins kind ts rest (t, p) = takes_begins kind t ts rest p
 
 pub stops_one : (kind : Kind) (kinds : List Kind) (ts rest : List Token) → Passes kind ts rest → not (is_one_of kind kinds) ≡ true → begins kinds ts ≡ false
 stops_one kind kinds ts rest (t, (k, e)) n =
-    let head : is_one_of (kind_of t.lexeme) kinds ≡ false = subst (λ (z : Kind). is_one_of z kinds ≡ false) (sym k) (not_true (is_one_of kind kinds) n) in
+    let head : is_one_of (kind_of t.lexeme) kinds ≡ false = subst (λ (z : Kind). is_one_of z kinds ≡ false) (sym k) (not-true (is_one_of kind kinds) n) in
     subst (λ (z : List Token). begins kinds z ≡ false) (sym e) head
 
 pub sees_is : (kind : Kind) (t : Token) (rest : List Token) → begins (kind ∷ []) (t ∷ rest) ≡ true → kind_of t.lexeme ≡ kind
@@ -134,6 +117,6 @@ each_stage_stops kinds ts e Second = (stops_both (kinds Second) (kinds Third) ts
 each_stage_stops kinds ts e Third = (stops_both (kinds Second) (kinds Third) ts ((stops_both (kinds First) (kinds Second ++ kinds Third) ts e).1)).1
 
 pub each_stage : (test : Stage → Bool) → at_each_stage test ≡ true → (stage : Stage) → test stage ≡ true
-each_stage test e First = (and_true (test First) (test Second && test Third) e).0
-each_stage test e Second = (and_true (test Second) (test Third) ((and_true (test First) (test Second && test Third) e).1)).0
-each_stage test e Third = (and_true (test Second) (test Third) ((and_true (test First) (test Second && test Third) e).1)).1
+each_stage test e First = (and_parts (test First) (test Second && test Third) e).0
+each_stage test e Second = (and_parts (test Second) (test Third) ((and_parts (test First) (test Second && test Third) e).1)).0
+each_stage test e Third = (and_parts (test Second) (test Third) ((and_parts (test First) (test Second && test Third) e).1)).1

@@ -1,5 +1,6 @@
 -- What is spelled is read.
 use Rattle.std.proofs.Common.{◌≡◌, ℕ, zero, suc, ◌+◌, ◌≤◌, Bool, true, false, not, ◌&&◌, cond, List, [], ◌∷◌, ◌++◌, length, Some, None, Ok, Err, refl, ap, sym, ◌∙◌, subst, inl, inr, arith}
+use Rattle.std.proofs.lemmas.Bool.{and_parts}
 use Rattle.sql_lex.specs.Tokens.{kind_of}
 use Rattle.sql_lex.specs.declared.token.Kind.{Kind}
 use Rattle.sql_lex.specs.declared.token.Token.{Token}
@@ -7,7 +8,7 @@ use Rattle.token_grammar.specs.declared.stage.Stage.{Stage}
 use Rattle.token_grammar.specs.Grammar.{Grammar, token, nested, both, either, optional, many, staged, map_to, Takes, Passes, Each, EachFrom, Spells, inside}
 use Rattle.token_grammar.specs.Reading.{Outcome, NoSpelling, TooDeep, first, nullable, goes_on, apart, is_one_of, decides, begins, expect, repeat, repeat_from, at_stages, read, readers, ◌>>=◌}
 use Rattle.token_grammar.specs.Exact.{Gets}
-use Rattle.token_grammar.proofs.Ahead.{is_sees, and_true, stops_both, stops_one, apart_stops, some_stage, each_stage_stops, each_stage}
+use Rattle.token_grammar.proofs.Ahead.{is_sees, stops_both, stops_one, apart_stops, some_stage, each_stage_stops, each_stage}
 use Rattle.token_grammar.proofs.Shapes.{least, spells_shorter, inside_shorter, spells_starts, StartsOrNothing}
 
 -- ---- outcomes
@@ -137,8 +138,8 @@ module _ {R : Type 0} {Tree : R → Type 0} (rules : (r : R) → Grammar R Tree 
   pub item_decides : {A : Type 0} (item : Stage → Grammar R Tree A) (t : Stage) → ItemDecides item t ≡ true
       → (decides rules (item t) ≡ true) × (not (nullable (item t)) ≡ true) × (apart (at_stages (λ u. first (item u))) (goes_on (item t)) ≡ true)
   item_decides item t e =
-      let p = and_true (decides rules (item t)) (not (nullable (item t)) && apart (at_stages (λ u. first (item u))) (goes_on (item t))) e in
-      let q = and_true (not (nullable (item t))) (apart (at_stages (λ u. first (item u))) (goes_on (item t))) p.1 in
+      let p = and_parts (decides rules (item t)) (not (nullable (item t)) && apart (at_stages (λ u. first (item u))) (goes_on (item t))) e in
+      let q = and_parts (not (nullable (item t))) (apart (at_stages (λ u. first (item u))) (goes_on (item t))) p.1 in
       (p.0, q.0, q.1)
 
   -- from the stage on, a nonempty repetition begins at the stage's own items
@@ -180,23 +181,23 @@ module _ {R : Type 0} {Tree : R → Type 0} (rules : (r : R) → Grammar R Tree 
   complete_in n m c (nested o r cl) d x ts rest (opened, last, (k, e), s, t') stop =
       subst (λ z. Gets n m (read n (readers rules n) (nested o r cl) z) x rest) (sym e) (gets_nested n m c o r cl d x.1 opened last rest x.0 k s t')
   complete_in n m c (both g h) d x ts rest (next, s, s') stop =
-      let p = and_true (decides rules g) (decides rules h && apart (first h) (goes_on g)) d in
-      let q = and_true (decides rules h) (apart (first h) (goes_on g)) p.1 in
+      let p = and_parts (decides rules g) (decides rules h && apart (first h) (goes_on g)) d in
+      let q = and_parts (decides rules h) (apart (first h) (goes_on g)) p.1 in
       gets_bind n m (λ y z. (y, z)) (read n (readers rules n) g ts) x.0 next (complete_in n m c g p.0 x.0 ts next s (between m g h x.1 next rest q.1 s' stop))
       (read n (readers rules n) h) x.1 rest (complete_in n m c h q.0 x.1 next rest s' (stops_both (goes_on h) (cond (nullable h) (goes_on g) []) rest stop).0)
   complete_in n m c (either g h) d x ts rest (inl s) stop =
-      let p = and_true (decides rules g) (decides rules h && (apart (first h) (first g) && (not (nullable g) && not (nullable h)))) d in
-      let q = and_true (decides rules h) (apart (first h) (first g) && (not (nullable g) && not (nullable h))) p.1 in
-      let q' = and_true (apart (first h) (first g)) (not (nullable g) && not (nullable h)) q.1 in
-      let q'' = and_true (not (nullable g)) (not (nullable h)) q'.1 in
+      let p = and_parts (decides rules g) (decides rules h && (apart (first h) (first g) && (not (nullable g) && not (nullable h)))) d in
+      let q = and_parts (decides rules h) (apart (first h) (first g) && (not (nullable g) && not (nullable h))) p.1 in
+      let q' = and_parts (apart (first h) (first g)) (not (nullable g) && not (nullable h)) q.1 in
+      let q'' = and_parts (not (nullable g)) (not (nullable h)) q'.1 in
       gets_true n m (begins (first g) ts) (read n (readers rules n) g ts) (read n (readers rules n) h ts) x rest
       (nonnull_starts (first g) (nullable g) ts rest q''.0 (spells_shorter (inside rules m) (inside_shorter rules m) g x ts rest s) (spells_starts (inside rules m) (inside_shorter rules m) g x ts rest s))
       (complete_in n m c g p.0 x ts rest s (stops_both (goes_on g) (goes_on h) rest stop).0)
   complete_in n m c (either g h) d x ts rest (inr s) stop =
-      let p = and_true (decides rules g) (decides rules h && (apart (first h) (first g) && (not (nullable g) && not (nullable h)))) d in
-      let q = and_true (decides rules h) (apart (first h) (first g) && (not (nullable g) && not (nullable h))) p.1 in
-      let q' = and_true (apart (first h) (first g)) (not (nullable g) && not (nullable h)) q.1 in
-      let q'' = and_true (not (nullable g)) (not (nullable h)) q'.1 in
+      let p = and_parts (decides rules g) (decides rules h && (apart (first h) (first g) && (not (nullable g) && not (nullable h)))) d in
+      let q = and_parts (decides rules h) (apart (first h) (first g) && (not (nullable g) && not (nullable h))) p.1 in
+      let q' = and_parts (apart (first h) (first g)) (not (nullable g) && not (nullable h)) q.1 in
+      let q'' = and_parts (not (nullable g)) (not (nullable h)) q'.1 in
       gets_false n m (begins (first g) ts) (read n (readers rules n) g ts) (read n (readers rules n) h ts) x rest
       (apart_stops (first h) (first g) ts q'.0 (nonnull_starts (first h) (nullable h) ts rest q''.1 (spells_shorter (inside rules m) (inside_shorter rules m) h x ts rest s) (spells_starts (inside rules m) (inside_shorter rules m) h x ts rest s)))
       (complete_in n m c h q.0 x ts rest s (stops_both (goes_on g) (goes_on h) rest stop).1)
@@ -204,13 +205,13 @@ module _ {R : Type 0} {Tree : R → Type 0} (rules : (r : R) → Grammar R Tree 
       gets_false n m (begins (first g) ts) (read n (readers rules n) g ts >>= λ p. Ok (Some p.0, p.1)) (Ok (None, ts)) None rest
       (subst (λ z. begins (first g) z ≡ false) (sym s) (stops_both (first g) (goes_on g) rest stop).0) (refl, s)
   complete_in n m c (optional g) d (Some x) ts rest s stop =
-      let p = and_true (decides rules g) (not (nullable g)) d in
+      let p = and_parts (decides rules g) (not (nullable g)) d in
       gets_true n m (begins (first g) ts) (read n (readers rules n) g ts >>= λ p. Ok (Some p.0, p.1)) (Ok (None, ts)) (Some x) rest
       (nonnull_starts (first g) (nullable g) ts rest p.1 (spells_shorter (inside rules m) (inside_shorter rules m) g x ts rest s) (spells_starts (inside rules m) (inside_shorter rules m) g x ts rest s))
       (gets_map n m Some (read n (readers rules n) g ts) x rest (complete_in n m c g p.0 x ts rest s (stops_both (first g) (goes_on g) rest stop).1))
   complete_in n m c (many g) d xs ts rest s stop =
-      let p = and_true (decides rules g) (not (nullable g) && apart (first g) (goes_on g)) d in
-      let q = and_true (not (nullable g)) (apart (first g) (goes_on g)) p.1 in
+      let p = and_parts (decides rules g) (not (nullable g) && apart (first g) (goes_on g)) d in
+      let q = and_parts (not (nullable g)) (apart (first g) (goes_on g)) p.1 in
       let st = stops_both (first g) (goes_on g) rest stop in
       gets_repeat n m g (read n (readers rules n) g) q.0 q.1 (complete_in n m c g p.0) xs (length ts) ts rest (omega arith) s st.0 st.1
   complete_in n m c (staged item f stage) d xs ts rest s stop =

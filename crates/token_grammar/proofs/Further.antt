@@ -1,12 +1,13 @@
 -- A whole spelling that nothing goes beyond is read.
 use Rattle.std.proofs.Common.{◌≡◌, ℕ, zero, suc, ◌≤◌, Bool, true, false, not, ◌&&◌, cond, List, [], ◌∷◌, ◌++◌, length, Some, None, Ok, refl, ap, sym, ◌∙◌, subst, inl, inr, ◌⊎◌, arith}
+use Rattle.std.proofs.lemmas.Bool.{and_parts, or_cases, not-true}
 use Rattle.sql_lex.specs.declared.token.Kind.{Kind}
 use Rattle.sql_lex.specs.declared.token.Token.{Token}
 use Rattle.token_grammar.specs.declared.stage.Stage.{Stage}
 use Rattle.token_grammar.specs.Grammar.{Grammar, token, nested, both, either, optional, many, staged, map_to, Inner, Begun, Each, EachFrom, Spells, Cut, inside, begun}
 use Rattle.token_grammar.specs.Reading.{first, nullable, goes_on, apart, decides, begins, repeat, repeat_from, at_stages, read, readers, ◌>>=◌}
 use Rattle.token_grammar.specs.Exact.{Gets}
-use Rattle.token_grammar.proofs.Ahead.{sees_is, and_true, or_cases, begins-append, apart_stops, each_stage, not_true, not_both}
+use Rattle.token_grammar.proofs.Ahead.{sees_is, begins-append, apart_stops, each_stage, not_both}
 use Rattle.token_grammar.proofs.Shapes.{nothing_begins, inside_grows, spells_grows, spells_shorter, inside_shorter, spells_starts, StartsOrNothing}
 use Rattle.token_grammar.proofs.Complete.{ContentComplete, complete_in, gets_true, gets_false, gets_map, gets_bind, gets_from, gets_nested, gets_token, nonnull_starts, nonnull_least, ItemDecides, item_decides, begins_stage, begins_or_ends}
 
@@ -14,7 +15,7 @@ empties : {R : Type 0} {Tree : R → Type 0} {A : Type 0} (inner : Inner R Tree)
 empties inner (token kind) e ts = cc
 empties inner (nested o r c) e ts = cc
 empties inner (both g h) e ts =
-    let p = and_true (nullable g) (nullable h) e in let a = empties inner g p.0 ts in let b = empties inner h p.1 ts in ((a.0, b.0), (ts, a.1, b.1))
+    let p = and_parts (nullable g) (nullable h) e in let a = empties inner g p.0 ts in let b = empties inner h p.1 ts in ((a.0, b.0), (ts, a.1, b.1))
 empties inner (either g h) e ts = go (or_cases (nullable g) (nullable h) e) (empties inner g) (empties inner h)
   where
     go : (nullable g ≡ true) ⊎ (nullable h ≡ true) → (nullable g ≡ true → (ts : List Token) → (x : _) × Spells inner g x ts ts) → (nullable h ≡ true → (ts : List Token) → (x : _) × Spells inner h x ts ts)
@@ -39,8 +40,8 @@ first_begins : {R : Type 0} {Tree : R → Type 0} {A : Type 0} (rules : (r : R) 
 first_begins rules inner beg can (token kind) d t rest b = inr (t, (sees_is kind t rest b, refl))
 first_begins rules inner beg can (nested o r c) d t rest b = inr (rest, (t, (sees_is o t rest b, refl)), inl (can r rest))
 first_begins rules inner beg can (both g h) d t rest b =
-    let p = and_true (decides rules g) (decides rules h && apart (first h) (goes_on g)) d in
-    let q = and_true (decides rules h) (apart (first h) (goes_on g)) p.1 in
+    let p = and_parts (decides rules g) (decides rules h && apart (first h) (goes_on g)) d in
+    let q = and_parts (decides rules h) (apart (first h) (goes_on g)) p.1 in
     go (append_begins (first g) (cond (nullable g) (first h) []) (t ∷ rest) b) (first_begins rules inner beg can g p.0 t rest) (first_begins rules inner beg can h q.0 t rest)
   where
     go : (begins (first g) (t ∷ rest) ≡ true) ⊎ (begins (cond (nullable g) (first h) []) (t ∷ rest) ≡ true) → (begins (first g) (t ∷ rest) ≡ true → Cut inner beg g (t ∷ rest) rest)
@@ -48,17 +49,17 @@ first_begins rules inner beg can (both g h) d t rest b =
     go (inl a) p q = inl (p a)
     go (inr a) p q = let w = cond_begins (nullable g) (first h) (t ∷ rest) a in let v = empties inner g w.0 (t ∷ rest) in inr (v.0, t ∷ rest, v.1, q w.1)
 first_begins rules inner beg can (either g h) d t rest b =
-    let p = and_true (decides rules g) (decides rules h && (apart (first h) (first g) && (not (nullable g) && not (nullable h)))) d in
-    let q = and_true (decides rules h) (apart (first h) (first g) && (not (nullable g) && not (nullable h))) p.1 in
+    let p = and_parts (decides rules g) (decides rules h && (apart (first h) (first g) && (not (nullable g) && not (nullable h)))) d in
+    let q = and_parts (decides rules h) (apart (first h) (first g) && (not (nullable g) && not (nullable h))) p.1 in
     go (append_begins (first g) (first h) (t ∷ rest) b) (first_begins rules inner beg can g p.0 t rest) (first_begins rules inner beg can h q.0 t rest)
   where
     go : (begins (first g) (t ∷ rest) ≡ true) ⊎ (begins (first h) (t ∷ rest) ≡ true) → (begins (first g) (t ∷ rest) ≡ true → Cut inner beg g (t ∷ rest) rest)
         → (begins (first h) (t ∷ rest) ≡ true → Cut inner beg h (t ∷ rest) rest) → Cut inner beg (either g h) (t ∷ rest) rest
     go (inl a) p q = inl (p a)
     go (inr a) p q = inr (q a)
-first_begins rules inner beg can (optional g) d t rest b = inr (first_begins rules inner beg can g (and_true (decides rules g) (not (nullable g)) d).0 t rest b)
+first_begins rules inner beg can (optional g) d t rest b = inr (first_begins rules inner beg can g (and_parts (decides rules g) (not (nullable g)) d).0 t rest b)
 first_begins rules inner beg can (many g) d t rest b =
-    ([], t ∷ rest, refl, inr (first_begins rules inner beg can g (and_true (decides rules g) (not (nullable g) && apart (first g) (goes_on g)) d).0 t rest b))
+    ([], t ∷ rest, refl, inr (first_begins rules inner beg can g (and_parts (decides rules g) (not (nullable g) && apart (first g) (goes_on g)) d).0 t rest b))
 first_begins rules inner beg can (staged item f stage) d t rest b =
     let di = item_decides rules item stage (each_stage (ItemDecides rules item) d stage) in
     go (append_begins (first (item stage)) (cond (nullable (item stage)) (at_stages (λ u. first (item u))) []) (t ∷ rest) b) di.1 (first_begins rules inner beg can (item stage) di.0 t rest)
@@ -66,7 +67,7 @@ first_begins rules inner beg can (staged item f stage) d t rest b =
     go : (begins (first (item stage)) (t ∷ rest) ≡ true) ⊎ (begins (cond (nullable (item stage)) (at_stages (λ u. first (item u))) []) (t ∷ rest) ≡ true) → not (nullable (item stage)) ≡ true
         → (begins (first (item stage)) (t ∷ rest) ≡ true → Cut inner beg (item stage) (t ∷ rest) rest) → Cut inner beg (staged item f stage) (t ∷ rest) rest
     go (inl a) nn p = ([], t ∷ rest, refl, inr (p a))
-    go (inr a) nn p = absurd (not_both (nullable (item stage)) (cond_begins (nullable (item stage)) (at_stages (λ u. first (item u))) (t ∷ rest) a).0 (not_true (nullable (item stage)) nn))
+    go (inr a) nn p = absurd (not_both (nullable (item stage)) (cond_begins (nullable (item stage)) (at_stages (λ u. first (item u))) (t ∷ rest) a).0 (not-true (nullable (item stage)) nn))
 first_begins rules inner beg can (map_to f g) d t rest b = first_begins rules inner beg can g d t rest b
 
 module _ {R : Type 0} {Tree : R → Type 0} (rules : (r : R) → Grammar R Tree (Tree r)) where
@@ -143,8 +144,8 @@ module _ {R : Type 0} {Tree : R → Type 0} (rules : (r : R) → Grammar R Tree 
   complete_far n m c (nested o r cl) d x ts rest (opened, last, (k, e), s, t') far =
       subst (λ z. Gets n m (read n (readers rules n) (nested o r cl) z) x rest) (sym e) (gets_nested rules n m c o r cl d x.1 opened last rest x.0 k s t')
   complete_far n m c (both g h) d x ts rest (next, s, s') far =
-      let p = and_true (decides rules g) (decides rules h && apart (first h) (goes_on g)) d in
-      let q = and_true (decides rules h) (apart (first h) (goes_on g)) p.1 in
+      let p = and_parts (decides rules g) (decides rules h && apart (first h) (goes_on g)) d in
+      let q = and_parts (decides rules h) (apart (first h) (goes_on g)) p.1 in
       gets_bind n m (λ y z. (y, z)) (read n (readers rules n) g ts) x.0 next
       (one p.0 q.1 (complete_far n m c g p.0 x.0 ts next s) (spells_starts (inside rules m) (inside_shorter rules m) h x.1 next rest s'))
       (read n (readers rules n) h) x.1 rest (complete_far n m c h q.0 x.1 next rest s' (λ end cut. far end (inr (x.0, next, more_room m g x.0 ts next s, cut))))
@@ -154,32 +155,32 @@ module _ {R : Type 0} {Tree : R → Type 0} (rules : (r : R) → Grammar R Tree 
       one dg a ih (inr b) = complete_in rules n m c g dg x.0 ts next s (apart_stops (first h) (goes_on g) next a b)
       one dg a ih (inl e) = ih (λ end cut. subst (λ z. length z ≤ length end) (sym e) (far end (inl cut)))
   complete_far n m c (either g h) d x ts rest (inl s) far =
-      let p = and_true (decides rules g) (decides rules h && (apart (first h) (first g) && (not (nullable g) && not (nullable h)))) d in
-      let q = and_true (decides rules h) (apart (first h) (first g) && (not (nullable g) && not (nullable h))) p.1 in
-      let q' = and_true (apart (first h) (first g)) (not (nullable g) && not (nullable h)) q.1 in
-      let q'' = and_true (not (nullable g)) (not (nullable h)) q'.1 in
+      let p = and_parts (decides rules g) (decides rules h && (apart (first h) (first g) && (not (nullable g) && not (nullable h)))) d in
+      let q = and_parts (decides rules h) (apart (first h) (first g) && (not (nullable g) && not (nullable h))) p.1 in
+      let q' = and_parts (apart (first h) (first g)) (not (nullable g) && not (nullable h)) q.1 in
+      let q'' = and_parts (not (nullable g)) (not (nullable h)) q'.1 in
       gets_true n m (begins (first g) ts) (read n (readers rules n) g ts) (read n (readers rules n) h ts) x rest
       (nonnull_starts (first g) (nullable g) ts rest q''.0 (spells_shorter (inside rules m) (inside_shorter rules m) g x ts rest s) (spells_starts (inside rules m) (inside_shorter rules m) g x ts rest s))
       (complete_far n m c g p.0 x ts rest s (λ end cut. far end (inl cut)))
   complete_far n m c (either g h) d x ts rest (inr s) far =
-      let p = and_true (decides rules g) (decides rules h && (apart (first h) (first g) && (not (nullable g) && not (nullable h)))) d in
-      let q = and_true (decides rules h) (apart (first h) (first g) && (not (nullable g) && not (nullable h))) p.1 in
-      let q' = and_true (apart (first h) (first g)) (not (nullable g) && not (nullable h)) q.1 in
-      let q'' = and_true (not (nullable g)) (not (nullable h)) q'.1 in
+      let p = and_parts (decides rules g) (decides rules h && (apart (first h) (first g) && (not (nullable g) && not (nullable h)))) d in
+      let q = and_parts (decides rules h) (apart (first h) (first g) && (not (nullable g) && not (nullable h))) p.1 in
+      let q' = and_parts (apart (first h) (first g)) (not (nullable g) && not (nullable h)) q.1 in
+      let q'' = and_parts (not (nullable g)) (not (nullable h)) q'.1 in
       gets_false n m (begins (first g) ts) (read n (readers rules n) g ts) (read n (readers rules n) h ts) x rest
       (apart_stops (first h) (first g) ts q'.0 (nonnull_starts (first h) (nullable h) ts rest q''.1 (spells_shorter (inside rules m) (inside_shorter rules m) h x ts rest s) (spells_starts (inside rules m) (inside_shorter rules m) h x ts rest s)))
       (complete_far n m c h q.0 x ts rest s (λ end cut. far end (inr cut)))
   complete_far n m c (optional g) d None ts rest s far =
       gets_false n m (begins (first g) ts) (read n (readers rules n) g ts >>= λ p. Ok (Some p.0, p.1)) (Ok (None, ts)) None rest
-      (stops_far m g (and_true (decides rules g) (not (nullable g)) d).0 ts rest s (λ end cut. far end (inr cut))) (refl, s)
+      (stops_far m g (and_parts (decides rules g) (not (nullable g)) d).0 ts rest s (λ end cut. far end (inr cut))) (refl, s)
   complete_far n m c (optional g) d (Some x) ts rest s far =
-      let p = and_true (decides rules g) (not (nullable g)) d in
+      let p = and_parts (decides rules g) (not (nullable g)) d in
       gets_true n m (begins (first g) ts) (read n (readers rules n) g ts >>= λ p. Ok (Some p.0, p.1)) (Ok (None, ts)) (Some x) rest
       (nonnull_starts (first g) (nullable g) ts rest p.1 (spells_shorter (inside rules m) (inside_shorter rules m) g x ts rest s) (spells_starts (inside rules m) (inside_shorter rules m) g x ts rest s))
       (gets_map n m Some (read n (readers rules n) g ts) x rest (complete_far n m c g p.0 x ts rest s (λ end cut. far end (inr cut))))
   complete_far n m c (many g) d xs ts rest s far =
-      let p = and_true (decides rules g) (not (nullable g) && apart (first g) (goes_on g)) d in
-      let q = and_true (not (nullable g)) (apart (first g) (goes_on g)) p.1 in
+      let p = and_parts (decides rules g) (not (nullable g) && apart (first g) (goes_on g)) d in
+      let q = and_parts (not (nullable g)) (apart (first g) (goes_on g)) p.1 in
       far_repeat n m c g p.0 q.0 q.1 (complete_far n m c g p.0) xs (length ts) ts rest (omega arith) s far
   complete_far n m c (staged item f stage) d xs ts rest s far =
       let dt = each_stage (ItemDecides rules item) d in

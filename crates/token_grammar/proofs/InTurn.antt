@@ -1,4 +1,5 @@
--- A repetition by stages spells what the repetitions of its parts spell one after another, and is cut where they are.
+-- A repetition by stages spells what the repetitions of its parts spell one after another, and is
+-- cut where they are.
 use Rattle.std.proofs.Common.{◌≡◌, List, [], ◌∷◌, ◌++◌, refl, ap, sym, ◌∙◌, subst, inl, inr, ◌⊎◌}
 use Rattle.sql_lex.specs.declared.token.Token.{Token}
 use Rattle.token_grammar.specs.declared.stage.Stage.{Stage}

@@ -9,3 +9,4 @@ pub mod Places
 pub mod Turns
 pub mod Depth
 pub mod InTurn
+pub mod Laws

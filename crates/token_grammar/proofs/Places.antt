@@ -1,16 +1,17 @@
 -- What the reader's outcome says of places.
 use Rattle.std.proofs.Common.{◌≡◌, ℕ, suc, ◌+◌, ◌-◌, ◌<◌, ◌≤◌, true, false, List, [], ◌∷◌, length, drop, Result, Ok, Err, refl, ap, sym, ◌∙◌, subst, inl, inr, ◌⊎◌, arith, length-drop}
+use Rattle.std.proofs.lemmas.List.{drop-drop}
 use Rattle.sql_lex.specs.declared.token.Kind.{Kind}
 use Rattle.sql_lex.specs.declared.token.Token.{Token}
 use Rattle.token_grammar.specs.Grammar.{Grammar, Spells, Cut, inside, begun, Opens}
-use Rattle.token_grammar.specs.Reading.{Outcome, NoSpelling, TooDeep, begins, goes_on, decides, reading}
+use Rattle.token_grammar.specs.Reading.{Outcome, NoSpelling, TooDeep, begins, goes_on, nullable, decides, reading}
 use Rattle.token_grammar.specs.declared.fault.ParseError.{ParseError}
 use Rattle.token_grammar.specs.declared.fault.ParseError.TheVariants as error
 use Rattle.token_grammar.specs.Reads.{Reads}
 use Rattle.token_grammar.specs.Exact.{IsSound, Gets, Reaches, DeepAt}
 use Rattle.token_grammar.specs.Statement.{SpellsWithin, BeginsWithin, IsStuck, IsTooDeep, IsOne, Answers, PartAnswers, place, at_places, answered}
-use Rattle.token_grammar.proofs.After.{After, drop_more, spells_after, inside_after, cut_after, begun_after}
-use Rattle.token_grammar.proofs.Shapes.{whole_begins}
+use Rattle.token_grammar.proofs.After.{After, spells_after, inside_after, cut_after, begun_after}
+use Rattle.token_grammar.proofs.Shapes.{whole_begins, least, spells_shorter, inside_shorter}
 use Rattle.token_grammar.proofs.Sound.{sound}
 use Rattle.token_grammar.proofs.Complete.{complete_in, content_complete}
 use Rattle.token_grammar.proofs.Reach.{reach_in, content_reaches}
@@ -27,7 +28,7 @@ placed_at tokens i k rest li lk e =
 
 placed : (tokens : List Token) (i : ℕ) (rest : List Token) → i ≤ length tokens → After (drop i tokens) rest
     → (rest ≡ drop (place tokens rest) tokens) × (i ≤ place tokens rest) × (length rest ≤ length tokens)
-placed tokens i rest li (k, lk, e) = placed_at tokens i k rest li lk (e ∙ drop_more i k tokens)
+placed tokens i rest li (k, lk, e) = placed_at tokens i k rest li lk (e ∙ drop-drop k i tokens)
 
 stops_none : (kinds : List Kind) (ts : List Token) → kinds ≡ [] → begins kinds ts ≡ false
 stops_none kinds [] e = refl
@@ -78,7 +79,7 @@ module _ {R : Type 0} {Tree : R → Type 0} {A : Type 0} (rules : (r : R) → Gr
       let q = placed tokens i rest li (spells_after (inside rules n) (inside_after rules n) g x (drop i tokens) rest s) in
       (q.1, omega arith, subst (λ z. Spells (inside rules n) g x (drop i tokens) z) q.0 s)
 
-  -- the tokens left behind a place, and the place again
+  -- the tokens left after a place, and the place again
   back : (rest : List Token) → Cut (inside rules n) (begun rules n) g (drop i tokens) rest → (x : A) → SpellsWithin rules n g tokens i x (place tokens rest)
       → Spells (inside rules n) g x (drop i tokens) rest
   back rest c x h =
@@ -122,6 +123,18 @@ module _ {R : Type 0} {Tree : R → Type 0} {A : Type 0} (rules : (r : R) → Gr
       (deep rules n g (drop i tokens))
       (λ x rest s far. complete_far rules n n (content_complete rules all n n) g d x (drop i tokens) rest s far)
 
+-- ---- what is spelled by a token at least ends at a later place
+
+pub goes_further : {R : Type 0} {Tree : R → Type 0} {A : Type 0} (rules : (r : R) → Grammar R Tree (Tree r)) (n : ℕ) (g : Grammar R Tree A) → nullable g ≡ false
+    → (tokens : List Token) (i : ℕ) (tree : A) (j : ℕ) → SpellsWithin rules n g tokens i tree j → i < j
+goes_further rules n g e tokens i tree j s =
+    let a = spells_shorter (inside rules n) (inside_shorter rules n) g tree (drop i tokens) (drop j tokens) s.2 in
+    let b : least (nullable g) ≡ 1 = ap least e in
+    let c = length-drop i tokens in
+    let d = length-drop j tokens in
+    let e : j ≤ length tokens = s.1 in
+    omega arith
+
 -- ---- at most one tree and one end
 
 one_of : {R : Type 0} {Tree : R → Type 0} {A : Type 0} (rules : (r : R) → Grammar R Tree (Tree r)) (n : ℕ) (g : Grammar R Tree A) (tokens : List Token) (i : ℕ) (o : Outcome A)
@@ -152,7 +165,8 @@ module _ {R : Type 0} {Tree : R → Type 0} {A : Type 0} (rules : (r : R) → Gr
   read_part_answers o a (Err error.TooDeep) rest e = subst (λ z. PartAnswers rules n g tokens i (at_places tokens z)) e a
 
 module _ {R : Type 0} {Tree : R → Type 0} {A : Type 0} (rules : (r : R) → Grammar R Tree (Tree r)) (all : (r : R) → decides rules (rules r) ≡ true) where
-  -- of a grammar with an end of its own: ts are the tokens from i on, and k is the place where the input stands afterwards
+  -- of a grammar with an end of its own: ts are the tokens from i on, and k is the place where the
+  -- input stands afterwards
   pub parsed : (n : ℕ) (g : Grammar R Tree A) → decides rules g ≡ true → goes_on g ≡ [] → (tokens : List Token) (i : ℕ) → i ≤ length tokens
       → (ts : List Token) → ts ≡ drop i tokens → (r : Result A ParseError) (rest : List Token) → Reads (reading rules n g ts) r rest
       → (k : ℕ) → k ≡ place tokens rest → Answers rules n g tokens i (answered r k)

@@ -1,5 +1,6 @@
 -- Reading comes as far as anything that is begun.
 use Rattle.std.proofs.Common.{◌≡◌, ℕ, zero, suc, ◌≤◌, Bool, true, false, not, ◌&&◌, cond, List, [], ◌∷◌, length, Some, None, Ok, Err, ap, sym, ◌∙◌, subst, inl, inr, ◌⊎◌, arith}
+use Rattle.std.proofs.lemmas.Bool.{and_parts}
 use Rattle.sql_lex.specs.Tokens.{kind_of}
 use Rattle.sql_lex.specs.declared.token.Kind.{Kind}
 use Rattle.sql_lex.specs.declared.token.Token.{Token}
@@ -7,7 +8,7 @@ use Rattle.token_grammar.specs.declared.stage.Stage.{Stage}
 use Rattle.token_grammar.specs.Grammar.{Grammar, token, nested, both, either, optional, many, staged, map_to, Each, EachFrom, stage_after, Spells, Cut, inside, begun}
 use Rattle.token_grammar.specs.Reading.{Outcome, NoSpelling, TooDeep, first, nullable, goes_on, apart, decides, begins, expect, repeat, repeat_from, at_stages, read, readers, ◌>>=◌}
 use Rattle.token_grammar.specs.Exact.{IsSound, Gets, Reaches}
-use Rattle.token_grammar.proofs.Ahead.{is_sees, and_true, apart_stops, some_stage, each_stage}
+use Rattle.token_grammar.proofs.Ahead.{is_sees, apart_stops, some_stage, each_stage}
 use Rattle.token_grammar.proofs.Shapes.{whole_begins, spells_shorter, inside_shorter, cut_shorter, begun_shorter, spells_starts, cut_starts, StartsOrNothing}
 use Rattle.token_grammar.proofs.Sound.{sound, sound_repeat, sound_repeat_from, sound_token}
 use Rattle.token_grammar.proofs.Complete.{gets_token, nonnull_starts, nonnull_least, begins_some, ContentComplete, gets_nested, complete_in, content_complete, ItemDecides, item_decides, begins_stage}
@@ -216,10 +217,10 @@ module _ {R : Type 0} {Tree : R → Type 0} (rules : (r : R) → Grammar R Tree 
       subst (λ z. Reaches n m (read n (readers rules n) (nested o r cl) z) end) (sym e)
       (gets_reaches n m (read n (readers rules n) (nested o r cl) (t ∷ opened)) (t, x) end (gets_nested rules n m c o r cl d x opened last end t k s t'))
   reach_in n m c cr (both g h) d ts end (inl cut) =
-      reach_both n m g h ts end (reach_in n m c cr g (and_true (decides rules g) (decides rules h && apart (first h) (goes_on g)) d).0 ts end cut)
+      reach_both n m g h ts end (reach_in n m c cr g (and_parts (decides rules g) (decides rules h && apart (first h) (goes_on g)) d).0 ts end cut)
   reach_in n m c cr (both g h) d ts end (inr (x, next, s, cut)) =
-      let p = and_true (decides rules g) (decides rules h && apart (first h) (goes_on g)) d in
-      let q = and_true (decides rules h) (apart (first h) (goes_on g)) p.1 in
+      let p = and_parts (decides rules g) (decides rules h && apart (first h) (goes_on g)) d in
+      let q = and_parts (decides rules h) (apart (first h) (goes_on g)) p.1 in
       go p.0 q.1 (reach_in n m c cr g p.0 ts end) (reach_in n m c cr h q.0 next end cut) (cut_starts (inside rules m) (inside_shorter rules m) (begun rules m) h next end cut)
     where
       go : decides rules g ≡ true → apart (first h) (goes_on g) ≡ true → (Cut (inside rules m) (begun rules m) g ts end → Reaches n m (read n (readers rules n) g ts) end)
@@ -227,16 +228,16 @@ module _ {R : Type 0} {Tree : R → Type 0} (rules : (r : R) → Grammar R Tree 
       go dg a rg rh (inr b) = gets_reach n m (λ y z. (y, z)) (read n (readers rules n) g ts) x next end (complete_in rules n m c g dg x ts next s (apart_stops (first h) (goes_on g) next a b)) (read n (readers rules n) h) rh
       go dg a rg rh (inl e) = reach_both n m g h ts end (rg (subst (λ z. Cut (inside rules m) (begun rules m) g ts z) e (whole_begins (inside rules m) (begun rules m) g x ts next s)))
   reach_in n m c cr (either g h) d ts end (inl cut) =
-      let p = and_true (decides rules g) (decides rules h && (apart (first h) (first g) && (not (nullable g) && not (nullable h)))) d in
+      let p = and_parts (decides rules g) (decides rules h && (apart (first h) (first g) && (not (nullable g) && not (nullable h)))) d in
       go (reach_in n m c cr g p.0 ts end cut) (cut_starts (inside rules m) (inside_shorter rules m) (begun rules m) g ts end cut)
     where
       go : Reaches n m (read n (readers rules n) g ts) end → StartsOrNothing (first g) ts end → Reaches n m (read n (readers rules n) (either g h) ts) end
       go r (inl e) = here n m (either g h) ts end e
       go r (inr b) = reach_true n m (begins (first g) ts) (read n (readers rules n) g ts) (read n (readers rules n) h ts) end b r
   reach_in n m c cr (either g h) d ts end (inr cut) =
-      let p = and_true (decides rules g) (decides rules h && (apart (first h) (first g) && (not (nullable g) && not (nullable h)))) d in
-      let q = and_true (decides rules h) (apart (first h) (first g) && (not (nullable g) && not (nullable h))) p.1 in
-      let q' = and_true (apart (first h) (first g)) (not (nullable g) && not (nullable h)) q.1 in
+      let p = and_parts (decides rules g) (decides rules h && (apart (first h) (first g) && (not (nullable g) && not (nullable h)))) d in
+      let q = and_parts (decides rules h) (apart (first h) (first g) && (not (nullable g) && not (nullable h))) p.1 in
+      let q' = and_parts (apart (first h) (first g)) (not (nullable g) && not (nullable h)) q.1 in
       go q'.0 (reach_in n m c cr h q.0 ts end cut) (cut_starts (inside rules m) (inside_shorter rules m) (begun rules m) h ts end cut)
     where
       go : apart (first h) (first g) ≡ true → Reaches n m (read n (readers rules n) h ts) end → StartsOrNothing (first h) ts end → Reaches n m (read n (readers rules n) (either g h) ts) end
@@ -244,14 +245,14 @@ module _ {R : Type 0} {Tree : R → Type 0} (rules : (r : R) → Grammar R Tree 
       go a r (inr b) = reach_false n m (begins (first g) ts) (read n (readers rules n) g ts) (read n (readers rules n) h ts) end (apart_stops (first h) (first g) ts a b) r
   reach_in n m c cr (optional g) d ts end (inl e) = here n m (optional g) ts end e
   reach_in n m c cr (optional g) d ts end (inr cut) =
-      go (reach_in n m c cr g (and_true (decides rules g) (not (nullable g)) d).0 ts end cut) (cut_starts (inside rules m) (inside_shorter rules m) (begun rules m) g ts end cut)
+      go (reach_in n m c cr g (and_parts (decides rules g) (not (nullable g)) d).0 ts end cut) (cut_starts (inside rules m) (inside_shorter rules m) (begun rules m) g ts end cut)
     where
       go : Reaches n m (read n (readers rules n) g ts) end → StartsOrNothing (first g) ts end → Reaches n m (read n (readers rules n) (optional g) ts) end
       go r (inl e) = here n m (optional g) ts end e
       go r (inr b) = reach_true n m (begins (first g) ts) (read n (readers rules n) g ts >>= λ p. Ok (Some p.0, p.1)) (Ok (None, ts)) end b (reach_map n m Some (read n (readers rules n) g ts) end r)
   reach_in n m c cr (many g) d ts end (xs, next, each, last) =
-      let p = and_true (decides rules g) (not (nullable g) && apart (first g) (goes_on g)) d in
-      let q = and_true (not (nullable g)) (apart (first g) (goes_on g)) p.1 in
+      let p = and_parts (decides rules g) (not (nullable g) && apart (first g) (goes_on g)) d in
+      let q = and_parts (not (nullable g)) (apart (first g) (goes_on g)) p.1 in
       reach_repeat n m c g p.0 q.0 q.1 (reach_in n m c cr g p.0) xs (length ts) ts next end (omega arith) each last
   reach_in n m c cr (staged item f stage) d ts end (xs, next, each, last) =
       let dt = each_stage (ItemDecides rules item) d in

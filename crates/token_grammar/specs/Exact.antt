@@ -6,7 +6,8 @@ use Rattle.sql_lex.specs.declared.token.Token.{Token}
 use Rattle.token_grammar.specs.Grammar.{Grammar, Spells, Cut, inside, begun}
 use Rattle.token_grammar.specs.Reading.{Outcome, NoSpelling, TooDeep}
 
--- a tree that is spelled there; else a beginning, and where there was no room one that goes on by a token in more room
+-- a tree that is spelled there; else a beginning, and where there was no room one that goes on by a
+-- token in more room
 abbrev pub IsSound : {R : Type 0} {Tree : R → Type 0} {A : Type 0} → ((r : R) → Grammar R Tree (Tree r)) → ℕ → Grammar R Tree A → List Token → Outcome A → Type 0
 IsSound rules n g ts (Ok p) = Spells (inside rules n) g p.0 ts p.1
 IsSound rules n g ts (Err (NoSpelling rest)) = Cut (inside rules n) (begun rules n) g ts rest

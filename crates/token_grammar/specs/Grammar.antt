@@ -1,5 +1,6 @@
--- Grammars as values, and what they mean. They are the productions of ISO/IEC 9075-1, 6.2, over tokens. R names the rules whose
--- text stands in a construct, between an opening and a closing token, and Tree the trees of each.
+-- Grammars as values, and what they mean. They are the productions of ISO/IEC 9075-1, 6.2, over
+-- tokens. R names the rules whose text stands in a construct, between an opening and a closing
+-- token, and Tree the trees of each.
 use Rattle.std.specs.Prelude.{◌≡◌, ℕ, zero, suc, List, [], ◌∷◌, Option, Some, None, ◌⊎◌}
 use Rattle.sql_lex.specs.Tokens.{kind_of}
 use Rattle.sql_lex.specs.declared.token.Kind.{Kind}
@@ -28,7 +29,7 @@ pub data Grammar (R : Type 0) (Tree : R → Type 0) : Type 0 → Type 1 where
 abbrev pub Takes : Kind → Token → List Token → List Token → Type 0
 Takes kind t tokens rest = (kind_of t.lexeme ≡ kind) × (tokens ≡ t ∷ rest)
 
--- the rest of the tokens behind one of the kind
+-- the rest of the tokens after one of the kind
 abbrev pub Passes : Kind → List Token → List Token → Type 0
 Passes kind tokens rest = (t : Token) × Takes kind t tokens rest
 
@@ -45,7 +46,7 @@ abbrev pub EachFrom : {A : Type 0} → (Stage → A → List Token → List Toke
 EachFrom spells next stage [] tokens rest = tokens ≡ rest
 EachFrom spells next stage (x ∷ xs) tokens rest = (middle : List Token) × spells stage x tokens middle × EachFrom spells next (next stage x) xs middle rest
 
--- the stage behind the items
+-- the stage after the items
 abbrev pub stage_after : {A : Type 0} → (Stage → A → Stage) → Stage → List A → Stage
 stage_after next stage [] = stage
 stage_after next stage (x ∷ xs) = stage_after next (next stage x) xs
@@ -66,7 +67,8 @@ Spells inner (many g) xs tokens rest = Each (Spells inner g) xs tokens rest
 Spells inner (staged item next stage) xs tokens rest = EachFrom (λ s. Spells inner (item s)) next stage xs tokens rest
 Spells inner (map_to f g) y tokens rest = (x : _) × (y ≡ f x) × Spells inner g x tokens rest
 
--- The tokens up to the end are a spelling cut short, perhaps not at all: of a rule's parts the first are whole, the next is cut, no later one stands.
+-- The tokens up to the end are a spelling cut short, perhaps not at all: of a rule's parts the
+-- first are whole, the next is cut, no later one stands.
 abbrev pub Begun : (R : Type 0) → Type 1
 Begun R = R → List Token → List Token → Type 0
 

@@ -4,6 +4,7 @@ pub mod Reading
 pub mod Reads
 pub mod Exact
 pub mod Statement
-pub mod Example
+pub mod SmallLanguage
+pub mod Examples
 pub mod Stages
 pub mod Printed

@@ -1,4 +1,5 @@
--- The declarations of the small language as they are printed: `{variable ';'} {cursor ';'} {handler ';'}`.
+-- The declarations of the small language as they are printed: `{variable ';'} {cursor ';'} {handler
+-- ';'}`.
 use Rattle.std.specs.Prelude.{◌≡◌, List, Some, None}
 use Rattle.std.proofs.Common.{refl, ap, subst, ◌∙◌, inl, inr}
 use Rattle.sql_lex.specs.declared.token.Token.{Token}
@@ -10,7 +11,7 @@ use Rattle.token_grammar.specs.declared.stage.Stage.TheVariants.{First, Second, 
 use Rattle.token_grammar.specs.Grammar.{Inner, Begun, Spells, Cut, Takes}
 use Rattle.token_grammar.specs.Notation.{word, sign, name, ◌=>◌, name_of}
 use Rattle.token_grammar.specs.Stages.{NotBefore, OfParts, between, of_parts_between}
-use Rattle.token_grammar.specs.Example.{G, Rule, Tree, Declaration, Variable, Cursor, variable_or_cursor, cursor, handler, at_stage, declaration, next_stage}
+use Rattle.token_grammar.specs.SmallLanguage.{G, Rule, Tree, Declaration, Variable, Cursor, variable_or_cursor, cursor, handler, at_stage, declaration, next_stage}
 
 unfoldable pub variable : G Declaration
 variable = (λ t. Variable (name_of t.lexeme)) => name

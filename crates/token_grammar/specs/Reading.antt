@@ -162,7 +162,7 @@ reading rules n g tokens = read n (readers rules n) g tokens
 
 -- ---- outcomes, written otherwise
 
--- the list behind the items that a loop has found
+-- the list after the items that a loop has found
 abbrev pub with_front : {A : Type 0} → List A → Outcome (List A) → Outcome (List A)
 with_front front outcome = outcome >>= λ p. Ok (front ++ p.0, p.1)
 

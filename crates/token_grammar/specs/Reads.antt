@@ -1,4 +1,5 @@
--- What a function of a parser ensures: the reader's outcome, unless memory runs out. An `Err` leaves the tokens from the failing place on.
+-- What a function of a parser ensures: the reader's outcome, unless memory runs out. An `Err`
+-- leaves the tokens from the failing place on.
 use Rattle.std.specs.Prelude.{◌≡◌, List, Result, Ok, Err}
 use Rattle.std.specs.Borrow.{Bor}
 use Rattle.sql_lex.specs.declared.token.Token.{Token}

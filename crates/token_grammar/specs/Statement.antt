@@ -1,8 +1,10 @@
--- What reading says of a statement, and of a part of one, by places in a list of tokens. A place is a token's number, from 0; a
--- grammar is read from place i on, where at most n constructs may be open at once.
+-- What reading says of a statement, and of a part of one, by places in a list of tokens. A place is
+-- a token's number, from 0; a grammar is read from place i on, where at most n constructs may be
+-- open at once.
 use Rattle.std.specs.Prelude.{◌≡◌, ℕ, suc, ◌+◌, ◌-◌, ◌≤◌, List, ◌∷◌, length, drop, Result, Ok, Err}
 use Rattle.sql_lex.specs.Tokens.{kind_of}
 use Rattle.sql_lex.specs.declared.token.Token.{Token}
+use Rattle.token_grammar.specs.declared.TheConstants.{MOST_OPEN}
 use Rattle.token_grammar.specs.declared.fault.ParseError.{ParseError}
 use Rattle.token_grammar.specs.declared.fault.ParseError.TheVariants as error
 use Rattle.token_grammar.specs.declared.fault.ParseFault.{ParseFault}
@@ -12,7 +14,7 @@ use Rattle.token_grammar.specs.Reading.{Outcome, NoSpelling, TooDeep}
 
 -- how many constructs may be open at once in a statement
 abbrev pub most_open : ℕ
-most_open = 24
+most_open = MOST_OPEN
 
 module _ {R : Type 0} {Tree : R → Type 0} {A : Type 0} (rules : (r : R) → Grammar R Tree (Tree r)) (n : ℕ) (g : Grammar R Tree A) (tokens : List Token) (i : ℕ) where
   -- The tree is spelled from place i up to place j, with at most n constructs open at once.
@@ -40,7 +42,8 @@ module _ {R : Type 0} {Tree : R → Type 0} {A : Type 0} (rules : (r : R) → Gr
   abbrev pub OpensAt : Grammar R Tree A → List Token → ℕ → Type 0
   OpensAt g tokens k = (t : Token) × (more : List Token) × (drop k tokens ≡ t ∷ more) × Opens rules g (kind_of t.lexeme)
 
-  -- No beginning goes further with at most n constructs open, but one goes on by the token at k, which opens one more.
+  -- No beginning goes further with at most n constructs open, but one goes on by the token at k,
+  -- which opens one more.
   abbrev pub IsTooDeep : ℕ → Grammar R Tree A → List Token → ℕ → ℕ → Type 0
   IsTooDeep n g tokens i k = IsFurthest n g tokens i k × BeginsWithin rules (suc n) g tokens i (k + 1) × OpensAt g tokens k
 
@@ -52,8 +55,9 @@ module _ {R : Type 0} {Tree : R → Type 0} {A : Type 0} (rules : (r : R) → Gr
   abbrev pub IsOne : ℕ → Grammar R Tree A → List Token → ℕ → Type 0
   IsOne n g tokens i = (x : A) (j : ℕ) (y : A) (k : ℕ) → SpellsWithin rules n g tokens i x j → SpellsWithin rules n g tokens i y k → (x ≡ y) × (j ≡ k)
 
-  -- The answer of a parser for a grammar with an end of its own, as a statement's `;`: the one tree that is spelled from i on, and the place
-  -- behind it; else where the longest beginning ends, and whether for want of constructs alone.
+  -- The answer of a parser for a grammar with an end of its own, as a statement's `;`: the one tree
+  -- that is spelled from i on, and the place after it; else where the longest beginning ends, and
+  -- whether for want of constructs alone.
   abbrev pub Answers : ℕ → Grammar R Tree A → List Token → ℕ → Result (A × ℕ) ParseFault → Type 0
   Answers n g tokens i (Ok p) = SpellsWithin rules n g tokens i p.0 p.1
       × ((tree : A) (j : ℕ) → SpellsWithin rules n g tokens i tree j → (p.0 ≡ tree) × (p.1 ≡ j))
@@ -61,8 +65,9 @@ module _ {R : Type 0} {Tree : R → Type 0} {A : Type 0} (rules : (r : R) → Gr
   Answers n g tokens i (Err (fault.TooDeep k)) = IsTooDeep n g tokens i k × ReadsNothing n g tokens i
   Answers n g tokens i (Err fault.NoMemory) = Unit {0}
 
-  -- The answer of a parser for a part of a statement, which has no end of its own, so that a whole spelling is a beginning too: with k the
-  -- place where the longest beginning ends, the one tree that is spelled up to k, where there is one.
+  -- The answer of a parser for a part of a statement, which has no end of its own, so that a whole
+  -- spelling is a beginning too: with k the place where the longest beginning ends, the one tree
+  -- that is spelled up to k, where there is one.
   abbrev pub PartAnswers : ℕ → Grammar R Tree A → List Token → ℕ → Result (A × ℕ) ParseFault → Type 0
   PartAnswers n g tokens i (Ok p) = IsStuck n g tokens i p.1 × SpellsWithin rules n g tokens i p.0 p.1
       × ((tree : A) → SpellsWithin rules n g tokens i tree p.1 → p.0 ≡ tree)

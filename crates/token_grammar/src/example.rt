@@ -1,8 +1,8 @@
-//! A small language, for which the laws are spoken out. `specs/Example.antt` has its grammar and worked rows.
+//! A small language, for which the laws are spoken out. `specs/SmallLanguage.antt` has its grammar.
 
 ghost use Rattle.std.specs.Prelude.{◌≡◌, ◌↔◌, ℕ, ◌≤◌, List, Option, length, drop};
 ghost use Rattle.sql_lex.specs.declared.token.Token.{Token};
-ghost use Rattle.token_grammar.specs.Example as language;
+ghost use Rattle.token_grammar.specs.SmallLanguage as language;
 ghost use Rattle.token_grammar.specs.Grammar.{Spells, Cut, inside, begun};
 ghost use Rattle.token_grammar.specs.Printed.{printed, declarations_of_parts};
 ghost use Rattle.token_grammar.specs.Reading.{reading};

@@ -1,9 +1,10 @@
 //! Why nothing was read.
 
-use sql_values::NoMemory;
+use sql_texts::NoMemory;
 use std::alloc::{AllocError, AllocFailed};
 
-/// Why a function of a parser read nothing. Its input then stands at the token that does not go on with what was read.
+/// Why a function of a parser read nothing. Its input then stands at the token that does not go on
+/// with what was read.
 #[derive(Clone, Copy, Debug, PartialEq, Eq)]
 pub enum ParseError {
     /// No memory was there.
@@ -68,9 +69,10 @@ impl From<NoMemory> for ParseError {
 pub enum ParseFault {
     /// No memory was there.
     NoMemory,
-    /// From the first token on stands the beginning of a statement up to this token, and no longer one.
+    /// From the first token on stands the beginning of a statement up to this token, and no longer
+    /// one.
     NoStatement(usize),
-    /// From the first token on stands the beginning of a statement up to this token, and with it a longer one, in which it
-    /// opens one construct more than may be open.
+    /// From the first token on stands the beginning of a statement up to this token, and with it a
+    /// longer one, in which it opens one construct more than may be open.
     TooDeep(usize),
 }

@@ -11,7 +11,7 @@ ghost use Rattle.token_grammar.specs.Statement.{place};
 
 use crate::fault::ParseError;
 use sql_lex::{Kind, Lexeme, Token};
-use sql_values::{Name, NoMemory, Text};
+use sql_texts::{Name, NoMemory, Text};
 
 #[tactic(auto, unfolding(crate::specs::Reading::same_kind))]
 fn is_same(a: Kind, b: Kind) -> bool
@@ -110,6 +110,17 @@ impl<'a> Input<'a> {
         }
     }
 
+    /// Whether the next token is of one of the kinds.
+    #[tactic(auto, using(crate::proofs::Ahead::begins_none, crate::proofs::Ahead::begins_more))]
+    pub fn sees_any(&self, kinds: &[Kind]) -> bool
+        ensures { result ≡ begins kinds.now self.now.rest.now }
+    {
+        match kinds {
+            [] => false,
+            [kind, rest @ ..] => self.sees(*kind) || self.sees_any(rest),
+        }
+    }
+
     /// The number of the next token, or 0 where none is left: the place of what begins here.
     pub fn place(&self) -> usize
         ensures { result ≡ (next_token self.now.rest.now).number }
@@ -120,7 +131,7 @@ impl<'a> Input<'a> {
         }
     }
 
-    /// Goes on behind the next token.
+    /// Goes on after the next token.
     pub fn take(&mut self)
         ensures { self.new.rest.now ≡ drop 1 self.old.rest.now }
     {
@@ -129,7 +140,7 @@ impl<'a> Input<'a> {
         }
     }
 
-    /// Goes on behind the next token if it is of the kind, and says whether it was.
+    /// Goes on after the next token if it is of the kind, and says whether it was.
     pub fn eat(&mut self, kind: Kind) -> bool
         ensures found { result ≡ begins (kind ∷ []) self.old.rest.now }
         ensures after { self.new.rest.now ≡ cond result (drop 1 self.old.rest.now) self.old.rest.now }
@@ -156,8 +167,9 @@ impl<'a> Input<'a> {
         }
     }
 
-    /// Opens a construct by a token of the kind, and answers how many more may be opened in it. NoStatement: another token
-    /// stands here, or none. TooDeep: the token stands here, and none may be opened.
+    /// Opens a construct by a token of the kind, and answers how many more may be opened in it.
+    /// NoStatement: another token stands here, or none. TooDeep: the token stands here, and none
+    /// may be opened.
     pub fn open(&mut self, room: u32, kind: Kind) -> Result<u32, ParseError>
         ensures { Reads (mapped (λ p. p.1) (enter room kind self.old.rest.now)) result self.new.rest.now }
     {
@@ -171,7 +183,8 @@ impl<'a> Input<'a> {
         Ok(room - 1)
     }
 
-    /// Reads a token of the kind behind what was read, as it closes a construct. NoStatement: another token stands here, or none.
+    /// Reads a token of the kind after what was read, as it closes a construct. NoStatement:
+    /// another token stands here, or none.
     pub fn close<T: Drop>(&mut self, kind: Kind, read: T) -> Result<T, ParseError>
         ensures { Reads (mapped (λ _. read) (expect kind self.old.rest.now)) result self.new.rest.now }
     {
@@ -216,6 +229,8 @@ mod tests {
         );
         assert_eq!(rt; input.open(1, Kind::Sign(Sign::LeftParen)), Ok(0));
         assert!(rt; !input.eat(Kind::Number));
+        assert!(rt; input.sees_any(&[Kind::Number, Kind::Name]));
+        assert!(rt; !input.sees_any(&[]));
         let copy = name_in(input.expect(Kind::Name).expect(&rt, "there")).expect(&rt, "there");
         assert_eq!(rt; copy.as_bytes(), b"X".as_slice());
         assert_eq!(rt; input.place(), 2);

@@ -9,8 +9,8 @@ ghost use Rattle.token_grammar.specs.Stages.{OfParts, in_turn};
 ghost use Rattle.token_grammar.specs.Reading.{decides, goes_on, reading};
 ghost use Rattle.token_grammar.specs.Statement.{Answers, IsOne, PartAnswers, at_places};
 
-/// A grammar with the rules that it names, which one token ahead decides. No code has a value of such a type: it stands for what
-/// contracts speak of.
+/// A grammar with the rules that it names, which one token ahead decides. No code has a value of
+/// such a type: it stands for what contracts speak of.
 pub trait Part {
     /// What names a rule whose text stands in a construct.
     ghost Rule: { Type 0 };
@@ -40,14 +40,15 @@ pub trait Ending: Part {
     ghost ends: { goes_on Self.part ≡ [] };
 }
 
-/// Reading a part from place i on, with room for n constructs: the place where the longest beginning ends, and the one tree that is spelled
-/// up to it, where there is one.
+/// Reading a part from place i on, with room for n constructs: the place where the longest
+/// beginning ends, and the one tree that is spelled up to it, where there is one.
 pub fn reads_part<P: Part>()
     ensures { (n : ℕ) (tokens : List Token) (i : ℕ) → i ≤ length tokens → PartAnswers P.rules n P.part tokens i (at_places tokens (reading P.rules n P.part (drop i tokens))) }
 {}
 
-/// Reading a part with an end from place i on, with room for n constructs: the one tree that is spelled there, and the place behind it; else
-/// the place where the longest beginning ends, and whether one more construct would go on.
+/// Reading a part with an end from place i on, with room for n constructs: the one tree that is
+/// spelled there, and the place after it; else the place where the longest beginning ends, and
+/// whether one more construct would go on.
 pub fn reads_whole<E: Ending>()
     ensures answers { (n : ℕ) (tokens : List Token) (i : ℕ) → i ≤ length tokens → Answers E.rules n E.part tokens i (at_places tokens (reading E.rules n E.part (drop i tokens))) }
     ensures one { (n : ℕ) (tokens : List Token) (i : ℕ) → i ≤ length tokens → IsOne E.rules n E.part tokens i }
@@ -73,14 +74,15 @@ pub trait Staged {
     /// How an item is read at each stage.
     ghost item: { Stage → Grammar Rule Tree Item };
 
-    /// The stage behind an item.
+    /// The stage after an item.
     ghost next: { Stage → Item → Stage };
 
     /// At each stage an item is what that stage's part or a later one's spells.
     ghost of_parts: { (n : ℕ) → OfParts (inside rules n) (begun rules n) part item next };
 }
 
-/// What a repetition by stages spells and how it is cut: as the repetitions of its parts one after another.
+/// What a repetition by stages spells and how it is cut: as the repetitions of its parts one after
+/// another.
 pub fn stands_in_turn<S: Staged>()
     ensures whole { (n : ℕ) (items : List S.Item) (tokens rest : List Token) → (Spells (inside S.rules n) (staged S.item S.next stages.First) items tokens rest ↔ Spells (inside S.rules n) (in_turn S.part) items tokens rest) }
     ensures cut { (n : ℕ) (tokens end : List Token) → (Cut (inside S.rules n) (begun S.rules n) (staged S.item S.next stages.First) tokens end ↔ Cut (inside S.rules n) (begun S.rules n) (in_turn S.part) tokens end) }

@@ -1,14 +1,19 @@
 use Rattle.sql_grammar.proofs.open_constructs.Goals as goal
-use Rattle.sql_grammar.proofs.Openings as openings
+use Rattle.sql_grammar.proofs.Laws.{tell_open}
+use Rattle.sql_grammar.specs.Queries.{query}
+use Rattle.sql_grammar.specs.Writing.{dml}
+use Rattle.sql_grammar.specs.Definitions.{ddl}
+use Rattle.sql_grammar.specs.Sql.{statement}
+use Rattle.sql_grammar.specs.Decides.{statement_sound, statement_stands, query_sound, query_stands, dml_sound, dml_stands, ddl_sound, ddl_stands}
 
 pub returns-clause-statement : goal.returns-clause-statement
-returns-clause-statement c = openings.of_statement
+returns-clause-statement c = tell_open statement statement_sound statement_stands
 
 pub returns-clause-query : goal.returns-clause-query
-returns-clause-query c = openings.of_query
+returns-clause-query c = tell_open query query_sound query_stands
 
 pub returns-clause-dml : goal.returns-clause-dml
-returns-clause-dml c = openings.of_dml
+returns-clause-dml c = tell_open dml dml_sound dml_stands
 
 pub returns-clause-ddl : goal.returns-clause-ddl
-returns-clause-ddl c = openings.of_ddl
+returns-clause-ddl c = tell_open ddl ddl_sound ddl_stands

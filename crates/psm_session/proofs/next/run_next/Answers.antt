@@ -1,5 +1,5 @@
 use Rattle.std.proofs.Common.{refl, inl, inr}
-use Rattle.reply_text.specs.declared.reply.FaultText.TheVariants.{Syntax, TooDeep}
+use Rattle.reply_text.specs.declared.fault.FaultText.TheVariants.{Syntax, TooDeep}
 use Rattle.psm_session.proofs.Unread.{unread}
 use Rattle.psm_session.proofs.next.run_next.Goals as goal
 

@@ -1,5 +1,6 @@
 use Rattle.std.proofs.Common.{◌≡◌, length}
 use Rattle.token_grammar.specs.Reading.{reading, with_front}
+use Rattle.sql_grammar.specs.Definitions as definitions
 use Rattle.sql_grammar.specs.Sql as g
 use Rattle.sql_parse.proofs.create.more_columns.Given as goal
 
@@ -8,4 +9,4 @@ decreases-more l = length l.input.rest.now
 
 abbrev pub invariant-more : goal.invariant-more
 invariant-more l =
-    with_front l.found (reading g.rules l.room g.more_columns l.input.rest.now) ≡ reading g.rules l.room g.more_columns l.initial.input.rest.now
+    with_front l.found (reading g.rules l.room definitions.more_columns l.input.rest.now) ≡ reading g.rules l.room definitions.more_columns l.initial.input.rest.now

@@ -1,5 +1,6 @@
 use Rattle.std.proofs.Common.{◌≡◌, ◌+◌, ◌*◌, length}
 use Rattle.token_grammar.specs.Reading.{reading, with_front}
+use Rattle.sql_grammar.specs.Expressions as expressions
 use Rattle.sql_grammar.specs.Sql as g
 use Rattle.sql_parse.proofs.expr.+parser.Given as goal
 
@@ -50,18 +51,18 @@ decreases-factors-more l = length l.input.rest.now
 
 abbrev pub invariant-factors-more : goal.invariant-factors-more
 invariant-factors-more l =
-    with_front l.found (reading g.rules l.room g.factors l.input.rest.now) ≡ reading g.rules l.room g.factors l.initial.input.rest.now
+    with_front l.found (reading g.rules l.room expressions.factors l.input.rest.now) ≡ reading g.rules l.room expressions.factors l.initial.input.rest.now
 
 abbrev pub decreases-addends-more : goal.decreases-addends-more
 decreases-addends-more l = length l.input.rest.now
 
 abbrev pub invariant-addends-more : goal.invariant-addends-more
 invariant-addends-more l =
-    with_front l.found (reading g.rules l.room g.addends l.input.rest.now) ≡ reading g.rules l.room g.addends l.initial.input.rest.now
+    with_front l.found (reading g.rules l.room expressions.addends l.input.rest.now) ≡ reading g.rules l.room expressions.addends l.initial.input.rest.now
 
 abbrev pub decreases-more_exprs-more : goal.decreases-more_exprs-more
 decreases-more_exprs-more l = length l.input.rest.now
 
 abbrev pub invariant-more_exprs-more : goal.invariant-more_exprs-more
 invariant-more_exprs-more l =
-    with_front l.found (reading g.rules l.room g.more_exprs l.input.rest.now) ≡ reading g.rules l.room g.more_exprs l.initial.input.rest.now
+    with_front l.found (reading g.rules l.room expressions.more_exprs l.input.rest.now) ≡ reading g.rules l.room expressions.more_exprs l.initial.input.rest.now

@@ -1,14 +1,22 @@
 use Rattle.std.proofs.Common.{subst, sym, ap, ◌∙◌, ◌-◌, drop}
-use Rattle.sql_grammar.specs.Sql as g
-use Rattle.sql_grammar.specs.Decides.{all_decide, dml_decides}
-use Rattle.token_grammar.specs.Statement.{PartAnswers, place}
-use Rattle.token_grammar.proofs.Places.{parsed_part}
+use Rattle.sql_grammar.proofs.Laws.{part_deep_exactly}
+use Rattle.sql_grammar.specs.Decides.{all_decide, dml_decides, dml_sound, dml_stands}
+use Rattle.sql_grammar.specs.Writing.{dml}
+use Rattle.sql_grammar.specs.Sql.{rules}
+use Rattle.token_grammar.specs.Statement.{PartAnswers, most_open, place}
+use Rattle.token_grammar.proofs.Laws.{parsed_part}
 use Rattle.sql_parse.proofs.parse.parse_dml.Goals as goal
 
-pub returns : goal.returns
-returns c =
-    subst (λ z. PartAnswers g.rules (24 - c.args.already_open) g.dml c.args.tokens.now.tokens c.args.at z) (sym c.answered.ensures)
-    (parsed_part g.rules all_decide (24 - c.args.already_open) g.dml dml_decides c.args.tokens.now.tokens c.args.at c.requires.there
+answer : (c : goal.After-answered) → PartAnswers rules (most_open - c.args.already_open) dml c.args.tokens.now.tokens c.args.at c.answered.result
+answer c =
+    subst (λ z. PartAnswers rules (most_open - c.args.already_open) dml c.args.tokens.now.tokens c.args.at z) (sym c.answered.ensures)
+    (parsed_part rules all_decide (most_open - c.args.already_open) dml dml_decides c.args.tokens.now.tokens c.args.at c.requires.there
     c.from_place-input.result.rest.now (c.from_place-input.ensures ∙ ap (drop c.args.at) c.as_slice-all.ensures)
     c.dml-read.result c.dml-read.new.input.rest.now c.dml-read.ensures
     c.place_in-place.result (c.place_in-place.ensures ∙ ap (λ z. place z c.dml-read.new.input.rest.now) c.as_slice-all.ensures))
+
+pub returns-clause-answers : goal.returns-clause-answers
+returns-clause-answers c = answer c
+
+pub returns-clause-deep : goal.returns-clause-deep
+returns-clause-deep c = part_deep_exactly dml dml_sound dml_stands (most_open - c.args.already_open) c.args.tokens.now.tokens c.args.at c.answered.result (answer c)

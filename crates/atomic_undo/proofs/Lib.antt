@@ -1,0 +1,13 @@
+pub mod Places
+pub mod Results
+pub mod TakingBack
+pub mod Laws
+pub mod Steps
+pub mod Inserting
+pub mod Deleting
+pub mod Replacing
+pub mod Rekeying
+pub mod Rekeyed
+pub mod Sorting
+pub mod Placing
+pub mod Climbing

@@ -1,0 +1,64 @@
+-- Worked rows: what changes leave, where they are refused, and what taking them back gives.
+use Rattle.std.specs.Prelude.{◌≡◌, ℕ, pos, true, false, List, [], ◌∷◌, ◌++◌, Some, None, codes}
+use Rattle.std.proofs.Common.{refl}
+use Rattle.sql_values.specs.declared.value.Value.TheVariants.{Int}
+use Rattle.row_types.specs.Ordered.{in_order, first_repeat}
+use Rattle.row_types.specs.Rows.{Row, by_key}
+use Rattle.row_types.specs.Tables.{Tables, table_at}
+use Rattle.atomic_undo.specs.declared.log.Edit.TheVariants.{Inserted, Removed, Replaced}
+use Rattle.atomic_undo.specs.declared.log.Entry.{Entry}
+use Rattle.atomic_undo.specs.Undo.{rows_before, back_to}
+use Rattle.atomic_undo.specs.Changes.{removed_all, set_all, keys_stay}
+use Rattle.atomic_undo.specs.Sorting.{PutAlike}
+
+-- a key and a value
+abbrev row : ℕ → ℕ → Row
+row k v = Int (pos k) ∷ Int (pos v) ∷ []
+
+abbrev three : List Row
+three = row 1 10 ∷ row 3 30 ∷ row 5 50 ∷ []
+
+-- DELETE of the first and the last
+deleted : removed_all (0 ∷ 2 ∷ []) three ≡ row 3 30 ∷ []
+deleted = refl
+
+-- UPDATE k = k + 2: the result in its own order, and in key order; no key is one of an earlier row
+updated : set_all (0 ∷ 1 ∷ 2 ∷ []) (row 3 10 ∷ row 5 30 ∷ row 7 50 ∷ []) three ≡ row 3 10 ∷ row 5 30 ∷ row 7 50 ∷ []
+updated = refl
+
+keys_move : keys_stay (by_key (0 ∷ [])) (0 ∷ []) (row 3 10 ∷ []) three ≡ false
+keys_move = refl
+
+not_refused : first_repeat (by_key (0 ∷ [])) (row 3 10 ∷ row 5 30 ∷ row 7 50 ∷ []) ≡ None
+not_refused = refl
+
+-- INSERT of 9, 8, 9: refused at the third new row, which is at place 5 of the result
+refused : first_repeat (by_key (0 ∷ [])) (three ++ row 9 0 ∷ row 8 0 ∷ row 9 1 ∷ []) ≡ Some 5
+refused = refl
+
+-- INSERT of 4, 2
+inserted : in_order (by_key (0 ∷ [])) (three ++ row 4 0 ∷ row 2 0 ∷ []) ≡ row 1 10 ∷ row 2 0 ∷ row 3 30 ∷ row 4 0 ∷ row 5 50 ∷ []
+inserted = refl
+
+alike : PutAlike (by_key (0 ∷ [])) three (row 2 0 ∷ row 4 0 ∷ []) (row 4 0 ∷ row 2 0 ∷ [])
+alike = (refl, λ _. refl)
+
+-- that INSERT taken back: the row that went in last goes out first
+taken_back : rows_before (Inserted 2 ∷ Inserted 1 ∷ []) (row 1 10 ∷ row 2 0 ∷ row 3 30 ∷ row 4 0 ∷ row 5 50 ∷ []) ≡ three
+taken_back = refl
+
+brought_back : rows_before (Removed 2 (row 5 50) ∷ Replaced 0 (row 1 10) ∷ []) (row 1 11 ∷ row 3 30 ∷ []) ≡ three
+brought_back = refl
+
+-- two marks: behind the first entry, and before it
+abbrev tables : List Row → Tables
+tables rows = record { name = codes "T"; table = record { columns = []; key = 0 ∷ []; rows = rows } } ∷ []
+
+abbrev log : List Entry
+log = record { table = 0; edits = Inserted 0 ∷ [] } ∷ record { table = 0; edits = Removed 0 (row 1 10) ∷ [] } ∷ []
+
+inner : back_to 1 log (tables []) ≡ tables (row 1 10 ∷ [])
+inner = refl
+
+outer : back_to 0 log (tables []) ≡ tables []
+outer = refl

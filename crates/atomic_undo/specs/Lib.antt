@@ -1,0 +1,6 @@
+pub mod Book
+pub mod Undo
+pub mod Changes
+pub mod Applying
+pub mod Sorting
+pub mod Examples

@@ -1,0 +1,21 @@
+//! Changes of tables, and the log by which they are taken back.
+#![tactic(auto)]
+
+mod changes;
+mod delete;
+mod fault;
+mod insert;
+mod log;
+mod rekey;
+mod sorted;
+mod statement;
+#[cfg(test)]
+mod tests;
+mod undo;
+mod update;
+
+pub use changes::Changes;
+pub use fault::ApplyFault;
+pub use log::{Edit, Entry, Log, Mark};
+pub use statement::apply;
+pub use undo::roll_back;

@@ -1,0 +1,123 @@
+-- Taking out the entry of a name that no other entry uses.
+use Rattle.std.proofs.Common.{◌≡◌, ℕ, ◌+◌, ◌||◌, ◌&&◌, not, Bool, true, false, cond, List, [], ◌∷◌, ◌++◌, length, length-append, filter, None, Some, refl, sym, ap, ◌∙◌, subst, arith}
+use Rattle.std.specs.List.{list_any}
+use Rattle.std.specs.Str.{bytes_eq}
+use Rattle.std.specs.Map.{remove_entry}
+use Rattle.std.proofs.lemmas.List.Elements.{filter-append}
+use Rattle.catalog_store.specs.declared.entry.Object.{Object as HeldObject}
+use Rattle.catalog_store.specs.declared.entry.Object.TheVariants.{Table, Function as FunctionRecord}
+use Rattle.catalog_store.specs.Catalog.{Object, Catalog, object_named}
+use Rattle.catalog_store.specs.Calls.{CallPlace, names_called, calls_in}
+use Rattle.catalog_store.specs.Entries.{object_of, entry_of, with_all, ObjectFits, AreSound}
+use Rattle.catalog_store.specs.Users.{mentions, is_user, users_of, without}
+use Rattle.catalog_store.proofs.Named.{bytes_self, bytes_swap, other_bytes, named_kept, named_behind, named_more, named_less, without_none, without_front, without_last}
+use Rattle.catalog_store.proofs.Sound.{Held, grown, SameCalls, same_object, same_fits}
+use Rattle.catalog_store.proofs.Trees.{Same}
+
+-- an entry in memory that uses a name
+abbrev pub held_user : List ℕ → Held → Bool
+held_user name e = is_user name (entry_of [] e.0 e.1)
+
+users_one : (name : List ℕ) (known : Catalog) (e : Held) → length (filter (is_user name) (entry_of known e.0 e.1 ∷ [])) ≡ cond (held_user name e) 1 0
+users_one name known (other, Table row_type) = by (not (bytes_eq other name) && false)
+  where
+    by : (b : Bool) → length (cond b (entry_of known other (Table row_type) ∷ []) []) ≡ cond b 1 0
+    by true = refl
+    by false = refl
+users_one name known (other, FunctionRecord r) = by (not (bytes_eq other name) && list_any (λ used. bytes_eq used name) r.head.uses)
+  where
+    by : (b : Bool) → length (cond b (entry_of known other (FunctionRecord r) ∷ []) []) ≡ cond b 1 0
+    by true = refl
+    by false = refl
+
+length-filter-cons : {A : Type 0} (test : A → Bool) (x : A) (xs : List A) → length (filter test (x ∷ xs)) ≡ cond (test x) 1 0 + length (filter test xs)
+length-filter-cons test x xs = by (test x)
+  where
+    by : (b : Bool) → length (cond b (x ∷ filter test xs) (filter test xs)) ≡ cond b 1 0 + length (filter test xs)
+    by true = omega arith
+    by false = omega arith
+
+-- how many entries use a name, by the entries in memory
+pub users-with_all : (name : List ℕ) (known : Catalog) (es : List Held) → users_of name (with_all known es) ≡ users_of name known + length (filter (held_user name) es)
+users-with_all name known [] = omega arith
+users-with_all name known (e ∷ es) =
+    let next = entry_of known e.0 e.1 ∷ [] in
+    omega (
+      arith,
+      users-with_all name (grown known e) es,
+      ap (λ (k : Catalog). length k) (filter-append (is_user name) known next),
+      length-append (filter (is_user name) known) (filter (is_user name) next),
+      users_one name known e,
+      length-filter-cons (held_user name) e es,
+    )
+
+first_unused : (name : List ℕ) (e : Held) (es : List Held) → length (filter (held_user name) (e ∷ es)) ≡ 0 → held_user name e ≡ false
+first_unused name e es h = by (held_user name e) (sym (length-filter-cons (held_user name) e es) ∙ h)
+  where
+    by : (b : Bool) → cond b 1 0 + length (filter (held_user name) es) ≡ 0 → b ≡ false
+    by true h = absurd (omega arith)
+    by false h = refl
+
+others_unused : (name : List ℕ) (e : Held) (es : List Held) → length (filter (held_user name) (e ∷ es)) ≡ 0 → length (filter (held_user name) es) ≡ 0
+others_unused name e es h = by (held_user name e) (sym (length-filter-cons (held_user name) e es) ∙ h)
+  where
+    by : (b : Bool) → cond b 1 0 + length (filter (held_user name) es) ≡ 0 → length (filter (held_user name) es) ≡ 0
+    by true h = omega arith
+    by false h = omega arith
+
+-- calls of other names stand for the same
+other_calls : (name : List ℕ) (known : Catalog) (cs : List CallPlace) → list_any (λ used. bytes_eq used name) (names_called cs) ≡ false → Same known (without name known) cs
+other_calls name known [] h = tt
+other_calls name known (c ∷ cs) h = by (bytes_eq c.name name) refl h (other_calls name known cs)
+  where
+    by : (b : Bool) → bytes_eq c.name name ≡ b → (b || list_any (λ used. bytes_eq used name) (names_called cs)) ≡ false →
+        (list_any (λ used. bytes_eq used name) (names_called cs) ≡ false → Same known (without name known) cs) → Same known (without name known) (c ∷ cs)
+    by true e h k = cc
+    by false e h k =
+        let apart : ¬ (c.name ≡ name) = λ q. let t : bytes_eq c.name name ≡ true = subst (λ (x : List ℕ). bytes_eq c.name x ≡ true) q (bytes_self c.name) in cc in
+        (named_less name c.name known apart, k h)
+
+same_without : (name : List ℕ) (known : Catalog) (o : HeldObject) → ObjectFits known o → mentions name (object_of [] o) ≡ false → SameCalls known (without name known) o
+same_without name known (Table row_type) fits h = tt
+same_without name known (FunctionRecord r) fits h =
+    other_calls name known (calls_in r.body) (ap (λ (us : List (List ℕ)). list_any (λ used. bytes_eq used name) us) (sym fits.uses) ∙ h)
+
+-- of an entry of another name that isn't a user
+mentions_not : (name : List ℕ) (e : Held) → bytes_eq e.0 name ≡ false → held_user name e ≡ false → mentions name (object_of [] e.1) ≡ false
+mentions_not name e apart h = ap (λ b. not b && mentions name (object_of [] e.1)) (sym apart) ∙ h
+
+-- entries behind one that goes stand for what they stood for
+behind : (name : List ℕ) (known : Catalog) (es : List Held) (o : Object) → object_named name known ≡ Some o → length (filter (held_user name) es) ≡ 0 → AreSound known es →
+    AreSound (without name known) es × (with_all (without name known) es ≡ without name (with_all known es))
+behind name known [] o stands unused sound = (tt, refl)
+behind name known (e ∷ es) o stands unused sound =
+    let differ : ¬ (e.0 ≡ name) = λ q. let t : object_named name known ≡ None = subst (λ (n : List ℕ). object_named n known ≡ None) q sound.0 in cc in
+    let apart : bytes_eq e.0 name ≡ false = other_bytes e.0 name differ in
+    let same = same_without name known e.1 sound.1 (mentions_not name e apart (first_unused name e es unused)) in
+    let less : without name (grown known e) ≡ grown (without name known) e =
+    without_front name known (entry_of known e.0 e.1 ∷ []) o stands
+    ∙ ap (λ (x : Object). without name known ++ record { name = e.0; object = x } ∷ []) (sym (same_object known (without name known) e.1 same)) in
+    let rest = behind name (grown known e) es o (named_kept name known (entry_of known e.0 e.1 ∷ []) o stands) (others_unused name e es unused) sound.2 in (
+      (named_less name e.0 known differ ∙ sound.0, same_fits known (without name known) e.1 same sound.1, subst (λ (k : Catalog). AreSound k es) less rest.0),
+      ap (λ (k : Catalog). with_all k es) (sym less) ∙ rest.1,
+    )
+
+-- the entries without that of a name are sound, and stand for the catalog without it
+pub dropped : (name : List ℕ) (known : Catalog) (es : List Held) → object_named name known ≡ None → length (filter (held_user name) es) ≡ 0 → AreSound known es →
+    AreSound known (remove_entry (bytes_eq name) es) × (with_all known (remove_entry (bytes_eq name) es) ≡ without name (with_all known es))
+dropped name known [] none unused sound = (tt, sym (without_none name known none))
+dropped name known (e ∷ es) none unused sound = by (bytes_eq name e.0) refl (λ h. dropped name (grown known e) es h (others_unused name e es unused) sound.2)
+  where
+    by : (b : Bool) → bytes_eq name e.0 ≡ b →
+        (object_named name (grown known e) ≡ None → AreSound (grown known e) (remove_entry (bytes_eq name) es) × (with_all (grown known e) (remove_entry (bytes_eq name) es) ≡ without name (with_all (grown known e) es))) →
+        AreSound known (cond b es (e ∷ remove_entry (bytes_eq name) es)) × (with_all known (cond b es (e ∷ remove_entry (bytes_eq name) es)) ≡ without name (with_all (grown known e) es))
+    by true q rest =
+        let here : bytes_eq e.0 name ≡ true = bytes_swap e.0 name ∙ q in
+        let stands : object_named name (grown known e) ≡ Some (object_of known e.1) =
+        named_behind name known (entry_of known e.0 e.1 ∷ []) none ∙ ap (λ (b : Bool). cond b (Some (object_of known e.1)) None) here in
+        let gone = without_last name known (entry_of known e.0 e.1) none here in
+        let after = behind name (grown known e) es (object_of known e.1) stands (others_unused name e es unused) sound.2 in
+        (subst (λ (k : Catalog). AreSound k es) gone after.0, ap (λ (k : Catalog). with_all k es) (sym gone) ∙ after.1)
+    by false q rest =
+        let r = rest (named_more name known (entry_of known e.0 e.1) (bytes_swap e.0 name ∙ q) ∙ none) in
+        ((sound.0, sound.1, r.0), r.1)

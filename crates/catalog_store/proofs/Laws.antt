@@ -1,0 +1,13 @@
+-- The laws that upper crates cite.
+use Rattle.std.proofs.Common.{sym}
+use Rattle.catalog_store.specs.Laws.{AddingLeavesOthers, DroppingLeavesOthers}
+pub use Rattle.catalog_store.proofs.Named.{named_kept, named_behind}
+pub use Rattle.catalog_store.proofs.Trees.{Same, same_tree, fit_in_both}
+pub use Rattle.catalog_store.proofs.Sound.{named_in_all, fits_in_all}
+use Rattle.catalog_store.proofs.Named.{named_more, named_less, other_bytes}
+
+pub adding_leaves_others : AddingLeavesOthers
+adding_leaves_others name known entry f = named_more name known entry (other_bytes entry.name name (λ q. f (sym q)))
+
+pub dropping_leaves_others : DroppingLeavesOthers
+dropping_leaves_others name other known f = named_less name other known f

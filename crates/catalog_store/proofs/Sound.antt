@@ -1,0 +1,105 @@
+-- Entries that are sound stand for the same seen by those before them and by all.
+use Rattle.std.proofs.Common.{◌≡◌, ℕ, ◌+◌, Bool, true, false, cond, List, [], ◌∷◌, ◌++◌, length, length-append, Option, None, Some, refl, sym, ap, ◌∙◌, subst, arith}
+use Rattle.std.specs.Option.{option_map}
+use Rattle.std.specs.Str.{bytes_eq}
+use Rattle.std.specs.Map.{lookup}
+use Rattle.catalog_store.specs.declared.entry.Object.{Object as HeldObject}
+use Rattle.catalog_store.specs.declared.entry.Object.TheVariants.{Table, Function as FunctionRecord}
+use Rattle.rel_algebra.specs.Tree.{Expr, Function as FunctionTree}
+use Rattle.catalog_store.specs.Catalog.{Object, FunctionObject, Catalog, object_named}
+use Rattle.catalog_store.specs.Calls.{CallPlace, AllFit, calls_in}
+use Rattle.catalog_store.specs.Entries.{object_of, entry_of, with_all, ObjectFits, AreSound}
+use Rattle.catalog_store.proofs.Named.{bytes_swap, named_kept, named_behind, named_more}
+use Rattle.catalog_store.proofs.Trees.{Same, same_tree, fit_in_both}
+
+abbrev pub Held : Type 0
+Held = List ℕ × HeldObject
+
+-- the catalog with one more entry
+abbrev pub grown : Catalog → Held → Catalog
+grown known e = known ++ entry_of known e.0 e.1 ∷ []
+
+-- ---- entries one by one
+
+pub with_all-append : (known : Catalog) (xs ys : List Held) → with_all known (xs ++ ys) ≡ with_all (with_all known xs) ys
+with_all-append known [] ys = refl
+with_all-append known (x ∷ xs) ys = with_all-append (grown known x) xs ys
+
+pub sound-append : (known : Catalog) (xs ys : List Held) → AreSound known xs → AreSound (with_all known xs) ys → AreSound known (xs ++ ys)
+sound-append known [] ys h k = k
+sound-append known (x ∷ xs) ys h k = (h.0, h.1, sound-append (grown known x) xs ys h.2 k)
+
+pub length-with_all : (known : Catalog) (es : List Held) → length (with_all known es) ≡ length known + length es
+length-with_all known [] = omega arith
+length-with_all known (e ∷ es) = omega (arith, length-with_all (grown known e) es, length-append known (entry_of known e.0 e.1 ∷ []))
+
+-- what is found stays found as entries come behind
+pub kept_in_all : (name : List ℕ) (known : Catalog) (es : List Held) (o : Object) → object_named name known ≡ Some o → object_named name (with_all known es) ≡ Some o
+kept_in_all name known [] o h = h
+kept_in_all name known (e ∷ es) o h = kept_in_all name (grown known e) es o (named_kept name known (entry_of known e.0 e.1 ∷ []) o h)
+
+-- ---- an object that fits stands for the same in the whole
+
+same_calls : (known : Catalog) (es : List Held) (height : ℕ) (cs : List CallPlace) → AllFit known height cs → Same known (with_all known es) cs
+same_calls known es height [] fit = tt
+same_calls known es height (c ∷ cs) fit =
+    (kept_in_all c.name known es (FunctionObject fit.0.function) fit.0.stands ∙ sym fit.0.stands, same_calls known es height cs fit.1)
+
+-- an object stands for the same where its calls do
+abbrev pub SameCalls : Catalog → Catalog → HeldObject → Type 0
+SameCalls known more (Table row_type) = Unit {0}
+SameCalls known more (FunctionRecord r) = Same known more (calls_in r.body)
+
+pub same_object : (known more : Catalog) (o : HeldObject) → SameCalls known more o → object_of more o ≡ object_of known o
+same_object known more (Table row_type) s = refl
+same_object known more (FunctionRecord r) s =
+    ap (λ (tree : Expr). FunctionObject (record { parameters = r.head.parameters; returns = r.head.returns; height = r.head.height; uses = r.head.uses; routine = FunctionTree false r.head.parameters r.head.returns tree }))
+    (same_tree known more r.body s)
+
+pub same_fits : (known more : Catalog) (o : HeldObject) → SameCalls known more o → ObjectFits known o → ObjectFits more o
+same_fits known more (Table row_type) s fits = fits
+same_fits known more (FunctionRecord r) s fits = record { calls = fit_in_both known more r.head.height (calls_in r.body) s fits.calls; uses = fits.uses }
+
+pub same_in_all : (known : Catalog) (es : List Held) (o : HeldObject) → ObjectFits known o → SameCalls known (with_all known es) o
+same_in_all known es (Table row_type) fits = tt
+same_in_all known es (FunctionRecord r) fits = same_calls known es r.head.height (calls_in r.body) fits.calls
+
+-- ---- look-up
+
+-- what a name stands for is what the entry of that name holds, seen by the whole
+pub named_in_all : (name : List ℕ) (known : Catalog) (es : List Held) → AreSound known es → object_named name known ≡ None →
+    object_named name (with_all known es) ≡ option_map (object_of (with_all known es)) (lookup (bytes_eq name) es)
+named_in_all name known [] sound none = none
+named_in_all name known (e ∷ es) sound none = by (bytes_eq name e.0) refl (named_in_all name (grown known e) es sound.2)
+  where
+    by : (b : Bool) → bytes_eq name e.0 ≡ b → (object_named name (grown known e) ≡ None → object_named name (with_all (grown known e) es) ≡ option_map (object_of (with_all (grown known e) es)) (lookup (bytes_eq name) es)) →
+        object_named name (with_all (grown known e) es) ≡ option_map (object_of (with_all (grown known e) es)) (cond b (Some e.1) (lookup (bytes_eq name) es))
+    by true q rest =
+        let stands : object_named name (grown known e) ≡ Some (object_of known e.1) =
+        named_behind name known (entry_of known e.0 e.1 ∷ []) none ∙ ap (λ (b : Bool). cond b (Some (object_of known e.1)) None) (bytes_swap e.0 name ∙ q) in
+        kept_in_all name (grown known e) es (object_of known e.1) stands ∙ ap (λ (o : Object). Some o) (sym (same_object known (with_all (grown known e) es) e.1 (same_in_all known (e ∷ es) e.1 sound.1)))
+    by false q rest = rest (named_more name known (entry_of known e.0 e.1) (bytes_swap e.0 name ∙ q) ∙ none)
+
+-- and it fits the whole
+pub fits_in_all : (test : List ℕ → Bool) (known : Catalog) (es : List Held) (o : HeldObject) → AreSound known es → lookup test es ≡ Some o → ObjectFits (with_all known es) o
+fits_in_all test known [] o sound h = cc
+fits_in_all test known (e ∷ es) o sound h = by (test e.0) h (fits_in_all test (grown known e) es o sound.2)
+  where
+    by : (b : Bool) → cond b (Some e.1) (lookup test es) ≡ Some o → (lookup test es ≡ Some o → ObjectFits (with_all known (e ∷ es)) o) → ObjectFits (with_all known (e ∷ es)) o
+    by true q rest =
+        let same : e.1 ≡ o = cc in
+        subst (ObjectFits (with_all known (e ∷ es))) same (same_fits known (with_all known (e ∷ es)) e.1 (same_in_all known (e ∷ es) e.1 sound.1) sound.1)
+    by false q rest = rest q
+
+-- a name that stands for nothing has no entry
+pub none_held : (name : List ℕ) (es : List Held) → AreSound [] es → object_named name (with_all [] es) ≡ None → lookup (bytes_eq name) es ≡ None
+none_held name es sound none = by (lookup (bytes_eq name) es) (sym (named_in_all name [] es sound refl) ∙ none)
+  where
+    by : (x : Option HeldObject) → option_map (object_of (with_all [] es)) x ≡ None → x ≡ None
+    by None h = refl
+    by (Some o) h = cc
+
+-- one more entry that fits
+pub sound_more : (name : List ℕ) (object : HeldObject) (es : List Held) → AreSound [] es → object_named name (with_all [] es) ≡ None → ObjectFits (with_all [] es) object →
+    AreSound [] (es ++ (name, object) ∷ [])
+sound_more name object es sound free fits = sound-append [] es ((name, object) ∷ []) sound (free, fits, tt)

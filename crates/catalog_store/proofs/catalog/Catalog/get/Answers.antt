@@ -1,0 +1,23 @@
+use Rattle.std.proofs.Common.{◌≡◌, [], Option, None, Some, IfSome, Bor, refl, sym, subst}
+use Rattle.std.specs.Option.{option_copied, option_map}
+use Rattle.std.specs.Map.{lookup}
+use Rattle.std.specs.Str.{bytes_eq}
+use Rattle.catalog_store.specs.Catalog.{Catalog, object_named}
+use Rattle.catalog_store.specs.Entries.{object_of, ObjectFits}
+use Rattle.catalog_store.proofs.Sound.{named_in_all, fits_in_all}
+use Rattle.catalog_store.proofs.catalog.Catalog.get.Goals as goal
+
+-- what holds of what is found holds of what is lent
+if_some : {A : Type 0} (P : A → Type 0) (r : Option (Bor A)) (x : Option A) → option_copied r ≡ x → ((o : A) → x ≡ Some o → P o) → IfSome r (λ o. P o.now)
+if_some P None x e h = tt
+if_some P (Some r) x e h = h r.now (sym e)
+
+pub returns-clause-value : goal.returns-clause-value
+returns-clause-value c =
+    let value = named_in_all c.args.name.now [] c.self.inside.objects.entries c.self.invariant refl in
+    subst (λ (k : Catalog). object_named c.args.name.now k ≡ option_map (object_of k) (option_copied c.get.result)) c.self.view_is (rw c.get.ensures.value value)
+
+pub returns-clause-fits : goal.returns-clause-fits
+returns-clause-fits c =
+    if_some (ObjectFits c.args.self.now) c.get.result (lookup (bytes_eq c.args.name.now) c.self.inside.objects.entries) c.get.ensures.value
+    (λ o q. subst (λ (k : Catalog). ObjectFits k o) c.self.view_is (fits_in_all (bytes_eq c.args.name.now) [] c.self.inside.objects.entries o c.self.invariant q))

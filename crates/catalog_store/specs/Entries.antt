@@ -1,0 +1,58 @@
+-- Which plain catalog the entries in memory stand for, and when they fit. ISO/IEC 9075-2, 4.17
+-- (schemas) and 10.4 (routine invocation).
+use Rattle.std.specs.Prelude.{◌≡◌, ℕ, false, List, [], ◌∷◌, ◌++◌, None, Some, IsTrue}
+use Rattle.row_types.specs.Rows.{has_key_columns}
+use Rattle.rel_algebra.specs.Tree.{Function as FunctionTree}
+use Rattle.catalog_store.specs.declared.entry.Object.{Object as HeldObject}
+use Rattle.catalog_store.specs.declared.entry.Object.TheVariants.{Table, Function as FunctionRecord}
+use Rattle.catalog_store.specs.declared.entry.RoutineRecord.{RoutineRecord}
+use Rattle.catalog_store.specs.Catalog.{Function, Object, TableObject, FunctionObject, Entry, Catalog, object_named}
+use Rattle.catalog_store.specs.Calls.{AllFit, calls_in, names_called}
+use Rattle.catalog_store.specs.View.{tree_of}
+
+-- a function, with its body seen by this catalog
+abbrev pub function_of : Catalog → RoutineRecord → Function
+function_of known r =
+    record {
+      parameters = r.head.parameters;
+      returns = r.head.returns;
+      height = r.head.height;
+      uses = r.head.uses;
+      routine = FunctionTree false r.head.parameters r.head.returns (tree_of known r.body);
+    }
+
+abbrev pub object_of : Catalog → HeldObject → Object
+object_of known (Table row_type) = TableObject row_type
+object_of known (FunctionRecord r) = FunctionObject (function_of known r)
+
+abbrev pub entry_of : Catalog → List ℕ → HeldObject → Entry
+entry_of known name object = record { name = name; object = object_of known object }
+
+-- the catalog with more entries, each seen by those before it
+abbrev pub with_all : Catalog → List (List ℕ × HeldObject) → Catalog
+with_all known [] = known
+with_all known (e ∷ es) = with_all (known ++ entry_of known e.0 e.1 ∷ []) es
+
+abbrev pub plain : List (List ℕ × HeldObject) → Catalog
+plain es = with_all [] es
+
+-- a function fits a catalog: so does each call in its body, below the function's height, and its
+-- head says which functions it calls
+pub record FunctionFits (known : Catalog) (r : RoutineRecord) : Type 0 where
+  pub calls : AllFit known r.head.height (calls_in r.body)
+  pub uses : r.head.uses ≡ names_called (calls_in r.body)
+
+-- an object fits a catalog; a table does where its key columns are columns of its own
+abbrev pub ObjectFits : Catalog → HeldObject → Type 0
+ObjectFits known (Table row_type) = IsTrue (has_key_columns row_type.columns row_type.key)
+ObjectFits known (FunctionRecord r) = FunctionFits known r
+
+-- each entry has a name that none before it has, and fits those before it
+abbrev pub AreSound : Catalog → List (List ℕ × HeldObject) → Type 0
+AreSound known [] = Unit {0}
+AreSound known (e ∷ es) = (object_named e.0 known ≡ None) × ObjectFits known e.1 × AreSound (known ++ entry_of known e.0 e.1 ∷ []) es
+
+-- a name stands for the function of this record, and the record fits
+pub record IsNamed (name : List ℕ) (known : Catalog) (r : RoutineRecord) : Type 0 where
+  pub stands : object_named name known ≡ Some (FunctionObject (function_of known r))
+  pub fits : FunctionFits known r

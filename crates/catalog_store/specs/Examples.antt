@@ -1,0 +1,57 @@
+-- Worked rows, which hold by computation.
+use Rattle.std.specs.Prelude.{ℕ, false, pos, ◌≡◌, List, [], ◌∷◌, None, Some, codes}
+use Rattle.sql_values.specs.declared.value.Value.TheVariants.{Int}
+use Rattle.sql_values.specs.declared.value.SqlType.TheVariants.{Integer}
+use Rattle.sql_values.specs.declared.operators.Operator.TheVariants.{Add}
+use Rattle.rel_algebra.specs.Tree.{Expr, Literal, Chain, Call, NoLink, MoreLinks, NoExpr, Function as FunctionTree}
+use Rattle.rel_algebra.specs.World.{World, Gives, no_self, no_frame}
+use Rattle.rel_algebra.specs.Meaning.{ev}
+use Rattle.catalog_store.specs.Catalog.{TableObject, FunctionObject, Entry, Catalog, object_named, routine_named, missing}
+use Rattle.catalog_store.specs.Users.{users_of, without}
+
+-- CREATE TABLE T (K INTEGER PRIMARY KEY)
+abbrev pub table : Entry
+table = record { name = codes "T"; object = TableObject (record { columns = record { name = codes "K"; data_type = Integer; not_null = false } ∷ []; key = 0 ∷ [] }) }
+
+-- a function without parameters, by its name, its height, what it uses and what it returns
+abbrev pub entry : List ℕ → ℕ → List (List ℕ) → Expr → Entry
+entry name height uses e =
+    record { name = name; object = FunctionObject (record { parameters = []; returns = Integer; height = height; uses = uses; routine = FunctionTree false [] Integer e }) }
+
+abbrev pub number : ℕ → Expr
+number n = Literal (Int (pos n))
+
+-- ONE (): RETURN 1; TWO (): RETURN 2; NEXT (): RETURN ONE() + 1
+abbrev pub one : Entry
+one = entry (codes "ONE") 1 [] (number 1)
+
+abbrev pub two : Entry
+two = entry (codes "TWO") 1 [] (number 2)
+
+abbrev pub next : Entry
+next = entry (codes "NEXT") 2 (codes "ONE" ∷ []) (Chain (Call (codes "ONE") (FunctionTree false [] Integer (number 1)) NoExpr) (MoreLinks Add (number 1) NoLink))
+
+abbrev pub known : Catalog
+known = one ∷ table ∷ two ∷ next ∷ []
+
+abbrev pub no_tables : World
+no_tables = record { tables = []; turns = 0; active = 0 }
+
+pub record ObjectsByName : Type 0 where
+  pub table : object_named (codes "T") known ≡ Some (table.object)
+  pub function : object_named (codes "NEXT") known ≡ Some (next.object)
+  pub nothing : object_named (codes "TW") known ≡ None
+  -- a table isn't called
+  pub no_function : routine_named (codes "T") known ≡ missing
+
+pub record UsersOfNames : Type 0 where
+  pub used : users_of (codes "ONE") known ≡ 1
+  pub unused : users_of (codes "TWO") known ≡ 0
+  -- a function isn't among its own users
+  pub itself : users_of (codes "ONE") (entry (codes "ONE") 1 (codes "ONE" ∷ []) (number 1) ∷ []) ≡ 0
+
+-- TWO stands between ONE and NEXT, which calls ONE. Without TWO it still does.
+pub record CallsAfterADrop : Type 0 where
+  pub left : without (codes "TWO") known ≡ one ∷ table ∷ next ∷ []
+  pub same : routine_named (codes "NEXT") (without (codes "TWO") known) ≡ routine_named (codes "NEXT") known
+  pub gives : ev (Call (codes "NEXT") (routine_named (codes "NEXT") (without (codes "TWO") known)) NoExpr) no_self [] no_frame no_tables ≡ Gives (Int (pos 2)) no_tables

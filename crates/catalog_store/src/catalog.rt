@@ -1,0 +1,135 @@
+//! The catalog: objects under one set of names, in the order of their making.
+
+ghost use Rattle.std.specs.Prelude.{◌≡◌, [], ◌∷◌, ◌++◌, length, None, IsSome, IfSome, MatchOption, OnOk, OnErr, IfErr, false, slice_get};
+ghost use Rattle.std.specs.Option.{option_copied, option_map};
+ghost use Rattle.rel_algebra.specs.Tree.{Function as FunctionTree};
+ghost use Rattle.catalog_store.specs.Catalog.{object_named, routine_named, missing};
+ghost use Rattle.catalog_store.specs.Entries.{object_of, entry_of, ObjectFits, IsNamed};
+ghost use Rattle.catalog_store.specs.Users.{mentions, is_user, users_of, without};
+ghost use Rattle.catalog_store.specs.View.{tree_of};
+
+use crate::{Object, RoutineRecord};
+use indexmap::IndexMap;
+use sql_values::Name;
+use std::alloc::{AllocFailed, Global};
+use std::marker::Model;
+
+/// Tables and functions by their names, which differ, in the order of their making. Each call in a
+/// function's body names a function that stands before it, is lower, and has as many parameters as
+/// the call has arguments.
+#[derive(Drop)]
+pub struct Catalog {
+    objects: IndexMap<Name, Object>,
+}
+
+impl Model for Catalog {
+    ghost use Rattle.catalog_store.specs.Catalog.{Catalog as PlainCatalog};
+    ghost use Rattle.catalog_store.specs.Codes.{coded_catalog};
+
+    ghost Value = { PlainCatalog };
+
+    ghost coded = { coded_catalog };
+
+    ghost use Rattle.std.specs.Prelude.{[]};
+    ghost use Rattle.catalog_store.specs.Entries.{plain, AreSound};
+
+    ghost view = { λ c. plain c.objects.entries };
+
+    ghost invariant = { λ c. AreSound [] c.objects.entries };
+}
+
+// Whether an object uses a name.
+fn mentions(object: &Object, name: &Name) -> bool
+    ensures { result ≡ mentions name.now (object_of [] object.now) }
+{
+    match object {
+        Object::Table(_) => false,
+        Object::Function(record) => record.head.uses.as_slice().contains(name),
+    }
+}
+
+// Whether the entry at a place has another name, and uses this one.
+fn is_user(objects: &IndexMap<Name, Object>, place: usize, name: &Name) -> bool
+    ensures { IfSome (slice_get objects.now.entries place) (λ e. result ≡ is_user name.now (entry_of [] e.0 e.1)) }
+{
+    match objects.get_index(place) {
+        Some((user, object)) => user != name && mentions(object, name),
+        None => false,
+    }
+}
+
+impl Catalog {
+    /// A catalog without entries.
+    pub fn new(alloc: Global) -> Catalog
+        ensures { result ≡ [] }
+    {
+        Catalog {
+            objects: IndexMap::new(alloc),
+        }
+    }
+
+    /// The number of entries.
+    pub fn len(&self) -> usize
+        ensures { result ≡ length self.now }
+    {
+        self.objects.len()
+    }
+
+    /// What a name stands for; `None` exactly where it stands for nothing.
+    pub fn get(&self, name: &Name) -> Option<&Object>
+        ensures value { object_named name.now self.now ≡ option_map (object_of self.now) (option_copied result) }
+        ensures fits { IfSome result (λ o. ObjectFits self.now o.now) }
+    {
+        self.objects.get(name)
+    }
+
+    /// The function of a name; `None` where the name stands for no function.
+    pub fn routine(&self, name: &Name) -> Option<&RoutineRecord>
+        ensures tree { MatchOption result (routine_named name.now self.now ≡ missing)
+            (λ r. routine_named name.now self.now ≡ FunctionTree false r.now.head.parameters r.now.head.returns (tree_of self.now r.now.body)) }
+        ensures named { IfSome result (λ r. IsNamed name.now self.now r.now) }
+    {
+        match self.get(name) {
+            Some(Object::Function(record)) => Some(record),
+            Some(Object::Table(_)) => None,
+            None => None,
+        }
+    }
+
+    /// One more entry, behind the others. Without memory the catalog stays as it was, and name and
+    /// object are handed back.
+    pub fn add(&mut self, name: Name, object: Object) -> Result<(), AllocFailed<(Name, Object)>>
+        requires free { object_named name self.old ≡ None }
+        requires fits { ObjectFits self.old object }
+        ensures ok { OnOk result (self.new ≡ self.old ++ entry_of self.old name object ∷ []) }
+        ensures err { OnErr result (self.new ≡ self.old) }
+        ensures returned { IfErr result (λ f. f.value ≡ (name, object)) }
+    {
+        self.objects.insert(name, object)?;
+        Ok(())
+    }
+
+    /// Takes out the entry of a name that no other entry uses. The others keep their order, and
+    /// stand for what they stood for.
+    pub fn drop_entry(&mut self, name: &Name)
+        requires there { IsSome (object_named name.now self.old) }
+        requires unused { users_of name.now self.old ≡ 0 }
+        ensures entries { self.new ≡ without name.now self.old }
+        ensures gone { object_named name.now self.new ≡ None }
+    {
+        let _ = self.objects.shift_remove(name);
+    }
+
+    /// How many other entries use a name.
+    pub fn users_of(&self, name: &Name) -> usize
+        ensures { result ≡ users_of name.now self.now }
+    {
+        let mut users = 0;
+        for place in 0..self.objects.len() {
+            if is_user(&self.objects, place, name) {
+                users += 1;
+            }
+        }
+        users
+    }
+}

@@ -1,0 +1,30 @@
+//! How names keep what they stand for as the catalog changes.
+
+ghost use Rattle.catalog_store.specs.Examples.{ObjectsByName, UsersOfNames, CallsAfterADrop};
+ghost use Rattle.catalog_store.specs.Laws.{AddingLeavesOthers, DroppingLeavesOthers};
+
+/// One more entry leaves what every other name stands for, and so the trees that calls run.
+pub fn adding_leaves_the_others()
+    ensures { AddingLeavesOthers }
+{}
+
+/// An entry less leaves what every other name stands for, and so the trees that calls run.
+pub fn dropping_leaves_the_others()
+    ensures { DroppingLeavesOthers }
+{}
+
+/// A name stands for one object, or for nothing.
+pub fn objects_by_name()
+    ensures { ObjectsByName }
+{}
+
+/// The users of a name are the other functions that call it.
+pub fn users_of_names()
+    ensures { UsersOfNames }
+{}
+
+/// A function that calls another one still calls it where a third that stood between them is
+/// dropped.
+pub fn calls_after_a_drop()
+    ensures { CallsAfterADrop }
+{}

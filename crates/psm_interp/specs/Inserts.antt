@@ -1,0 +1,41 @@
+-- The parts of an INSERT.
+use Rattle.std.specs.Prelude.{ℕ, List, [], length, Result, Ok, Err}
+use Rattle.std.specs.declared.vec.Vec.{Vec}
+use Rattle.std.specs.declared.alloc.Global.{Global}
+use Rattle.row_types.specs.Rows.{Row}
+use Rattle.row_types.specs.Tables.{table_named}
+use Rattle.rel_algebra.specs.Tree.{Query}
+use Rattle.rel_algebra.specs.World.{World, Eval, ◌>>=◌, give, no_self, no_frame}
+use Rattle.rel_algebra.specs.Meaning.{answer}
+use Rattle.rel_algebra.specs.Writing.{store_in}
+use Rattle.sql_conditions.specs.declared.condition.EngineCondition.TheVariants.{ConstraintViolated}
+use Rattle.sql_conditions.specs.Conditions.{area_of}
+use Rattle.atomic_undo.specs.declared.fault.ApplyFault.{ApplyFault}
+use Rattle.atomic_undo.specs.declared.fault.ApplyFault.TheVariants.{Constraint, NoMemory}
+use Rattle.psm_interp.specs.declared.stop.Stop.{Stop}
+use Rattle.psm_interp.specs.declared.stop.Stop.TheVariants.{Raised, NoMemory as WantOfMemory}
+use Rattle.psm_interp.specs.Ending.{Tells}
+
+-- an INSERT but for what it leaves where it raises
+abbrev pub insert_rows_of : List ℕ → Query → Eval ℕ
+insert_rows_of name query = do
+  new ← answer query no_self [] no_frame
+  stored ← (λ w. store_in (table_named name w.tables) name new w)
+  give (length new)
+
+-- an evaluation that leaves each world as it is ends as the answer says
+abbrev pub TellsAnywhere : {A : Type 0} → Result A Stop → Eval A → Type 0
+TellsAnywhere answer e = (w : World) → Tells w answer (e w)
+
+abbrev pub listed : Result (Vec Row Global) Stop → Result (List Row) Stop
+listed (Ok rows) = Ok rows.items
+listed (Err stop) = Err stop
+
+-- the same where the rows are in a vector
+abbrev pub TellsRows : Result (Vec Row Global) Stop → Eval (List Row) → Type 0
+TellsRows answer e = TellsAnywhere (listed answer) e
+
+-- why a table refuses a change: a key would stand twice, or no memory is there
+abbrev pub refused_by : ApplyFault → Stop
+refused_by (Constraint at) = Raised (area_of ConstraintViolated)
+refused_by NoMemory = WantOfMemory

@@ -1,0 +1,17 @@
+-- The reply tells how the query ends.
+use Rattle.std.proofs.Common.{◌≡◌, subst}
+use Rattle.std.specs.Prelude.{IfOk}
+use Rattle.reply_text.specs.Texts.{rows_text}
+use Rattle.psm_session.proofs.Concluding.{given_effect, given_shapes}
+use Rattle.psm_session.proofs.world.answer_in.Goals as goal
+
+pub returns-in-Ok-clause-ok : goal.returns-in-Ok-clause-ok
+returns-in-Ok-clause-ok c =
+    given_effect rows_text c.args.catalog.now c.args.world.now c.run_query.new.world c.conclude.new.world _ c.in-Ok.rows c.rows_reply.result c.conclude.result
+    c.in-Ok.ensures.tells (subst (λ rows. IfOk c.rows_reply.result (λ r. r ≡ rows_text rows)) c.as_slice.ensures c.rows_reply.ensures)
+    c.conclude.ensures.same c.conclude.ensures.ok
+
+pub returns-in-Ok-clause-shapes : goal.returns-in-Ok-clause-shapes
+returns-in-Ok-clause-shapes c =
+    given_shapes c.mark-mark.result c.args.world.now c.run_query.new.world c.conclude.new.world c.conclude.result c.mark-mark.ensures c.in-Ok.ensures.stays
+    c.conclude.ensures.ok c.conclude.ensures.err

@@ -1,0 +1,235 @@
+-- Plain trees as trees of numbers, each with its way back, by which a proof tells two of them
+-- apart. A node is the pair of its label, which says its kind and what it has beside trees, and of
+-- its two parts.
+use Rattle.std.specs.Prelude.{ℕ, pos, negsuc, ◌≡◌, Bool, true, false, if◌then◌else◌, nat_eq, List, [], ◌∷◌}
+use Rattle.std.proofs.Common.{ap, ap₂, sym, ◌∙◌, refl}
+use Rattle.std.specs.Coded.{Coded}
+use base.Stored.{Gv, gnil, gnum, gcons}
+use Rattle.sql_values.specs.declared.value.Value.{Value}
+use Rattle.sql_values.specs.declared.value.Value.TheVariants.{Null, Int, Bool as Truth}
+use Rattle.sql_values.specs.declared.value.SqlType.{SqlType}
+use Rattle.sql_values.specs.declared.value.SqlType.TheVariants.{Integer}
+use Rattle.sql_values.specs.declared.operators.Operator.{Operator}
+use Rattle.sql_values.specs.declared.operators.Operator.TheVariants.{Add, Subtract, Multiply, Divide}
+use Rattle.sql_values.specs.declared.operators.Comparison.{Comparison}
+use Rattle.sql_values.specs.declared.operators.Comparison.TheVariants.{Equals, NotEquals, LessThan, LessThanOrEquals, GreaterThan, GreaterThanOrEquals}
+use Rattle.rel_algebra.specs.Tree.{Expr, Literal, Column, Variable, Negate, Compare, Chain, Call, CallSelf, Links, NoLink, MoreLinks, Exprs, NoExpr, MoreExprs, Routine, Function}
+
+-- a code that is read back
+abbrev pub coded_back : {A : Type 0} (code : A → Gv) (from : Gv → A) → ((a : A) → from (code a) ≡ a) → Coded A
+coded_back code from back = record { code = code; inj = λ a b h. sym (back a) ∙ ap from h ∙ back b }
+
+abbrev pub num : Gv → ℕ
+num gnil = 0
+num (gnum n) = n
+num (gcons x y) = 0
+
+abbrev pub left : Gv → Gv
+left gnil = gnil
+left (gnum n) = gnil
+left (gcons x y) = x
+
+abbrev pub right : Gv → Gv
+right gnil = gnil
+right (gnum n) = gnil
+right (gcons x y) = y
+
+-- one of two by a number, the first at 0
+abbrev pub by_number : {A : Type 0} → ℕ → A → A → A
+by_number n a b = if nat_eq n 0 then a else b
+
+-- ---- values, types, operators
+
+abbrev pub value_code : Value → Gv
+value_code Null = gnil
+value_code (Int (pos n)) = gcons (gnum 0) (gnum n)
+value_code (Int (negsuc n)) = gcons (gnum 1) (gnum n)
+value_code (Truth false) = gcons (gnum 2) (gnum 0)
+value_code (Truth true) = gcons (gnum 2) (gnum 1)
+
+abbrev pub value_by : ℕ → ℕ → Value
+value_by kind n = if nat_eq kind 0 then Int (pos n) else if nat_eq kind 1 then Int (negsuc n) else by_number n (Truth false) (Truth true)
+
+abbrev pub value_from : Gv → Value
+value_from gnil = Null
+value_from (gnum n) = Null
+value_from (gcons kind n) = value_by (num kind) (num n)
+
+pub value_back : (v : Value) → value_from (value_code v) ≡ v
+value_back Null = refl
+value_back (Int (pos n)) = refl
+value_back (Int (negsuc n)) = refl
+value_back (Truth false) = refl
+value_back (Truth true) = refl
+
+abbrev pub coded_value : Coded Value
+coded_value = coded_back value_code value_from value_back
+
+abbrev pub type_code : SqlType → Gv
+type_code Integer = gnum 0
+
+abbrev pub type_from : Gv → SqlType
+type_from g = Integer
+
+pub type_back : (t : SqlType) → type_from (type_code t) ≡ t
+type_back Integer = refl
+
+abbrev pub coded_type : Coded SqlType
+coded_type = coded_back type_code type_from type_back
+
+abbrev pub types_code : List SqlType → Gv
+types_code [] = gnil
+types_code (t ∷ ts) = gcons (type_code t) (types_code ts)
+
+abbrev pub types_from : Gv → List SqlType
+types_from gnil = []
+types_from (gnum n) = []
+types_from (gcons t ts) = type_from t ∷ types_from ts
+
+pub types_back : (ts : List SqlType) → types_from (types_code ts) ≡ ts
+types_back [] = refl
+types_back (t ∷ ts) = ap₂ (λ (x : SqlType) (xs : List SqlType). x ∷ xs) (type_back t) (types_back ts)
+
+abbrev pub name_code : List ℕ → Gv
+name_code [] = gnil
+name_code (b ∷ bs) = gcons (gnum b) (name_code bs)
+
+abbrev pub name_from : Gv → List ℕ
+name_from gnil = []
+name_from (gnum n) = []
+name_from (gcons b bs) = num b ∷ name_from bs
+
+pub name_back : (name : List ℕ) → name_from (name_code name) ≡ name
+name_back [] = refl
+name_back (b ∷ bs) = ap (λ (xs : List ℕ). b ∷ xs) (name_back bs)
+
+abbrev pub operator_code : Operator → Gv
+operator_code Add = gnum 0
+operator_code Subtract = gnum 1
+operator_code Multiply = gnum 2
+operator_code Divide = gnum 3
+
+abbrev pub operator_by : ℕ → Operator
+operator_by n = if nat_eq n 0 then Add else if nat_eq n 1 then Subtract else if nat_eq n 2 then Multiply else Divide
+
+pub operator_back : (o : Operator) → operator_by (num (operator_code o)) ≡ o
+operator_back Add = refl
+operator_back Subtract = refl
+operator_back Multiply = refl
+operator_back Divide = refl
+
+abbrev pub comparison_code : Comparison → Gv
+comparison_code Equals = gnum 0
+comparison_code NotEquals = gnum 1
+comparison_code LessThan = gnum 2
+comparison_code LessThanOrEquals = gnum 3
+comparison_code GreaterThan = gnum 4
+comparison_code GreaterThanOrEquals = gnum 5
+
+abbrev pub comparison_by : ℕ → Comparison
+comparison_by n = if nat_eq n 0 then Equals else if nat_eq n 1 then NotEquals else if nat_eq n 2 then LessThan
+    else if nat_eq n 3 then LessThanOrEquals else if nat_eq n 4 then GreaterThan else GreaterThanOrEquals
+
+pub comparison_back : (c : Comparison) → comparison_by (num (comparison_code c)) ≡ c
+comparison_back Equals = refl
+comparison_back NotEquals = refl
+comparison_back LessThan = refl
+comparison_back LessThanOrEquals = refl
+comparison_back GreaterThan = refl
+comparison_back GreaterThanOrEquals = refl
+
+abbrev pub bool_code : Bool → Gv
+bool_code false = gnum 0
+bool_code true = gnum 1
+
+pub bool_back : (b : Bool) → by_number (num (bool_code b)) false true ≡ b
+bool_back false = refl
+bool_back true = refl
+
+-- ---- trees
+
+-- a node of a kind, with what it has beside its two parts
+abbrev pub node : ℕ → Gv → Gv → Gv → Gv
+node kind with_it a b = gcons (gcons (gnum kind) with_it) (gcons a b)
+
+abbrev mutual
+  pub expr_code : Expr → Gv
+  expr_code (Literal v) = node 0 (value_code v) gnil gnil
+  expr_code (Column level i) = node 1 (gcons (gnum level) (gnum i)) gnil gnil
+  expr_code (Variable i) = node 2 (gnum i) gnil gnil
+  expr_code (Negate e) = node 3 gnil (expr_code e) gnil
+  expr_code (Compare comparison a b) = node 4 (comparison_code comparison) (expr_code a) (expr_code b)
+  expr_code (Chain e ls) = node 5 gnil (expr_code e) (links_code ls)
+  expr_code (Call name r es) = node 6 (name_code name) (routine_code r) (exprs_code es)
+  expr_code (CallSelf parameters es) = node 7 (types_code parameters) gnil (exprs_code es)
+
+  pub links_code : Links → Gv
+  links_code NoLink = gnil
+  links_code (MoreLinks operator e ls) = gcons (gcons (operator_code operator) (expr_code e)) (links_code ls)
+
+  pub exprs_code : Exprs → Gv
+  exprs_code NoExpr = gnil
+  exprs_code (MoreExprs e es) = gcons (expr_code e) (exprs_code es)
+
+  pub routine_code : Routine → Gv
+  routine_code (Function calls_itself parameters returns e) = gcons (gcons (bool_code calls_itself) (gcons (types_code parameters) (type_code returns))) (expr_code e)
+
+-- an expression by its kind, what it has beside trees, and what its parts are, read in each way
+abbrev pub expr_by : ℕ → Gv → Expr → Routine → Expr → Links → Exprs → Expr
+expr_by kind with_it a routine b ls es =
+    if nat_eq kind 0 then Literal (value_from with_it) else if nat_eq kind 1 then Column (num (left with_it)) (num (right with_it))
+    else if nat_eq kind 2 then Variable (num with_it) else if nat_eq kind 3 then Negate a
+    else if nat_eq kind 4 then Compare (comparison_by (num with_it)) a b else if nat_eq kind 5 then Chain a ls
+    else if nat_eq kind 6 then Call (name_from with_it) routine es else CallSelf (types_from with_it) es
+
+abbrev mutual
+  pub expr_from : Gv → Expr
+  expr_from gnil = Literal Null
+  expr_from (gnum n) = Literal Null
+  expr_from (gcons label gnil) = Literal Null
+  expr_from (gcons label (gnum n)) = Literal Null
+  expr_from (gcons label (gcons a b)) = expr_by (num (left label)) (right label) (expr_from a) (routine_from a) (expr_from b) (links_from b) (exprs_from b)
+
+  pub links_from : Gv → Links
+  links_from gnil = NoLink
+  links_from (gnum n) = NoLink
+  links_from (gcons gnil rest) = NoLink
+  links_from (gcons (gnum n) rest) = NoLink
+  links_from (gcons (gcons operator e) rest) = MoreLinks (operator_by (num operator)) (expr_from e) (links_from rest)
+
+  pub exprs_from : Gv → Exprs
+  exprs_from gnil = NoExpr
+  exprs_from (gnum n) = NoExpr
+  exprs_from (gcons e rest) = MoreExprs (expr_from e) (exprs_from rest)
+
+  pub routine_from : Gv → Routine
+  routine_from gnil = Function false [] Integer (Literal Null)
+  routine_from (gnum n) = Function false [] Integer (Literal Null)
+  routine_from (gcons head e) = Function (by_number (num (left head)) false true) (types_from (left (right head))) (type_from (right (right head))) (expr_from e)
+
+mutual
+  pub expr_back : (e : Expr) → expr_from (expr_code e) ≡ e
+  expr_back (Literal v) = ap Literal (value_back v)
+  expr_back (Column level i) = refl
+  expr_back (Variable i) = refl
+  expr_back (Negate e) = ap Negate (expr_back e)
+  expr_back (Compare comparison a b) = λ i. Compare (comparison_back comparison i) (expr_back a i) (expr_back b i)
+  expr_back (Chain e ls) = λ i. Chain (expr_back e i) (links_back ls i)
+  expr_back (Call name r es) = λ i. Call (name_back name i) (routine_back r i) (exprs_back es i)
+  expr_back (CallSelf parameters es) = λ i. CallSelf (types_back parameters i) (exprs_back es i)
+
+  pub links_back : (ls : Links) → links_from (links_code ls) ≡ ls
+  links_back NoLink = refl
+  links_back (MoreLinks operator e ls) = λ i. MoreLinks (operator_back operator i) (expr_back e i) (links_back ls i)
+
+  pub exprs_back : (es : Exprs) → exprs_from (exprs_code es) ≡ es
+  exprs_back NoExpr = refl
+  exprs_back (MoreExprs e es) = λ i. MoreExprs (expr_back e i) (exprs_back es i)
+
+  pub routine_back : (r : Routine) → routine_from (routine_code r) ≡ r
+  routine_back (Function calls_itself parameters returns e) =
+      λ i. Function (bool_back calls_itself i) (types_back parameters i) (type_back returns i) (expr_back e i)
+
+-- a function's tree is told apart by its code
+abbrev pub coded_routine : Coded Routine
+coded_routine = coded_back routine_code routine_from routine_back

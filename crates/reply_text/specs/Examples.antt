@@ -1,0 +1,43 @@
+-- Worked rows of the definitions on replies.
+use Rattle.std.specs.Prelude.{◌≡◌, true, false, [], ◌∷◌, Some, None, codes, refl}
+use Rattle.std.specs.Fmt.{digits}
+use Rattle.sql_values.specs.declared.value.Value.TheVariants.{Null, Bool}
+use Rattle.sql_conditions.specs.declared.condition.EngineCondition.TheVariants.{DivisionByZero}
+use Rattle.sql_conditions.specs.Conditions.{own, area_of}
+use Rattle.name_faults.specs.declared.fault.FaultKind.TheVariants.{UnknownName}
+use Rattle.reply_text.specs.declared.fault.FaultText.TheVariants.{Name, TooDeep}
+use Rattle.reply_text.specs.Texts.{rows_text, done_text, area_text, fault_text}
+
+pub no_row : rows_text [] ≡ codes "02000 rows 0\n"
+no_row = refl
+
+pub two_rows : rows_text ((Null ∷ []) ∷ (Bool true ∷ Bool false ∷ Null ∷ []) ∷ []) ≡ codes "NULL\nTRUE,FALSE,NULL\n00000 rows 2\n"
+unfolding digits
+two_rows = refl
+
+pub done : done_text [] None ≡ codes "00000\n"
+done = refl
+
+pub stored : done_text [] (Some 3) ≡ codes "00000 rows 3\n"
+unfolding digits
+stored = refl
+
+pub handed_out : done_text (Null ∷ Bool true ∷ []) None ≡ codes "NULL,TRUE\n00000\n"
+handed_out = refl
+
+pub one_condition : area_text (area_of DivisionByZero) ≡ codes "! 22012 division by zero\n"
+one_condition = refl
+
+pub further_condition : area_text (record { state = codes "45000"; message = codes "bad row" } ∷ own DivisionByZero ∷ []) ≡ codes "! 45000 bad row\n  22012 division by zero\n"
+further_condition = refl
+
+pub empty_message : area_text (record { state = codes "45000"; message = [] } ∷ record { state = codes "45001"; message = [] } ∷ []) ≡ codes "! 45000\n  45001\n"
+empty_message = refl
+
+pub unknown_name : fault_text (Name UnknownName) 1 15 ≡ codes "! 42000 unknown name at line 1 column 15\n"
+unfolding digits
+unknown_name = refl
+
+pub too_deep : fault_text TooDeep 1 32 ≡ codes "! 42000 nesting too deep at line 1 column 32\n"
+unfolding digits
+too_deep = refl

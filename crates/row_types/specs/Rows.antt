@@ -1,0 +1,72 @@
+-- Rows of values, their keys and the order of keys.
+-- ISO/IEC 9075-2, 4.14 (tables) and 8.2 (comparison predicate).
+use Rattle.std.specs.Prelude.{ℕ, ◌&&◌, Bool, true, false, not, List, [], ◌∷◌, map, slice_index_or, length, nat_lt}
+use Rattle.std.specs.List.{list_all}
+use Rattle.std.specs.Ordering.{int_cmp, bool_cmp}
+use Rattle.std.specs.Cmp.Lexicographic.{slice_cmp}
+use Rattle.std.specs.declared.cmp.Ordering.{Ordering}
+use Rattle.std.specs.declared.cmp.Ordering.TheVariants.{Less, Equal, Greater}
+use Rattle.sql_values.specs.declared.value.Value.{Value}
+use Rattle.sql_values.specs.declared.value.Value.TheVariants.{Null, Int, Bool as Truth}
+use Rattle.sql_values.specs.declared.value.SqlType.{SqlType}
+use Rattle.sql_values.specs.declared.value.SqlType.TheVariants.{Integer}
+use Rattle.sql_values.specs.Values.{is_null}
+use Rattle.row_types.specs.declared.ColumnType.{ColumnType}
+use Rattle.row_types.specs.Ordered.{rises}
+
+-- a value for each column, in the table's order
+abbrev pub Row : Type 0
+Row = List Value
+
+-- All values in one order: NULL, then truth values, then numbers. No key has NULL.
+abbrev pub value_cmp : Value → Value → Ordering
+value_cmp Null Null = Equal
+value_cmp Null (Truth q) = Less
+value_cmp Null (Int n) = Less
+value_cmp (Truth p) Null = Greater
+value_cmp (Truth p) (Truth q) = bool_cmp p q
+value_cmp (Truth p) (Int n) = Less
+value_cmp (Int m) Null = Greater
+value_cmp (Int m) (Truth q) = Greater
+value_cmp (Int m) (Int n) = int_cmp m n
+
+-- the values at the places of the key columns
+abbrev pub key_of : List ℕ → Row → List Value
+key_of key row = map (λ i. slice_index_or row i Null) key
+
+-- keys are compared whole, column by column
+abbrev pub by_key : List ℕ → Row → Row → Ordering
+by_key key a b = slice_cmp value_cmp (key_of key a) (key_of key b)
+
+-- how a row stands to a key
+abbrev pub to_key : List ℕ → List Value → Row → Ordering
+to_key key sought row = slice_cmp value_cmp (key_of key row) sought
+
+-- the value is one of the type; NULL is one of each
+abbrev pub is_of : SqlType → Value → Bool
+is_of Integer Null = true
+is_of Integer (Int n) = true
+is_of Integer (Truth p) = false
+
+-- a column takes the value
+abbrev pub takes : ColumnType → Value → Bool
+takes c v = is_of c.data_type v && not (c.not_null && is_null v)
+
+-- as many values as columns, and each column takes its own
+abbrev pub take_all : List ColumnType → Row → Bool
+take_all [] [] = true
+take_all [] (v ∷ vs) = false
+take_all (c ∷ cs) [] = false
+take_all (c ∷ cs) (v ∷ vs) = takes c v && take_all cs vs
+
+-- a row fits: each column takes its value, and no value of the key is NULL
+abbrev pub fits : List ColumnType → List ℕ → Row → Bool
+fits columns key row = take_all columns row && list_all (λ v. not (is_null v)) (key_of key row)
+
+-- each place of the key is a column's
+abbrev pub has_key_columns : List ColumnType → List ℕ → Bool
+has_key_columns columns key = list_all (λ i. nat_lt i (length columns)) key
+
+-- rows that a table may hold: each fits, and their keys rise
+abbrev pub well_kept : List ColumnType → List ℕ → List Row → Bool
+well_kept columns key rows = list_all (fits columns key) rows && rises (by_key key) rows

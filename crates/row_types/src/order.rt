@@ -1,0 +1,77 @@
+//! The order of values, and of rows by their keys.
+
+ghost use Rattle.std.specs.Prelude.{◌≡◌, length, slice_index_or};
+ghost use Rattle.sql_values.specs.declared.value.Value.TheVariants.{Null};
+ghost use Rattle.row_types.specs.Rows.{value_cmp, by_key, to_key};
+
+use crate::row::Row;
+use sql_values::Value;
+use std::cmp::Ordering;
+
+/// The order of two values: NULL, then truth values, then numbers.
+pub fn order_of(a: &Value, b: &Value) -> Ordering
+    ensures { result ≡ value_cmp a.now b.now }
+{
+    match (a, b) {
+        (Value::Null, Value::Null) => Ordering::Equal,
+        (Value::Null, Value::Bool(_)) => Ordering::Less,
+        (Value::Null, Value::Int(_)) => Ordering::Less,
+        (Value::Bool(_), Value::Null) => Ordering::Greater,
+        (Value::Bool(p), Value::Bool(q)) => p.cmp(q),
+        (Value::Bool(_), Value::Int(_)) => Ordering::Less,
+        (Value::Int(_), Value::Null) => Ordering::Greater,
+        (Value::Int(_), Value::Bool(_)) => Ordering::Greater,
+        (Value::Int(x), Value::Int(y)) => x.cmp(y),
+    }
+}
+
+// The order of two rows by their values at one place.
+fn order_at(a: &Row, b: &Row, place: usize) -> Ordering
+    ensures { result ≡ value_cmp (slice_index_or a.now place Null) (slice_index_or b.now place Null) }
+{
+    let null = Value::Null;
+    match (a.get(place), b.get(place)) {
+        (Some(x), Some(y)) => order_of(x, y),
+        (Some(x), None) => order_of(x, &null),
+        (None, Some(y)) => order_of(&null, y),
+        (None, None) => Ordering::Equal,
+    }
+}
+
+/// The order of two rows by their keys, which are compared whole, column by column.
+pub fn order_by_key(a: &Row, b: &Row, key: &[usize]) -> Ordering
+    ensures { result ≡ by_key key.now a.now b.now }
+{
+    for place in key {
+        let order = order_at(a, b, *place);
+        if order != Ordering::Equal {
+            return order;
+        }
+    }
+    Ordering::Equal
+}
+
+// The order of a row's value at a place and another value.
+fn order_to(row: &Row, place: usize, value: &Value) -> Ordering
+    ensures { result ≡ value_cmp (slice_index_or row.now place Null) value.now }
+{
+    let null = Value::Null;
+    match row.get(place) {
+        Some(x) => order_of(x, value),
+        None => order_of(&null, value),
+    }
+}
+
+/// The order of a row's key and another key of as many values.
+pub fn order_to_key(row: &Row, key: &[usize], sought: &[Value]) -> Ordering
+    requires { length key.now ≡ length sought.now }
+    ensures { result ≡ to_key key.now sought.now row.now }
+{
+    for (i, value) in sought.iter().enumerate() {
+        let order = order_to(row, key[i], value);
+        if order != Ordering::Equal {
+            return order;
+        }
+    }
+    Ordering::Equal
+}

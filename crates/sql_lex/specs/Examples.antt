@@ -1,0 +1,72 @@
+-- Worked rows: the limits, what stands at the head of some bytes, and which tokens open a
+-- construct.
+use Rattle.std.specs.Prelude.{◌≡◌, ◌-◌, ◌^◌, true, false, List, [], ◌∷◌, pos, codes, refl}
+use Rattle.sql_texts.specs.Names.{most_characters}
+use Rattle.sql_lex.specs.declared.sign.Sign.TheVariants as sign
+use Rattle.sql_lex.specs.declared.step.Step.TheVariants as step
+use Rattle.sql_lex.specs.declared.token.Lexeme.{Lexeme}
+use Rattle.sql_lex.specs.declared.token.Lexeme.TheVariants as lexeme
+use Rattle.sql_lex.specs.declared.token.Token.{Token}
+use Rattle.sql_lex.specs.declared.word.Word.TheVariants as word
+use Rattle.sql_lex.specs.Openings.{opens_at}
+use Rattle.sql_lex.specs.Places.{origin, past}
+use Rattle.sql_lex.specs.Scan.{step_of}
+use Rattle.sql_lex.specs.Tokens.{doubled, most_number, most_text, token_at}
+
+-- ---- limits
+
+pub of_names : most_characters ≡ 128
+of_names = refl
+
+pub of_texts : most_text ≡ 4096
+of_texts = refl
+
+pub of_numbers : most_number ≡ 2 ^ 63 - 1
+of_numbers = refl
+
+-- ---- tokens, and what stands between them
+
+pub longest_sign : step_of (codes "<=1") ≡ step.Token (lexeme.Sign sign.LessThanOrEquals) 2
+longest_sign = refl
+
+pub folded_name : step_of (codes "a1_+") ≡ step.Token (lexeme.Name (codes "A1_")) 3
+folded_name = refl
+
+pub reserved_word : step_of (codes "sElect*") ≡ step.Token (lexeme.Word word.Select) 6
+reserved_word = refl
+
+pub number : step_of (codes "0907)") ≡ step.Token (lexeme.Number (pos 907)) 4
+number = refl
+
+pub number_before_letter : step_of (codes "1a") ≡ step.Bad
+number_before_letter = refl
+
+pub quoted : doubled (codes "it's") ≡ codes "it''s"
+quoted = refl
+
+pub comment : step_of (codes "/**/a") ≡ step.Gap 4
+comment = refl
+
+pub comment_without_end : step_of (codes "/*/") ≡ step.Bad
+comment_without_end = refl
+
+-- ---- places
+
+pub second_line : past (10 ∷ 32 ∷ []) origin ≡ record { at = 2; line = 2; column = 2 }
+second_line = refl
+
+-- ---- openings
+
+abbrev of_lexemes : List Lexeme → List Token
+of_lexemes [] = []
+of_lexemes (l ∷ ls) = token_at l 0 origin 1 ∷ of_lexemes ls
+
+-- IF NULL END IF
+abbrev if_null : List Token
+if_null = of_lexemes (lexeme.Word word.If ∷ lexeme.Word word.Null ∷ lexeme.Word word.End ∷ lexeme.Word word.If ∷ [])
+
+pub opens_at_if : opens_at if_null 0 ≡ true
+opens_at_if = refl
+
+pub not_after_end : opens_at if_null 3 ≡ false
+not_after_end = refl

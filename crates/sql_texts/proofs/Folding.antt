@@ -1,0 +1,58 @@
+-- A word's letters, folded.
+use Rattle.std.proofs.Common.{ℕ, ◌≡◌, Bool, true, false, ◌&&◌, List, [], ◌∷◌, length, refl, sym, arith, subst}
+use Rattle.std.specs.Prelude.{nat_le}
+use Rattle.std.specs.List.{list_all}
+use Rattle.std.specs.Char.{to_ascii_uppercase}
+use Rattle.sql_texts.specs.Names.{is_letter, is_name_part, begins_by, is_word_like, folded, IsWordLike, IsName, most_characters}
+use Rattle.std.proofs.lemmas.Bool.Decides.{nat_tests}
+
+part_folded : (b : ℕ) → is_name_part b ≡ true → is_name_part (to_ascii_uppercase b) ≡ true
+part_folded b h = grind (arith, nat_tests)
+
+letter_folded : (b : ℕ) → is_letter b ≡ true → is_letter (to_ascii_uppercase b) ≡ true
+letter_folded b h = grind (arith, nat_tests)
+
+twice_folded : (b : ℕ) → to_ascii_uppercase (to_ascii_uppercase b) ≡ to_ascii_uppercase b
+twice_folded b = grind (arith, nat_tests)
+
+folded-folded : (word : List ℕ) → folded (folded word) ≡ folded word
+folded-folded [] = refl
+folded-folded (b ∷ bs) = let e = twice_folded b in let es = folded-folded bs in cc
+
+length-folded : (word : List ℕ) → length (folded word) ≡ length word
+length-folded [] = refl
+length-folded (b ∷ bs) = grind (arith, length-folded bs)
+
+left : (a b : Bool) → (a && b) ≡ true → a ≡ true
+left true b h = refl
+left false b h = cc
+
+right : (a b : Bool) → (a && b) ≡ true → b ≡ true
+right true b h = h
+right false b h = cc
+
+both : (a b : Bool) → a ≡ true → b ≡ true → (a && b) ≡ true
+both a b h k = cc
+
+parts_folded : (word : List ℕ) → list_all is_name_part word ≡ true → list_all is_name_part (folded word) ≡ true
+parts_folded [] h = refl
+parts_folded (b ∷ bs) h =
+    both (is_name_part (to_ascii_uppercase b)) (list_all is_name_part (folded bs))
+    (part_folded b (left (is_name_part b) (list_all is_name_part bs) h))
+    (parts_folded bs (right (is_name_part b) (list_all is_name_part bs) h))
+
+begins_folded : (word : List ℕ) → begins_by is_letter word ≡ true → begins_by is_letter (folded word) ≡ true
+begins_folded [] h = h
+begins_folded (b ∷ bs) h = letter_folded b h
+
+word_folded : (word : List ℕ) → is_word_like word ≡ true → is_word_like (folded word) ≡ true
+word_folded word h =
+    let k = right (begins_by is_letter word) (list_all is_name_part word && nat_le (length word) most_characters) h in
+    both (begins_by is_letter (folded word)) (list_all is_name_part (folded word) && nat_le (length (folded word)) most_characters)
+    (begins_folded word (left (begins_by is_letter word) (list_all is_name_part word && nat_le (length word) most_characters) h))
+    (both (list_all is_name_part (folded word)) (nat_le (length (folded word)) most_characters)
+    (parts_folded word (left (list_all is_name_part word) (nat_le (length word) most_characters) k))
+    (rw length-folded (right (list_all is_name_part word) (nat_le (length word) most_characters) k)))
+
+pub IsName-folded : (letters word : List ℕ) → letters ≡ folded word → IsWordLike word → IsName letters
+IsName-folded letters word e h = subst IsName (sym e) (word_folded word h, folded-folded word)

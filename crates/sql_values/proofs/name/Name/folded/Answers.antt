@@ -1,6 +1,0 @@
--- A folded word is a name.
-use Rattle.sql_values.proofs.Folding.{IsName-folded}
-use Rattle.sql_values.proofs.name.Name.folded.Goals as goal
-
-pub invariant_of-result : goal.invariant_of-result
-invariant_of-result c = IsName-folded _ _ c.in_ok-letters.ensures c.requires

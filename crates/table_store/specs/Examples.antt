@@ -1,0 +1,53 @@
+-- Worked rows: tables beside the numbers of rows that they have memory for, and rows in blocks.
+use Rattle.std.specs.Prelude.{◌≡◌, pos, List, [], ◌∷◌, codes}
+use Rattle.std.proofs.Common.{refl}
+use Rattle.sql_values.specs.declared.value.Value.TheVariants.{Int}
+use Rattle.row_types.specs.Rows.{Row}
+use Rattle.row_types.specs.Tables.{Table, with_rows_at, place_named}
+use Rattle.table_store.specs.Kept.{Kept, holding}
+use Rattle.table_store.specs.Memory.{Memory, memory_of, with_one_more, without_place, kept_at}
+use Rattle.table_store.specs.Blocks.{joined}
+
+abbrev one : Row
+one = Int (pos 1) ∷ []
+
+abbrev two : Row
+two = Int (pos 2) ∷ []
+
+-- a table of one column, its key, with these rows
+abbrev with_these : List Row → Table
+with_these rows = record { columns = []; key = 0 ∷ []; rows = rows }
+
+-- it has memory for two rows
+abbrev a : Kept
+a = record { table = with_these (one ∷ []); capacity = 2 }
+
+abbrev b : Kept
+b = record { table = with_these []; capacity = 0 }
+
+abbrev both : Memory
+both = memory_of ((codes "A", a) ∷ (codes "B", b) ∷ [])
+
+other_rows : holding (one ∷ two ∷ []) a ≡ record { table = with_these (one ∷ two ∷ []); capacity = 2 }
+other_rows = refl
+
+second : kept_at both 1 ≡ b
+second = refl
+
+numbers : both.capacities ≡ 2 ∷ 0 ∷ []
+numbers = refl
+
+added_behind : with_one_more (memory_of ((codes "A", a) ∷ [])) (codes "B") b ≡ both
+added_behind = refl
+
+dropped : without_place (place_named (codes "A") both.tables) both ≡ memory_of ((codes "B", b) ∷ [])
+dropped = refl
+
+none_dropped : without_place (place_named (codes "C") both.tables) both ≡ both
+none_dropped = refl
+
+rows_in_the_first : (kept_at (record { tables = with_rows_at 0 (two ∷ []) both.tables; capacities = both.capacities }) 0).table.rows ≡ two ∷ []
+rows_in_the_first = refl
+
+in_two_blocks : joined ((one ∷ []) ∷ (two ∷ []) ∷ [] ∷ []) ≡ one ∷ two ∷ []
+in_two_blocks = refl
