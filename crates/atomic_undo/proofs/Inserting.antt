@@ -1,19 +1,17 @@
 -- Rows that go in one after another.
-use Rattle.std.proofs.Common.{ℕ, suc, zero, ◌≡◌, ◌<◌, ◌≤◌, ◌+◌, ◌-◌, Bool, true, false, List, [], ◌∷◌, ◌++◌, refl, sym, ap, ◌∙◌, subst, arith, length, take, drop, slice_index, get_or, insert, Some, None, Ok, Err, Result, ◌||◌, length-append, append_assoc, is_eq, is_lt, Ordering}
+use Rattle.std.proofs.Common.{ℕ, suc, zero, ◌≡◌, ◌<◌, ◌≤◌, ◌+◌, Bool, true, List, [], ◌∷◌, ◌++◌, refl, sym, ap, ◌∙◌, subst, arith, length, take, drop, slice_index, get_or, insert, Some, None, Ok, Err, Result, length-append, append_assoc, is_eq}
 use Rattle.std.proofs.lemmas.List.{take_more, drop_more, take_all, append-nil}
-use Rattle.std.proofs.lemmas.List.Edits.{length-insert, insert_end}
-use Rattle.std.specs.Ordering.{match_ordering}
-use Rattle.atomic_undo.proofs.Sorting.{behind-above}
-use Rattle.std.specs.List.{list_all, list_any}
+use Rattle.std.proofs.lemmas.List.Edits.{length-insert}
+use Rattle.std.specs.List.{list_all}
 use Rattle.std.specs.Cmp.{IsTotalOrder}
-use Rattle.row_types.specs.Ordered.{in_order, put, put_all, first_repeat, first_repeat_behind, rises, stands, searched, one_on}
-use Rattle.row_types.specs.Rows.{Row, by_key, fits, well_kept}
+use Rattle.row_types.specs.Ordered.{in_order, put, put_all, first_repeat, first_repeat_behind, stands, searched}
+use Rattle.row_types.specs.Rows.{Row, by_key, fits}
 use Rattle.row_types.specs.Tables.{Table, Tables, table_at, with_rows, with_rows_at}
-use Rattle.table_store.specs.Kept.{Kept, IsKept, CanInsert, holding}
+use Rattle.table_store.specs.Kept.{IsKept, CanInsert}
 use Rattle.table_store.specs.Memory.{Memory, kept_at, NoLess}
 use Rattle.std.proofs.lemmas.Bool.{and_parts}
 use Rattle.std.proofs.lemmas.List.Folds.{list_any-append}
-use Rattle.row_types.proofs.Laws.{by_key_total, is_less}
+use Rattle.row_types.proofs.Laws.{by_key_total}
 use Rattle.row_types.proofs.Laws.{insert_is_put, none_stands, one_stands, any-put_all, put_all-append, repeat_none, repeat_here, in_order-append, first_repeat-append, remove-insert, err_within}
 use Rattle.table_store.proofs.Laws.{can_insert, kept_rises}
 use Rattle.atomic_undo.specs.declared.log.Edit.{Edit}
@@ -21,16 +19,10 @@ use Rattle.atomic_undo.specs.declared.log.Edit.TheVariants.{Inserted}
 use Rattle.atomic_undo.specs.declared.fault.ApplyFault.{ApplyFault}
 use Rattle.atomic_undo.specs.declared.fault.ApplyFault.TheVariants.{Constraint, NoMemory}
 use Rattle.atomic_undo.specs.Undo.{undo_edit, undo_entry, rows_before, CanUndo}
-use Rattle.atomic_undo.specs.Changes.{order_in, rows_in, Going, Changed, Unchanged, IsAnswer}
+use Rattle.atomic_undo.specs.Changes.{order_in, rows_in, Going, IsAnswer}
 use Rattle.atomic_undo.proofs.Places.{rows_at-rows_at, rows_at-same, no_less-trans}
 use Rattle.atomic_undo.proofs.TakingBack.{CanUndo-push, more_undo, rows_before-append}
 use Rattle.atomic_undo.proofs.Steps.{table_after}
-
-searched_behind : {X : Type 0} (R : X → X → Ordering) (xs : List X) (x : X) → list_all (λ y. is_lt (R y x)) xs ≡ true → searched (λ y. R y x) xs ≡ Err (length xs)
-searched_behind R [] x h = refl
-searched_behind R (y ∷ ys) x h =
-    let parts = and_parts (is_lt (R y x)) (list_all (λ z. is_lt (R z x)) ys) h in
-    ap (λ r. match_ordering r (one_on (searched (λ z. R z x) ys)) (Ok 0) (Err 0)) (is_less (R y x) parts.0) ∙ ap one_on (searched_behind R ys x parts.1)
 
 module _ (m : Memory) (t : ℕ) (new : List Row) (before : List Edit) where
   abbrev old : Table
@@ -118,24 +110,6 @@ module _ (m : Memory) (t : ℕ) (new : List Row) (before : List Edit) where
   length-take_to zero xs l = refl
   length-take_to (suc i) [] l = absurd (omega arith)
   length-take_to (suc i) (x ∷ xs) l = ap suc (length-take_to i xs (omega arith))
-
-  -- a row that goes on rising is put behind the last
-  pub found_behind : (n : Memory) (i : ℕ) (es : List Edit) (row : Row) (rest : List Row) (at : ℕ) → t < length m.tables → Going m n t new i before es
-      → rises (order_in m.tables t) (rows_in n.tables t ++ row ∷ rest) ≡ true → at ≡ length (rows_in n.tables t)
-      → Err at ≡ searched (λ x. by_key (table_at n.tables t).key x row) (rows_in n.tables t)
-  found_behind n i es row rest at l g h e =
-      let xs = rows_in n.tables t in
-      ap (λ k. Err k) e
-      ∙ sym (searched_behind (order_in m.tables t) xs row (behind-above (order_in m.tables t) total [] refl xs row rest h))
-      ∙ sym (ap (λ (x : Table). searched (λ y. by_key x.key y row) xs) (held n i es l g))
-
-  pub rise_on : (n n' : Memory) (row : Row) (rest : List Row) (at : ℕ) → t < length n.tables → n'.tables ≡ with_rows_at t (insert (rows_in n.tables t) at row) n.tables → at ≡ length (rows_in n.tables t)
-      → rises (order_in m.tables t) (rows_in n.tables t ++ row ∷ rest) ≡ true → rises (order_in m.tables t) (rows_in n'.tables t ++ rest) ≡ true
-  rise_on n n' row rest at l e same h =
-      let xs = rows_in n.tables t in
-      let longer : rows_in n'.tables t ≡ xs ++ row ∷ [] =
-      ap (λ (x : Table). x.rows) (table_after t (insert xs at row) n.tables n'.tables e l) ∙ ap (λ k. insert xs k row) same ∙ insert_end xs row in
-      ap (λ (ys : List Row). rises (order_in m.tables t) (ys ++ rest)) longer ∙ ap (rises (order_in m.tables t)) (append_assoc xs (row ∷ []) rest) ∙ h
 
   pub stands_there : (n : Memory) (i : ℕ) (es : List Edit) (row : Row) (at : ℕ) → t < length m.tables → Going m n t new i before es
       → Ok at ≡ searched (λ x. by_key (table_at n.tables t).key x row) (table_at n.tables t).rows → row ∷ drop (i + 1) new ≡ drop i new

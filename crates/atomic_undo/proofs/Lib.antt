@@ -11,3 +11,4 @@ pub mod Rekeyed
 pub mod Sorting
 pub mod Placing
 pub mod Climbing
+pub mod Behind

@@ -1,22 +1,24 @@
 -- New rows with their places, in key order and back.
-use Rattle.std.proofs.Common.{ℕ, zero, suc, ◌≡◌, ◌<◌, ◌≤◌, ◌+◌, ◌-◌, Bool, true, false, List, [], ◌∷◌, ◌++◌, refl, sym, ap, ◌∙◌, subst, arith, cond, not, ◌&&◌, length, drop, map, get_or, Err, Ok, Result, Some, None, Ordering, Less, Equal, Greater, is_lt, is_eq, IsTrue, is_ok, ⊎_elim}
+use Rattle.std.proofs.Common.{ℕ, zero, suc, pos, ◌≡◌, ◌≢◌, ◌<◌, ◌≤◌, ◌+◌, ◌-◌, Bool, true, false, List, [], ◌∷◌, ◌++◌, refl, sym, ap, ◌∙◌, subst, arith, not, ◌&&◌, length, drop, get_or, set, Err, Ok, Result, Some, None, Ordering, Less, is_lt, is_ok, ⊎_elim, append_assoc, length-append}
 use Rattle.std.proofs.Math.Bool.{and-true}
-use Rattle.std.proofs.lemmas.Bool.{cases_eq, and_from, and_parts}
-use Rattle.std.proofs.lemmas.Cmp.{nat_cmp_total, on_total, tied_back, tied_itself, ranked}
-use Rattle.std.proofs.lemmas.List.{get_or_default, drop_more, drop_all, length-drop, append-nil}
+use Rattle.std.proofs.Math.Seq.{get_or-append_seam}
+use Rattle.std.proofs.lemmas.Bool.{cases_eq, and_parts}
+use Rattle.std.proofs.lemmas.Bool.Decides.{nat_tests}
+use Rattle.std.proofs.lemmas.List.{get_or_default, get_or-set_other, drop_more, drop_all, length-drop, append-nil}
+use Rattle.std.proofs.lemmas.List.Elements.{All-from_recursion}
+use Rattle.std.proofs.lemmas.Map.Keys.{IsDistinct-cons, IsDistinct-head, IsDistinct-tail, IsDistinct-IsPermutation}
 use Rattle.std.proofs.lemmas.Option.{unwrap_or-slice_get}
 use Rattle.std.specs.Option.{unwrap_or}
-use Rattle.std.specs.List.{slice_get}
+use Rattle.std.specs.List.{slice_get, All, AllByRecursion, IsDistinct}
+use Rattle.sql_values.specs.declared.value.Value.{Value}
 use Rattle.sql_values.specs.declared.value.Value.TheVariants.{Null}
-use Rattle.std.proofs.lemmas.List.Sorted.{IsPermutation-map, IsPermutation-sym, IsPermutation-trans, IsNonDecreasingBy-drop, sum_by-IsPermutation}
-use Rattle.std.proofs.lemmas.List.Sums.{sum_by-cons}
+use Rattle.std.proofs.lemmas.List.Sorted.{All-permutation, IsPermutation-map, IsPermutation-sym}
 use Rattle.std.specs.Cmp.{IsTotalOrder}
-use Rattle.std.specs.List.{list_all, sum_by}
-use Rattle.std.specs.List.Sorted.{IsPermutation, IsNonDecreasingBy}
-use Rattle.std.specs.Ordering.{nat_cmp}
-use Rattle.row_types.specs.Ordered.{is_below_first, rises, stands, searched, in_order, first_repeat, first_repeat_behind}
+use Rattle.std.specs.List.{list_all}
+use Rattle.std.specs.List.Sorted.{IsPermutation}
+use Rattle.row_types.specs.Ordered.{is_below_first, rises, stands, searched, first_repeat, first_repeat_behind}
 use Rattle.row_types.specs.Rows.{Row, by_key}
-use Rattle.row_types.proofs.Laws.{by_order, is_less, err_at, none_stands, rises_before, by_key_total, first_repeat-append}
+use Rattle.row_types.proofs.Laws.{is_less, err_at, none_stands, rises_before, by_key_total, first_repeat-append}
 use Rattle.table_store.specs.Kept.{Kept, IsKept}
 use Rattle.table_store.specs.Memory.{Memory}
 use Rattle.table_store.proofs.Laws.{kept_rises}
@@ -27,8 +29,8 @@ use Rattle.atomic_undo.specs.declared.log.Edit.{Edit}
 use Rattle.atomic_undo.specs.declared.sorted.Placed.{Placed}
 use Rattle.atomic_undo.specs.Changes.{order_in, rows_in, IsAnswer}
 use Rattle.atomic_undo.specs.Undo.{rows_before}
-use Rattle.atomic_undo.specs.Sorting.{first_value, numbered_from, rows_of, PutAlike}
-use Rattle.atomic_undo.proofs.Sorting.{ties, ties_once, risen_alike, alike, none_among}
+use Rattle.atomic_undo.specs.Sorting.{abbreviated, abbreviated_key, numbered_from, have_one_place, row_at, rows_at, IsOrder, PutAlike}
+use Rattle.atomic_undo.proofs.Sorting.{alike, none_among}
 
 -- ---- a place behind the last
 
@@ -94,84 +96,106 @@ nothing_before R (x ∷ xs) ys h l = absurd (omega arith)
 
 -- ---- rows gone through from behind
 
-pub rows_from : (ps : List Placed) (i : ℕ) (p : Placed) → i < length ps → rows_of (drop i ps) ≡ (get_or ps i p).row ∷ rows_of (drop (i + 1) ps)
-rows_from ps i p l = ap rows_of (drop_more ps i p l)
+rows_from : (rows : List Row) (ps : List Placed) (i : ℕ) (p : Placed) → i < length ps → rows_at rows (drop i ps) ≡ row_at rows (get_or ps i p) ∷ rows_at rows (drop (i + 1) ps)
+rows_from rows ps i p l = ap (rows_at rows) (drop_more ps i p l)
 
-pub next_below : (R : Row → Row → Ordering) (ps : List Placed) (i : ℕ) (x : Row) (p : Placed) (r : Bool) → i < length ps → r ≡ is_lt (R x (get_or ps i p).row) → r ≡ is_below_first R x (rows_of (drop i ps))
-next_below R ps i x p r l h = h ∙ sym (ap (is_below_first R x) (rows_from ps i p l))
+-- x is the row at the place that stands at i
+pub rows_next : (rows : List Row) (ps : List Placed) (i : ℕ) (p : Placed) (x : Row) → All (λ q. q.place < length rows) ps → i < length ps → x ≡ get_or rows (get_or ps i p).place x
+    → rows_at rows (drop i ps) ≡ x ∷ rows_at rows (drop (i + 1) ps)
+rows_next rows ps i p x within l e =
+    rows_from rows ps i p l ∙ ap (λ y. y ∷ rows_at rows (drop (i + 1) ps)) (get_or_default rows (get_or ps i p).place [] x (within i p l) ∙ sym e)
 
-pub none_next : (R : Row → Row → Ordering) (ps : List Placed) (i : ℕ) (x : Row) → length ps ≤ i → true ≡ is_below_first R x (rows_of (drop i ps))
-none_next R ps i x l = sym (ap (λ (qs : List Placed). is_below_first R x (rows_of qs)) (drop_all i ps l))
+pub next_below : (R : Row → Row → Ordering) (rows : List Row) (ps : List Placed) (i : ℕ) (x y : Row) (p : Placed) (r : Bool) → All (λ q. q.place < length rows) ps → i < length ps
+    → y ≡ get_or rows (get_or ps i p).place y → r ≡ is_lt (R x y) → r ≡ is_below_first R x (rows_at rows (drop i ps))
+next_below R rows ps i x y p r within l e h = h ∙ sym (ap (is_below_first R x) (rows_next rows ps i p y within l e))
+
+pub none_next : (R : Row → Row → Ordering) (rows : List Row) (ps : List Placed) (i : ℕ) (x : Row) → length ps ≤ i → true ≡ is_below_first R x (rows_at rows (drop i ps))
+none_next R rows ps i x l = sym (ap (λ (qs : List Placed). is_below_first R x (rows_at rows qs)) (drop_all i ps l))
 
 -- a row whose key isn't found stands nowhere
 pub not_there : (k : Kept) (x : Row) (r : Result ℕ ℕ) → IsKept k → r ≡ searched (λ y. by_key k.table.key y x) k.table.rows → is_ok r ≡ false → not (stands (by_key k.table.key) x k.table.rows) ≡ true
 not_there k x (Ok p) h e f = cc
 not_there k x (Err p) h e f = ap not (none_stands (by_key k.table.key) (by_key_total k.table.key) x k.table.rows p (kept_rises k.table.columns k.table.key k.table.rows h.rows) (sym e))
 
--- ---- the first value of a key
+-- ---- the abbreviated key
 
-pub first_is : (key : List ℕ) (row : Row) (place : ℕ) → 0 < length key → place ≡ get_or key 0 place → get_or row place Null ≡ first_value key row
-first_is [] row place l h = absurd (omega arith)
-first_is (i ∷ is) row place l h = ap (λ n. get_or row n Null) h
+pub first_is : (key : List ℕ) (row : Row) (place : ℕ) (v : Value) → 0 < length key → place ≡ get_or key 0 place → v ≡ get_or row place Null → abbreviated v ≡ abbreviated_key key row
+first_is [] row place v l h e = absurd (omega arith)
+first_is (i ∷ is) row place v l h e = ap abbreviated (e ∙ ap (λ n. get_or row n Null) h)
 
 pub no_value : (row : Row) (place : ℕ) → None ≡ slice_get row place → Null ≡ get_or row place Null
 no_value row place h = ap (λ o. unwrap_or o Null) h ∙ unwrap_or-slice_get row place Null
 
--- ---- places
+pub some_value : (row : Row) (place : ℕ) (v : Value) → Some v ≡ slice_get row place → v ≡ get_or row place Null
+some_value row place v h = ap (λ o. unwrap_or o Null) h ∙ unwrap_or-slice_get row place Null
 
-abbrev by_place : Placed → Placed → Ordering
-by_place p q = nat_cmp p.place q.place
+pub no_key : (key : List ℕ) (row : Row) → length key ≡ 0 → pos 0 ≡ abbreviated_key key row
+no_key [] row l = refl
+no_key (i ∷ is) row l = absurd (omega arith)
 
-by_place_total : IsTotalOrder by_place
-by_place_total = on_total (λ p. p.place) nat_cmp_total
+-- ---- each place once
 
-rows-numbered : (key : List ℕ) (n : ℕ) (rows : List Row) → rows_of (numbered_from key n rows) ≡ rows
-rows-numbered key n [] = refl
-rows-numbered key n (r ∷ rs) = ap (λ (xs : List Row). r ∷ xs) (rows-numbered key (suc n) rs)
+flips : (p q : Placed) → have_one_place p q ≡ have_one_place q p
+flips p q = grind (arith, nat_tests)
 
-next_less : (n : ℕ) → is_lt (nat_cmp n (suc n)) ≡ true
-next_less n = by_order (nat_cmp n (suc n))
-    (λ l. ap is_lt l)
-    (λ e. absurd (let h : n ≡ suc n = ranked n (suc n) Equal (sym e) in omega arith))
-    (λ g. absurd (let h : suc n < n = ranked n (suc n) Greater (sym g) in omega arith))
+within-numbered : (key : List ℕ) (n m : ℕ) (rows : List Row) → n + length rows ≤ m → AllByRecursion (λ p. p.place < m) (numbered_from key n rows)
+within-numbered key n m [] l = tt
+within-numbered key n m (r ∷ rs) l = (omega arith, within-numbered key (suc n) m rs (omega arith))
 
-rises-numbered : (key : List ℕ) (n : ℕ) (rows : List Row) → rises by_place (numbered_from key n rows) ≡ true
-rises-numbered key n [] = refl
-rises-numbered key n (r ∷ []) = refl
-rises-numbered key n (r ∷ s ∷ rs) =
-    and_from (is_lt (nat_cmp n (suc n))) (rises by_place (numbered_from key (suc n) (s ∷ rs))) (next_less n) (rises-numbered key (suc n) (s ∷ rs))
+above-numbered : (key : List ℕ) (p : Placed) (n : ℕ) (rows : List Row) → p.place < n → AllByRecursion (λ q. have_one_place p q ≡ false) (numbered_from key n rows)
+above-numbered key p n [] l = tt
+above-numbered key p n (r ∷ rs) l = (grind (arith, nat_tests), above-numbered key p (suc n) rs (omega arith))
 
--- places that don't fall rise, where none stands twice
-rises_by_place : (ps : List Placed) → IsNonDecreasingBy (λ p. p.place) ps → ((p : Placed) → sum_by (ties by_place by_place_total p) ps ≤ 1) → rises by_place ps ≡ true
-rises_by_place [] h f = refl
-rises_by_place (p ∷ []) h f = refl
-rises_by_place (p ∷ q ∷ ps) h f =
-    and_from (is_lt (by_place p q)) (rises by_place (q ∷ ps)) (below (h 0 1 p (omega arith) (omega arith)))
-    (rises_by_place (q ∷ ps) (IsNonDecreasingBy-drop (λ p. p.place) 1 (p ∷ q ∷ ps) h) (λ r. let a = f r in let s = sum_by-cons (ties by_place by_place_total r) p (q ∷ ps) in omega arith))
-  where
-    T : Placed → ℕ
-    T = ties by_place by_place_total p
+once-numbered : (key : List ℕ) (n : ℕ) (rows : List Row) → IsDistinct have_one_place (numbered_from key n rows)
+unfolding IsDistinct
+once-numbered key n [] = tt
+once-numbered key n (r ∷ rs) =
+    let first : Placed = record { place = n; abbreviated = abbreviated_key key r } in
+    IsDistinct-cons have_one_place first (numbered_from key (suc n) rs) (above-numbered key first (suc n) rs (omega arith)) (once-numbered key (suc n) rs)
 
-    below : p.place ≤ q.place → is_lt (by_place p q) ≡ true
-    below l = by_order (by_place p q)
-        (λ less. ap is_lt less)
-        (λ e. absurd (let a = f p in let s = sum_by-cons T p (q ∷ ps) in let s2 = sum_by-cons T q ps in
-        let b : T p ≡ 1 = ap (λ r. cond (is_eq r) 1 0) (tied_itself by_place_total p) in
-        let c : T q ≡ 1 = ap (λ r. cond (is_eq r) 1 0) (tied_back by_place_total p q e) in omega arith))
-        (λ g. absurd (let m : q.place < p.place = ranked p.place q.place Greater (sym g) in omega arith))
+-- a row that goes out is no other's
+apart_from : (rows : List Row) (p : Placed) (row : Row) (ps : List Placed) → AllByRecursion (λ q. have_one_place p q ≡ false) ps → rows_at (set rows p.place row) ps ≡ rows_at rows ps
+apart_from rows p row [] h = refl
+apart_from rows p row (q ∷ qs) h =
+    let ne : q.place ≢ p.place = (let f = h.0 in grind (arith, nat_tests)) in
+    ap (λ x. x ∷ rows_at (set rows p.place row) qs) (get_or-set_other rows p.place q.place row [] ne) ∙ ap (λ (xs : List Row). row_at rows q ∷ xs) (apart_from rows p row qs h.1)
 
--- ---- the rows in key order, and back in their own
+once-drop : (ps : List Placed) (i : ℕ) → IsDistinct have_one_place ps → IsDistinct have_one_place (drop i ps)
+once-drop ps zero h = h
+once-drop [] (suc i) h = h
+once-drop (p ∷ ps) (suc i) h = once-drop ps i (IsDistinct-tail have_one_place p ps h)
 
-module _ (key : List ℕ) (new : List Row) (ps qs : List Placed) (e : ps ≡ numbered_from key 0 new) (moved : IsPermutation ps qs) where
-  pub rows_moved : IsPermutation new (rows_of qs)
-  rows_moved = subst (λ (xs : List Row). IsPermutation xs (rows_of qs)) (ap rows_of e ∙ rows-numbered key 0 new) (IsPermutation-map (λ p. p.row) ps qs moved)
+pub goes_out : (taken left : List Row) (ps : List Placed) (i : ℕ) (d : Placed) (row new : Row) → IsDistinct have_one_place ps → i < length ps → row ≡ row_at left (get_or ps i d)
+    → (taken ++ row ∷ []) ++ rows_at (set left (get_or ps i d).place new) (drop (i + 1) ps) ≡ taken ++ rows_at left (drop i ps)
+goes_out taken left ps i d row new once l e =
+    let p = get_or ps i d in
+    let rest = drop (i + 1) ps in
+    let apart = IsDistinct-head have_one_place p rest (subst (λ (qs : List Placed). IsDistinct have_one_place qs) (drop_more ps i d l) (once-drop ps i once)) in
+    append_assoc taken (row ∷ []) (rows_at (set left p.place new) rest)
+    ∙ ap (λ (xs : List Row). taken ++ row ∷ xs) (apart_from left p new rest apart)
+    ∙ ap (λ (x : Row). taken ++ x ∷ rows_at left rest) e
+    ∙ sym (ap (λ (xs : List Row). taken ++ xs) (rows_from left ps i d l))
 
-  pub rows_back : IsNonDecreasingBy (λ p. p.place) qs → rows_of qs ≡ new
-  rows_back h =
-      let up : rises by_place ps ≡ true = ap (rises by_place) e ∙ rises-numbered key 0 new in
-      let once : (p : Placed) → sum_by (ties by_place by_place_total p) qs ≤ 1 =
-      (λ p. let a = ties_once by_place by_place_total p ps up in let b = sum_by-IsPermutation (ties by_place by_place_total p) ps qs moved in omega arith) in
-      ap rows_of (sym (risen_alike by_place by_place_total ps qs up (rises_by_place qs h once) moved) ∙ e) ∙ rows-numbered key 0 new
+rows_at-numbered : (key : List ℕ) (front rows : List Row) → rows_at (front ++ rows) (numbered_from key (length front) rows) ≡ rows
+rows_at-numbered key front [] = refl
+rows_at-numbered key front (r ∷ rs) =
+    let more = front ++ r ∷ [] in
+    let joined : more ++ rs ≡ front ++ r ∷ rs = append_assoc front (r ∷ []) rs in
+    let count : length more ≡ suc (length front) = omega (arith, length-append front (r ∷ [])) in
+    ap (λ x. x ∷ rows_at (front ++ r ∷ rs) (numbered_from key (suc (length front)) rs)) (get_or-append_seam front r rs [])
+    ∙ ap (λ (xs : List Row). r ∷ xs)
+    (ap (λ (n : ℕ). rows_at (front ++ r ∷ rs) (numbered_from key n rs)) (sym count)
+    ∙ ap (λ (xs : List Row). rows_at xs (numbered_from key (length more) rs)) (sym joined) ∙ rows_at-numbered key more rs)
+
+module _ (key : List ℕ) (new : List Row) (ps : List Placed) (order : IsOrder key new ps) where
+  pub order_within : All (λ p. p.place < length new) ps
+  order_within = All-permutation (λ p. p.place < length new) (numbered_from key 0 new) ps order (All-from_recursion (λ p. p.place < length new) (numbered_from key 0 new) (within-numbered key 0 (length new) new (omega arith)))
+
+  pub order_once : IsDistinct have_one_place ps
+  order_once = IsDistinct-IsPermutation have_one_place flips (numbered_from key 0 new) ps order (once-numbered key 0 new)
+
+  pub order_moves : IsPermutation new (rows_at new ps)
+  order_moves = subst (λ (xs : List Row). IsPermutation xs (rows_at new ps)) (rows_at-numbered key [] new) (IsPermutation-map (row_at new) (numbered_from key 0 new) ps order)
 
 -- what comes of the rows in their own order comes of them in key order
 pub alike_in_order : (k : Kept) (new sorted : List Row) → IsKept k → IsPermutation new sorted → first_repeat (by_key k.table.key) (k.table.rows ++ sorted) ≡ None

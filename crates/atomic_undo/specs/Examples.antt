@@ -1,11 +1,11 @@
 -- Worked rows: what changes leave, where they are refused, and what taking them back gives.
-use Rattle.std.specs.Prelude.{◌≡◌, ℕ, pos, true, false, List, [], ◌∷◌, ◌++◌, Some, None, codes}
+use Rattle.std.specs.Prelude.{◌≡◌, ℕ, pos, false, List, [], ◌∷◌, ◌++◌, Some, None, codes}
 use Rattle.std.proofs.Common.{refl}
 use Rattle.sql_values.specs.declared.value.Value.TheVariants.{Int}
 use Rattle.row_types.specs.Ordered.{in_order, first_repeat}
 use Rattle.row_types.specs.Rows.{Row, by_key}
-use Rattle.row_types.specs.Tables.{Tables, table_at}
-use Rattle.atomic_undo.specs.declared.log.Edit.TheVariants.{Inserted, Removed, Replaced}
+use Rattle.row_types.specs.Tables.{Tables}
+use Rattle.atomic_undo.specs.declared.log.Edit.TheVariants.{Inserted, Appended, Removed, Replaced}
 use Rattle.atomic_undo.specs.declared.log.Entry.{Entry}
 use Rattle.atomic_undo.specs.Undo.{rows_before, back_to}
 use Rattle.atomic_undo.specs.Changes.{removed_all, set_all, keys_stay}
@@ -46,6 +46,10 @@ alike = (refl, λ _. refl)
 -- that INSERT taken back: the row that went in last goes out first
 taken_back : rows_before (Inserted 2 ∷ Inserted 1 ∷ []) (row 1 10 ∷ row 2 0 ∷ row 3 30 ∷ row 4 0 ∷ row 5 50 ∷ []) ≡ three
 taken_back = refl
+
+-- rows behind the others, taken back in one go
+cut_off : rows_before (Appended 1 ∷ []) (row 1 10 ∷ row 3 30 ∷ row 5 50 ∷ []) ≡ row 1 10 ∷ []
+cut_off = refl
 
 brought_back : rows_before (Removed 2 (row 5 50) ∷ Replaced 0 (row 1 10) ∷ []) (row 1 11 ∷ row 3 30 ∷ []) ≡ three
 brought_back = refl

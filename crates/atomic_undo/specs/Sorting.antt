@@ -1,29 +1,47 @@
 -- New rows in key order. What an INSERT makes of a table does not hang on the order in which its
 -- rows are put, where no key stands twice.
-use Rattle.std.specs.Prelude.{ℕ, suc, ◌≡◌, List, [], ◌∷◌, ◌++◌, map, None, slice_index_or}
-use Rattle.std.specs.Ordering.{ordering_then}
+use Rattle.std.specs.Prelude.{ℕ, ℤ, pos, suc, ◌≡◌, Bool, nat_eq, List, [], ◌∷◌, ◌++◌, map, None, slice_index_or, if◌then◌else◌}
+use Rattle.std.specs.List.Sorted.{IsPermutation}
+use Rattle.std.specs.Ordering.{int_cmp, ordering_then}
 use Rattle.std.specs.declared.cmp.Ordering.{Ordering}
 use Rattle.row_types.specs.Ordered.{in_order, first_repeat}
-use Rattle.row_types.specs.Rows.{Row, value_cmp, key_of, by_key}
+use Rattle.row_types.specs.Rows.{Row, key_of, by_key}
 use Rattle.sql_values.specs.declared.value.Value.{Value}
-use Rattle.sql_values.specs.declared.value.Value.TheVariants.{Null}
+use Rattle.sql_values.specs.declared.value.Value.TheVariants.{Null, Int, Bool as Truth}
 use Rattle.atomic_undo.specs.declared.sorted.Placed.{Placed}
 
--- the first value of a row's key; NULL where there is none
-abbrev pub first_value : List ℕ → Row → Value
-first_value key row = slice_index_or (key_of key row) 0 Null
+-- a number that rises with a value, among the values of a column that takes no NULL
+abbrev pub abbreviated : Value → ℤ
+abbreviated Null = pos 0
+abbreviated (Truth p) = if p then pos 1 else pos 0
+abbreviated (Int n) = n
 
--- rows with their places, counted from a number on
+-- that of the first value of a row's key
+abbrev pub abbreviated_key : List ℕ → Row → ℤ
+abbreviated_key key row = abbreviated (slice_index_or (key_of key row) 0 Null)
+
+-- the places of rows, counted from a number on, with their keys abbreviated
 abbrev pub numbered_from : List ℕ → ℕ → List Row → List Placed
 numbered_from key n [] = []
-numbered_from key n (row ∷ rows) = record { place = n; first = first_value key row; row = row } ∷ numbered_from key (suc n) rows
+numbered_from key n (row ∷ rows) = record { place = n; abbreviated = abbreviated_key key row } ∷ numbered_from key (suc n) rows
 
--- by the values beside the rows, and where they tie by the whole keys
-abbrev pub by_first : List ℕ → Placed → Placed → Ordering
-by_first key p q = ordering_then (value_cmp p.first q.first) (by_key key p.row q.row)
+abbrev pub have_one_place : Placed → Placed → Bool
+have_one_place p q = nat_eq p.place q.place
 
-abbrev pub rows_of : List Placed → List Row
-rows_of placed = map (λ p. p.row) placed
+abbrev pub row_at : List Row → Placed → Row
+row_at rows p = slice_index_or rows p.place []
+
+-- the rows at places, in turn
+abbrev pub rows_at : List Row → List Placed → List Row
+rows_at rows placed = map (row_at rows) placed
+
+-- by the abbreviated keys, and where they tie by the whole keys
+abbrev pub by_abbreviated : List ℕ → List Row → Placed → Placed → Ordering
+by_abbreviated key rows p q = ordering_then (int_cmp p.abbreviated q.abbreviated) (by_key key (row_at rows p) (row_at rows q))
+
+-- each place of the rows, once
+abbrev pub IsOrder : List ℕ → List Row → List Placed → Type 0
+IsOrder key rows placed = IsPermutation (numbered_from key 0 rows) placed
 
 -- behind old ones, the same comes of two lists
 abbrev pub PutAlike : {X : Type 0} → (X → X → Ordering) → List X → List X → List X → Type 0

@@ -1,17 +1,18 @@
 -- What taking changes back leaves, the newest first.
-use Rattle.std.specs.Prelude.{ℕ, ◌<◌, List, [], ◌∷◌, length, drop, slice_set}
+use Rattle.std.specs.Prelude.{ℕ, ◌<◌, ◌≤◌, List, [], ◌∷◌, length, take, drop, slice_set}
 use Rattle.std.specs.List.{insert, remove}
 use Rattle.row_types.specs.Rows.{Row}
 use Rattle.row_types.specs.Tables.{Tables, table_at, with_rows_at}
 use Rattle.table_store.specs.Kept.{Kept, holding, CanInsert, CanReplace}
 use Rattle.table_store.specs.Memory.{kept_at}
 use Rattle.atomic_undo.specs.declared.log.Edit.{Edit}
-use Rattle.atomic_undo.specs.declared.log.Edit.TheVariants.{Inserted, Removed, Replaced}
+use Rattle.atomic_undo.specs.declared.log.Edit.TheVariants.{Inserted, Appended, Removed, Replaced}
 use Rattle.atomic_undo.specs.declared.log.Entry.{Entry}
 
 -- the rows as they were before one change
 abbrev pub undo_edit : Edit → List Row → List Row
 undo_edit (Inserted at) rows = remove rows at
+undo_edit (Appended at) rows = take at rows
 undo_edit (Removed at row) rows = insert rows at row
 undo_edit (Replaced at row) rows = slice_set rows at row
 
@@ -36,6 +37,7 @@ back_to mark entries ts = undone (drop mark entries) ts
 -- order and has memory
 abbrev pub CanUndoEdit : Kept → Edit → Type 0
 CanUndoEdit k (Inserted at) = at < length k.table.rows
+CanUndoEdit k (Appended at) = at ≤ length k.table.rows
 CanUndoEdit k (Removed at row) = CanInsert k at row
 CanUndoEdit k (Replaced at row) = CanReplace k at row
 

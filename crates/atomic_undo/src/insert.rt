@@ -55,17 +55,14 @@ fn insert_behind(tables: &mut Tables, table: usize, new: Vec<Row>, edits: &mut V
     requires there { table < length tables.old.tables }
     requires fit { list_all (fits (table_at tables.old.tables table).columns (table_at tables.old.tables table).key) new.items ≡ true }
     requires room { length (rows_in tables.old.tables table) + vec_len new ≤ slice_index tables.old.capacities table }
-    requires noted { vec_len edits.old + vec_len new ≤ vec_capacity edits.old }
+    requires noted { vec_len edits.old < vec_capacity edits.old }
     requires can { CanUndo (kept_at tables.old table) edits.old.items }
     requires rise { rises (order_in tables.old.tables table) (rows_in tables.old.tables table ++ new.items) ≡ true }
     ensures { WentIn tables.old tables.new table new.items edits.old.items edits.new.items None }
 {
-    let mut rest = VecDeque::from_vec(new);
-    while let Some(row) = rest.pop_front() {
-        let at = tables.table_at(table).len();
-        tables.insert_at(table, at, row);
-        edits.push_reserved(Edit::Inserted(at));
-    }
+    let first = tables.table_at(table).len();
+    tables.append(table, new);
+    edits.push_reserved(Edit::Appended(first));
 }
 
 // Puts new rows into a table one after another, or none where a key stands twice.
@@ -82,7 +79,7 @@ fn insert_in_turn(
     ensures { IsAnswer tables.old tables.new table (rows_in tables.old.tables table ++ new.items) result }
 {
     let before = tables.table_at(table).len();
-    let Ok(mut edits) = Vec::with_capacity(alloc, new.len()) else {
+    let Ok(mut edits) = Vec::with_capacity(alloc, new.len().max(1)) else {
         return Err(ApplyFault::NoMemory);
     };
     let Ok(()) = tables.reserve(table, new.len()) else {

@@ -13,6 +13,8 @@ use std::marker::Model;
 pub enum Edit {
     /// A row went in at this place.
     Inserted(usize),
+    /// Rows went in behind the others, from this place on.
+    Appended(usize),
     /// The row at this place went out.
     Removed(usize, Row),
     /// The row at this place was replaced.

@@ -1,27 +1,28 @@
 //! New rows in key order, so that each goes in behind the last where the table has no greater key.
 
-ghost use Rattle.std.specs.Prelude.{◌≡◌, ◌++◌, drop, IfOk, IsTrue, None, true};
+ghost use Rattle.std.specs.Prelude.{◌≡◌, ◌<◌, ◌++◌, drop, length, IfOk, IsTrue, None, true};
+ghost use Rattle.std.specs.List.{All, IsDistinct};
 ghost use Rattle.std.specs.List.Sorted.{IsPermutation};
 ghost use Rattle.std.specs.Ordering.{is_lt};
 ghost use Rattle.row_types.specs.Ordered.{searched, first_repeat, is_below_first, rises};
 ghost use Rattle.row_types.specs.Rows.{by_key};
 ghost use Rattle.table_store.specs.Kept.{IsKept};
-ghost use Rattle.atomic_undo.specs.Sorting.{first_value as first_value_by, numbered_from, by_first, rows_of as plain_rows, PutAlike};
+ghost use Rattle.atomic_undo.specs.Sorting.{abbreviated as abbreviated_by, abbreviated_key as abbreviated_key_by, numbered_from, by_abbreviated, rows_at as rows_at_by, have_one_place, IsOrder, PutAlike};
 
-use row_types::{Row, copied_value, order_by_key, order_of};
+use row_types::{Row, order_by_key};
 use sql_values::{NoMemory, Value};
+use sqlite_items::Items;
 use std::alloc::Global;
 use std::cmp::Ordering;
-use std::collections::VecDeque;
+use std::mem;
 use table_store::Table;
 
-/// A new row, its place among the new ones, and the first value of its key, which most comparisons
-/// need alone.
-#[derive(Drop)]
+/// The place of a new row among the new ones, and its key abbreviated: a number that rises with the
+/// key's first value, which most comparisons need alone.
+#[derive(Clone, Copy, Drop)]
 pub struct Placed {
     pub place: usize,
-    pub first: Value,
-    pub row: Row,
+    pub abbreviated: i64,
 }
 
 /// Rows, and whether it is known that their keys rise.
@@ -84,86 +85,117 @@ pub fn place_in(table: &Table, row: &Row) -> Result<usize, usize>
     table.place_of(row)
 }
 
-// The first value of a row's key; NULL where there is none.
-fn first_value(row: &Row, key: &[usize]) -> Result<Value, NoMemory>
-    ensures { IfOk result (λ v. v ≡ first_value_by key.now row.now) }
+// A number that rises with a value, among the values of a column that takes no NULL.
+fn abbreviated(value: &Value) -> i64
+    ensures { result ≡ abbreviated_by value.now }
 {
-    let Some(place) = key.get(0) else {
-        return Ok(Value::Null);
-    };
-    match row.get(*place) {
-        Some(value) => copied_value(value),
-        None => Ok(Value::Null),
+    match value {
+        Value::Null => 0,
+        Value::Bool(truth) => *truth as i64,
+        Value::Int(number) => *number,
     }
 }
 
-// Rows with their places.
-fn numbered(alloc: Global, rows: Vec<Row>, key: &[usize]) -> Result<Vec<Placed>, NoMemory>
-    ensures { IfOk result (λ v. v.items ≡ numbered_from key.now 0 rows.items) }
+// The number of the first value of a row's key.
+fn abbreviated_key(row: &Row, key: &[usize]) -> i64
+    ensures { result ≡ abbreviated_key_by key.now row.now }
+{
+    let Some(place) = key.get(0) else {
+        return 0;
+    };
+    match row.get(*place) {
+        Some(value) => abbreviated(value),
+        None => 0,
+    }
+}
+
+// The places of rows, with their keys abbreviated.
+fn numbered(alloc: Global, rows: &[Row], key: &[usize]) -> Result<Vec<Placed>, NoMemory>
+    ensures { IfOk result (λ v. v.items ≡ numbered_from key.now 0 rows.now) }
 {
     let mut placed = Vec::with_capacity(alloc, rows.len())?;
-    let mut rest = VecDeque::from_vec(rows);
-    while let Some(row) = rest.pop_front() {
-        let place = placed.len();
-        let first = first_value(&row, key)?;
-        placed.push_reserved(Placed { place, first, row });
+    for (place, row) in rows.iter().enumerate() {
+        let abbreviated = abbreviated_key(row, key);
+        placed.push_reserved(Placed { place, abbreviated });
     }
     Ok(placed)
 }
 
-// Rows without their places.
-fn rows_of(alloc: Global, placed: Vec<Placed>) -> Result<Vec<Row>, NoMemory>
-    ensures { IfOk result (λ v. v.items ≡ plain_rows placed.items) }
+// The order of the rows at two places by their keys. Where the abbreviated keys differ, the rows
+// aren't looked at.
+fn order_placed(a: &Placed, b: &Placed, rows: &[Row], key: &[usize]) -> Ordering
+    ensures { a.now.place < length rows.now → b.now.place < length rows.now → result ≡ by_abbreviated key.now rows.now a.now b.now }
 {
-    let mut rows = Vec::with_capacity(alloc, placed.len())?;
-    let mut rest = VecDeque::from_vec(placed);
-    while let Some(one) = rest.pop_front() {
-        rows.push_reserved(one.row);
+    match a.abbreviated.cmp(&b.abbreviated) {
+        Ordering::Less => Ordering::Less,
+        Ordering::Equal => match (rows.get(a.place), rows.get(b.place)) {
+            (Some(x), Some(y)) => order_by_key(x, y, key),
+            _ => Ordering::Equal,
+        },
+        Ordering::Greater => Ordering::Greater,
     }
-    Ok(rows)
 }
 
-// Whether the key of a row is below that of the row at a place, if there is one.
-fn is_below_next(row: &Row, placed: &[Placed], next: usize, key: &[usize]) -> bool
-    ensures { result ≡ is_below_first (by_key key.now) row.now (plain_rows (drop next placed.now)) }
+// The places of rows, sorted by the keys of the rows.
+fn sorted_places(alloc: Global, rows: &[Row], key: &[usize]) -> Result<Vec<Placed>, NoMemory>
+    ensures { IfOk result (λ v. IsOrder key.now rows.now v.items) }
+{
+    let mut placed = numbered(alloc, rows, key)?;
+    if key.len() == 1 {
+        placed.sort_by_key(|one| one.abbreviated)?;
+    } else {
+        placed.sort_by(|a, b| order_placed(a, b, rows, key))?;
+    }
+    Ok(placed)
+}
+
+// Whether the key of a row is below that of the row at the next place, if there is one.
+fn is_below_next(row: &Row, rows: &[Row], placed: &[Placed], next: usize, key: &[usize]) -> bool
+    requires { All (λ p. p.place < length rows.now) placed.now }
+    ensures { result ≡ is_below_first (by_key key.now) row.now (rows_at_by rows.now (drop next placed.now)) }
 {
     if next < placed.len() {
-        is_below(row, &placed[next].row, key)
+        is_below(row, &rows[placed[next].place], key)
     } else {
         true
     }
 }
 
-// Whether the keys rise and none of them stands in the table. The rows are gone through from
-// behind.
-fn may_go_in(table: &Table, placed: &[Placed]) -> bool
-    ensures once { IsTrue result → first_repeat (by_key table.now.table.key) (table.now.table.rows ++ plain_rows placed.now) ≡ None }
-    ensures rise { IsTrue result → rises (by_key table.now.table.key) (plain_rows placed.now) ≡ true }
+// Whether the keys of the rows at places rise and none of them stands in the table. The places are
+// gone through from behind.
+fn may_go_in(table: &Table, rows: &[Row], placed: &[Placed]) -> bool
+    requires { All (λ p. p.place < length rows.now) placed.now }
+    ensures once { IsTrue result → first_repeat (by_key table.now.table.key) (table.now.table.rows ++ rows_at_by rows.now placed.now) ≡ None }
+    ensures rise { IsTrue result → rises (by_key table.now.table.key) (rows_at_by rows.now placed.now) ≡ true }
 {
     let _rows = table.len();
     let mut i = placed.len();
     while i > 0 {
         i -= 1;
-        let row = &placed[i].row;
+        let row = &rows[placed[i].place];
         if place_in(table, row).is_ok() {
             return false;
         }
-        if !is_below_next(row, placed, i + 1, table.key()) {
+        if !is_below_next(row, rows, placed, i + 1, table.key()) {
             return false;
         }
     }
     true
 }
 
-// The order of two rows by their keys. Where the first values differ, the rows aren't looked at.
-fn order_placed(a: &Placed, b: &Placed, key: &[usize]) -> Ordering
-    ensures { result ≡ by_first key.now a.now b.now }
+// The rows at places, in turn. Each place is there, and none comes twice.
+fn rows_at(alloc: Global, rows: Vec<Row>, placed: &[Placed]) -> Result<Vec<Row>, NoMemory>
+    requires there { All (λ p. p.place < length rows.items) placed.now }
+    requires once { IsDistinct have_one_place placed.now }
+    ensures { IfOk result (λ v. v.items ≡ rows_at_by rows.items placed.now) }
 {
-    match order_of(&a.first, &b.first) {
-        Ordering::Less => Ordering::Less,
-        Ordering::Equal => order_by_key(&a.row, &b.row, key),
-        Ordering::Greater => Ordering::Greater,
+    let mut taken = Vec::with_capacity(alloc, placed.len())?;
+    let mut left = rows;
+    for one in placed {
+        let row = mem::replace(&mut left[one.place], Items::new(alloc));
+        taken.push_reserved(row);
     }
+    Ok(taken)
 }
 
 /// New rows in key order; where a key stands twice, in their own order.
@@ -173,13 +205,14 @@ pub fn in_key_order(alloc: Global, table: &Table, new: Vec<Row>) -> Result<InOrd
     ensures rise { IfOk result (λ v. IsTrue v.rise → rises (by_key table.now.table.key) v.rows.items ≡ true) }
 {
     let _rows = table.len();
-    let key = table.key();
-    let mut placed = numbered(alloc, new, key)?;
-    placed.sort_by(|a, b| order_placed(a, b, key))?;
-    let rise = may_go_in(table, &placed);
-    if !rise {
-        placed.sort_unstable_by_key(|one| one.place);
+    let placed = sorted_places(alloc, &new, table.key())?;
+    if may_go_in(table, &new, &placed) {
+        let rows = rows_at(alloc, new, &placed)?;
+        Ok(InOrder { rows, rise: true })
+    } else {
+        Ok(InOrder {
+            rows: new,
+            rise: false,
+        })
     }
-    let rows = rows_of(alloc, placed)?;
-    Ok(InOrder { rows, rise })
 }

@@ -19,6 +19,7 @@ fn undo(tables: &mut Tables, table: usize, edit: Edit)
         Edit::Inserted(at) => {
             let _ = tables.remove_at(table, at);
         }
+        Edit::Appended(at) => tables.truncate(table, at),
         Edit::Removed(at, row) => tables.insert_at(table, at, row),
         Edit::Replaced(at, row) => {
             let _ = tables.replace_at(table, at, row);

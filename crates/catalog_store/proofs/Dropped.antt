@@ -10,7 +10,7 @@ use Rattle.catalog_store.specs.Catalog.{Object, Catalog, object_named}
 use Rattle.catalog_store.specs.Calls.{CallPlace, names_called, calls_in}
 use Rattle.catalog_store.specs.Entries.{object_of, entry_of, with_all, ObjectFits, AreSound}
 use Rattle.catalog_store.specs.Users.{mentions, is_user, users_of, without}
-use Rattle.catalog_store.proofs.Named.{bytes_self, bytes_swap, other_bytes, named_kept, named_behind, named_more, named_less, without_none, without_front, without_last}
+use Rattle.catalog_store.proofs.Named.{bytes_self, bytes_swap, other_bytes, named_kept, named_after, named_more, named_less, without_none, without_front, without_last}
 use Rattle.catalog_store.proofs.Sound.{Held, grown, SameCalls, same_object, same_fits}
 use Rattle.catalog_store.proofs.Trees.{Same}
 
@@ -114,7 +114,7 @@ dropped name known (e ∷ es) none unused sound = by (bytes_eq name e.0) refl (�
     by true q rest =
         let here : bytes_eq e.0 name ≡ true = bytes_swap e.0 name ∙ q in
         let stands : object_named name (grown known e) ≡ Some (object_of known e.1) =
-        named_behind name known (entry_of known e.0 e.1 ∷ []) none ∙ ap (λ (b : Bool). cond b (Some (object_of known e.1)) None) here in
+        named_after name known (entry_of known e.0 e.1 ∷ []) none ∙ ap (λ (b : Bool). cond b (Some (object_of known e.1)) None) here in
         let gone = without_last name known (entry_of known e.0 e.1) none here in
         let after = behind name (grown known e) es (object_of known e.1) stands (others_unused name e es unused) sound.2 in
         (subst (λ (k : Catalog). AreSound k es) gone after.0, ap (λ (k : Catalog). with_all k es) (sym gone) ∙ after.1)

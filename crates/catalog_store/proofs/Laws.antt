@@ -1,8 +1,9 @@
 -- The laws that upper crates cite.
 use Rattle.std.proofs.Common.{sym}
 use Rattle.catalog_store.specs.Laws.{AddingLeavesOthers, DroppingLeavesOthers}
-pub use Rattle.catalog_store.proofs.Named.{named_kept, named_behind}
+pub use Rattle.catalog_store.proofs.Named.{named_kept, named_after}
 pub use Rattle.catalog_store.proofs.Trees.{Same, same_tree, fit_in_both}
+pub use Rattle.catalog_store.proofs.Planned.{planned_trees}
 pub use Rattle.catalog_store.proofs.Sound.{named_in_all, fits_in_all}
 use Rattle.catalog_store.proofs.Named.{named_more, named_less, other_bytes}
 

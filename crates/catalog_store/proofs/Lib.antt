@@ -2,5 +2,6 @@ pub mod Trees
 pub mod Called
 pub mod Named
 pub mod Sound
+pub mod Planned
 pub mod Dropped
 pub mod Laws

@@ -35,9 +35,9 @@ named_kept name (x ∷ xs) ys o h = by (bytes_eq x.name name) (object_named name
     by false x o y p h k = k h
 
 -- what isn't found is sought behind
-pub named_behind : (name : List ℕ) (xs ys : Catalog) → object_named name xs ≡ None → object_named name (xs ++ ys) ≡ object_named name ys
-named_behind name [] ys h = refl
-named_behind name (x ∷ xs) ys h = by (bytes_eq x.name name) (object_named name xs) (object_named name (xs ++ ys)) x.object (object_named name ys) h (named_behind name xs ys)
+pub named_after : (name : List ℕ) (xs ys : Catalog) → object_named name xs ≡ None → object_named name (xs ++ ys) ≡ object_named name ys
+named_after name [] ys h = refl
+named_after name (x ∷ xs) ys h = by (bytes_eq x.name name) (object_named name xs) (object_named name (xs ++ ys)) x.object (object_named name ys) h (named_after name xs ys)
   where
     by : {A : Type 0} (b : Bool) (x o : Option A) (y : A) (p : Option A) → cond b (Some y) x ≡ None → (x ≡ None → o ≡ p) → cond b (Some y) o ≡ p
     by true x o y p h k = cc
@@ -48,7 +48,7 @@ pub named_more : (name : List ℕ) (xs : Catalog) (x : Entry) → bytes_eq x.nam
 named_more name xs x f = by (object_named name xs) refl
   where
     by : (o : Option Object) → object_named name xs ≡ o → object_named name (xs ++ x ∷ []) ≡ object_named name xs
-    by None e = named_behind name xs (x ∷ []) e ∙ ap (λ b. cond b (Some x.object) None) f ∙ sym e
+    by None e = named_after name xs (x ∷ []) e ∙ ap (λ b. cond b (Some x.object) None) f ∙ sym e
     by (Some o) e = named_kept name xs (x ∷ []) o e ∙ sym e
 
 -- an entry less leaves what every other name stands for

@@ -9,7 +9,7 @@ use Rattle.rel_algebra.specs.Tree.{Expr, Function as FunctionTree}
 use Rattle.catalog_store.specs.Catalog.{Object, FunctionObject, Catalog, object_named}
 use Rattle.catalog_store.specs.Calls.{CallPlace, AllFit, calls_in}
 use Rattle.catalog_store.specs.Entries.{object_of, entry_of, with_all, ObjectFits, AreSound}
-use Rattle.catalog_store.proofs.Named.{bytes_swap, named_kept, named_behind, named_more}
+use Rattle.catalog_store.proofs.Named.{bytes_swap, named_kept, named_after, named_more}
 use Rattle.catalog_store.proofs.Trees.{Same, same_tree, fit_in_both}
 
 abbrev pub Held : Type 0
@@ -76,7 +76,7 @@ named_in_all name known (e ∷ es) sound none = by (bytes_eq name e.0) refl (nam
         object_named name (with_all (grown known e) es) ≡ option_map (object_of (with_all (grown known e) es)) (cond b (Some e.1) (lookup (bytes_eq name) es))
     by true q rest =
         let stands : object_named name (grown known e) ≡ Some (object_of known e.1) =
-        named_behind name known (entry_of known e.0 e.1 ∷ []) none ∙ ap (λ (b : Bool). cond b (Some (object_of known e.1)) None) (bytes_swap e.0 name ∙ q) in
+        named_after name known (entry_of known e.0 e.1 ∷ []) none ∙ ap (λ (b : Bool). cond b (Some (object_of known e.1)) None) (bytes_swap e.0 name ∙ q) in
         kept_in_all name (grown known e) es (object_of known e.1) stands ∙ ap (λ (o : Object). Some o) (sym (same_object known (with_all (grown known e) es) e.1 (same_in_all known (e ∷ es) e.1 sound.1)))
     by false q rest = rest (named_more name known (entry_of known e.0 e.1) (bytes_swap e.0 name ∙ q) ∙ none)
 

@@ -3,6 +3,7 @@ pub mod View
 pub mod Calls
 pub mod Entries
 pub mod Users
+pub mod Planning
 pub mod Laws
 pub mod Codes
 pub mod Examples

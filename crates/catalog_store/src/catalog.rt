@@ -3,7 +3,10 @@
 ghost use Rattle.std.specs.Prelude.{◌≡◌, [], ◌∷◌, ◌++◌, length, None, IsSome, IfSome, MatchOption, OnOk, OnErr, IfErr, false, slice_get};
 ghost use Rattle.std.specs.Option.{option_copied, option_map};
 ghost use Rattle.rel_algebra.specs.Tree.{Function as FunctionTree};
-ghost use Rattle.catalog_store.specs.Catalog.{object_named, routine_named, missing};
+ghost use Rattle.std.specs.List.{IsDistinct};
+ghost use Rattle.std.specs.Str.{bytes_eq};
+ghost use Rattle.catalog_store.specs.Catalog.{names_of, object_named, routine_named, missing};
+ghost use Rattle.catalog_store.specs.Planning.{AllPlanned};
 ghost use Rattle.catalog_store.specs.Entries.{object_of, entry_of, ObjectFits, IsNamed};
 ghost use Rattle.catalog_store.specs.Users.{mentions, is_user, users_of, without};
 ghost use Rattle.catalog_store.specs.View.{tree_of};
@@ -68,9 +71,12 @@ impl Catalog {
         }
     }
 
-    /// The number of entries.
+    /// The number of entries. Their names differ, and what each of them stands for has a plan where
+    /// it is called.
     pub fn len(&self) -> usize
-        ensures { result ≡ length self.now }
+        ensures value { result ≡ length self.now }
+        ensures names { IsDistinct bytes_eq (names_of self.now) }
+        ensures planned { AllPlanned self.now }
     {
         self.objects.len()
     }

@@ -1,19 +1,20 @@
--- The steps of loops over arguments, and the end of a function's body.
-use Rattle.std.proofs.Common.{ℕ, ◌≡◌, ◌<◌, ◌+◌, ◌++◌, ◌∷◌, [], List, length, drop, get_or, Some, false, refl, sym, ap, Ok}
+-- The steps of loops over arguments, expressions and rows, and the end of a function's body.
+use Rattle.std.proofs.Common.{ℕ, ◌≡◌, ◌<◌, ◌+◌, ◌++◌, ◌∷◌, [], List, length, drop, get_or, Some, false, refl, sym, ap, ◌∙◌, Ok}
 use Rattle.sql_values.specs.declared.value.SqlType.{SqlType}
 use Rattle.sql_values.specs.declared.value.Value.{Value}
 use Rattle.sql_values.specs.Values.{assigned}
 use Rattle.bound_trees.specs.declared.expr.BoundExpr.{BoundExpr}
+use Rattle.bound_trees.specs.declared.statement.BoundRow.{BoundRow}
 use Rattle.row_types.specs.Rows.{Row}
 use Rattle.rel_algebra.specs.Tree.{Expr, Function}
 use Rattle.rel_algebra.specs.World.{World, Frame, Ends, no_self, after, give, outcome, frame_of}
-use Rattle.rel_algebra.specs.Meaning.{ev, ev_args, assigned_first, call}
+use Rattle.rel_algebra.specs.Meaning.{ev, ev_args, ev_all, ev_rows, assigned_first, call}
 use Rattle.catalog_store.specs.Catalog.{Catalog}
-use Rattle.catalog_store.specs.View.{tree_of, exprs_of}
+use Rattle.catalog_store.specs.View.{tree_of, exprs_of, rows_of}
 use Rattle.psm_interp.specs.Content.{Content, world_of}
 use Rattle.psm_interp.specs.Ending.{Ended}
 use Rattle.psm_interp.proofs.Going.{Going, going, goes_on, gives, one_more, outcome_gives}
-use Rattle.psm_interp.proofs.Trees.{args_at}
+use Rattle.psm_interp.proofs.Trees.{rest, args_at}
 
 -- one argument more: its value v was assigned to its parameter as y
 pub args_step : (k : Catalog) (es : List BoundExpr) (types : List SqlType) (i : ℕ) (x : BoundExpr) (rows : List Row) (f : Frame) (old now new : Content) (v y : Value) (vs us : List Value)
@@ -27,6 +28,28 @@ args_step k es types i x rows f old now new v y vs us whole h is g d assigns fro
     (more (world_of new)) (ev_args (exprs_of k (drop i es)) (drop i types) no_self rows f (world_of now)) whole
     (args_at k es types i x rows f (world_of now) h is) g d
     (ap (λ e. after e (λ y w. after (more w) (λ ys. give (y ∷ ys)))) (outcome_gives (assigned_first (drop i types) v) y (world_of new) assigns)) front
+
+-- one expression more: its value is v
+pub all_step : (k : Catalog) (es : List BoundExpr) (i : ℕ) (x : BoundExpr) (rows : List Row) (f : Frame) (old now new : Content) (v : Value) (vs us : List Value) (whole : Ends (List Value)) →
+    i < length es → x ≡ get_or es i x → Going old now (after (ev_all (exprs_of k (drop i es)) no_self rows f (world_of now)) (λ ts. give (vs ++ ts))) whole →
+    Ended now new (Ok v) (ev (tree_of k x) no_self rows f (world_of now)) → us ≡ vs ++ v ∷ [] →
+    Going old new (after (ev_all (exprs_of k (drop (i + 1) es)) no_self rows f (world_of new)) (λ ts. give (us ++ ts))) whole
+all_step k es i x rows f old now new v vs us whole h is g d front =
+    let more : World → Ends (List Value) = λ w. ev_all (exprs_of k (drop (i + 1) es)) no_self rows f w in
+    one_more old now new v (Some v) vs us (ev (tree_of k x) no_self rows f (world_of now)) (λ v w. after (more w) (λ ys. give (v ∷ ys))) (more (world_of new))
+    (ev_all (exprs_of k (drop i es)) no_self rows f (world_of now)) whole (ap (λ (xs : List BoundExpr). ev_all (exprs_of k xs) no_self rows f (world_of now)) (rest es i x h is)) g d refl front
+
+-- one row of VALUES more: its values are v
+pub rows_step : (k : Catalog) (rs : List BoundRow) (i : ℕ) (x : BoundRow) (es : List BoundExpr) (f : Frame) (old now new : Content) (v : Row) (vs us : List Row) (whole : Ends (List Row)) →
+    i < length rs → x ≡ get_or rs i x → es ≡ x.values → Going old now (after (ev_rows (rows_of k (drop i rs)) no_self [] f (world_of now)) (λ ts. give (vs ++ ts))) whole →
+    Ended now new (Ok v) (ev_all (exprs_of k es) no_self [] f (world_of now)) → us ≡ vs ++ v ∷ [] →
+    Going old new (after (ev_rows (rows_of k (drop (i + 1) rs)) no_self [] f (world_of new)) (λ ts. give (us ++ ts))) whole
+rows_step k rs i x es f old now new v vs us whole h is of g d front =
+    let more : World → Ends (List Row) = λ w. ev_rows (rows_of k (drop (i + 1) rs)) no_self [] f w in
+    let go : Row → World → Ends (List Row) = λ v w. after (more w) (λ ys. give (v ∷ ys)) in
+    one_more old now new v (Some v) vs us (ev_all (exprs_of k es) no_self [] f (world_of now)) go (more (world_of new)) (ev_rows (rows_of k (drop i rs)) no_self [] f (world_of now)) whole
+    (ap (λ (xs : List BoundRow). ev_rows (rows_of k xs) no_self [] f (world_of now)) (rest rs i x h is)
+    ∙ ap (λ (xs : List BoundExpr). after (ev_all (exprs_of k xs) no_self [] f (world_of now)) go) (sym of)) g d refl front
 
 -- the value of a body is assigned to the type of the result
 pub body_gives : (tree : Expr) (returns : SqlType) (values : List Value) (frame : Frame) (old new : Content) (v y : Value) → frame ≡ frame_of values →

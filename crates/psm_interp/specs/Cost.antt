@@ -1,6 +1,6 @@
 -- How deep an evaluation can nest: what falls at each call of the interpreter.
 use Rattle.std.specs.Prelude.{ℕ, ◌+◌}
-use Rattle.rel_algebra.specs.Tree.{Expr, Literal, Column, Variable, Negate, Compare, Chain, Call, CallSelf, Links, NoLink, MoreLinks, Exprs, NoExpr, MoreExprs, Routine, Function}
+use Rattle.rel_algebra.specs.Tree.{Expr, Literal, Column, Variable, Negate, Compare, Chain, Operate, And, Or, Case, CaseOf, Coalesce, In, Exists, Single, Call, CallSelf, Links, NoLink, MoreLinks, Exprs, NoExpr, MoreExprs, Routine, Function, Rows, NoRow, MoreRows, From, Table, Derived, Cross, Inner, LeftOuter, Query, Select, Grouped, Values, Ordered}
 
 abbrev mutual
   pub cost : Expr → ℕ
@@ -10,6 +10,15 @@ abbrev mutual
   cost (Negate e) = cost e + 1
   cost (Compare comparison a b) = cost a + cost b + 1
   cost (Chain e links) = cost e + links_cost links + 1
+  cost (Operate operation es) = costs es + 1
+  cost (And es) = costs es + 1
+  cost (Or es) = costs es + 1
+  cost (Case arms) = costs arms + 1
+  cost (CaseOf e test result arms) = cost e + cost test + cost result + costs arms + 1
+  cost (Coalesce es) = costs es + 1
+  cost (In e query) = cost e + query_cost query + 1
+  cost (Exists query) = query_cost query + 1
+  cost (Single query) = query_cost query + 1
   cost (Call name routine args) = costs args + routine_cost routine + 2
   cost (CallSelf parameters args) = costs args + 1
 
@@ -23,3 +32,20 @@ abbrev mutual
 
   pub routine_cost : Routine → ℕ
   routine_cost (Function calls_itself parameters returns e) = cost e + 1
+
+  pub rows_cost : Rows → ℕ
+  rows_cost NoRow = 1
+  rows_cost (MoreRows r rs) = costs r + rows_cost rs + 1
+
+  pub from_cost : From → ℕ
+  from_cost (Table name) = 1
+  from_cost (Derived query) = query_cost query + 1
+  from_cost (Cross a b) = from_cost a + from_cost b + 1
+  from_cost (Inner a b on) = from_cost a + from_cost b + costs on + 1
+  from_cost (LeftOuter a b on) = from_cost a + from_cost b + costs on + 1
+
+  pub query_cost : Query → ℕ
+  query_cost (Select items from conjuncts) = costs items + from_cost from + costs conjuncts + 1
+  query_cost (Grouped from conjuncts k items ags having list) = from_cost from + costs conjuncts + costs items + costs having + costs list + 1
+  query_cost (Values rows) = rows_cost rows + 1
+  query_cost (Ordered query keys) = query_cost query + 1

@@ -1,13 +1,12 @@
 -- The parts of an INSERT.
-use Rattle.std.specs.Prelude.{ℕ, List, [], length, Result, Ok, Err}
+use Rattle.std.specs.Prelude.{ℕ, List, [], Result, Ok, Err}
 use Rattle.std.specs.declared.vec.Vec.{Vec}
 use Rattle.std.specs.declared.alloc.Global.{Global}
 use Rattle.row_types.specs.Rows.{Row}
-use Rattle.row_types.specs.Tables.{table_named}
 use Rattle.rel_algebra.specs.Tree.{Query}
-use Rattle.rel_algebra.specs.World.{World, Eval, ◌>>=◌, give, no_self, no_frame}
+use Rattle.rel_algebra.specs.World.{World, Eval, ◌>>=◌, no_self, no_frame}
 use Rattle.rel_algebra.specs.Meaning.{answer}
-use Rattle.rel_algebra.specs.Writing.{store_in}
+use Rattle.rel_algebra.specs.Writing.{stored}
 use Rattle.sql_conditions.specs.declared.condition.EngineCondition.TheVariants.{ConstraintViolated}
 use Rattle.sql_conditions.specs.Conditions.{area_of}
 use Rattle.atomic_undo.specs.declared.fault.ApplyFault.{ApplyFault}
@@ -20,8 +19,7 @@ use Rattle.psm_interp.specs.Ending.{Tells}
 abbrev pub insert_rows_of : List ℕ → Query → Eval ℕ
 insert_rows_of name query = do
   new ← answer query no_self [] no_frame
-  stored ← (λ w. store_in (table_named name w.tables) name new w)
-  give (length new)
+  stored name new
 
 -- an evaluation that leaves each world as it is ends as the answer says
 abbrev pub TellsAnywhere : {A : Type 0} → Result A Stop → Eval A → Type 0

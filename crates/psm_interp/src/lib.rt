@@ -8,8 +8,6 @@ mod frame;
 mod inserts;
 mod queries;
 mod stop;
-#[cfg(test)]
-mod tests;
 mod units;
 mod values;
 mod world;
@@ -17,7 +15,7 @@ mod world;
 pub use arguments::Arguments;
 pub use expr::eval;
 pub use frame::Frame;
-pub use inserts::run_insert;
+pub use inserts::{run_insert, store_rows};
 pub use queries::run_query;
 pub use stop::Stop;
 pub use world::World;

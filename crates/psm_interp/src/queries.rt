@@ -5,7 +5,7 @@ ghost use Rattle.row_types.specs.Tables.{rows_named};
 ghost use Rattle.rel_algebra.specs.World.{no_self, with_front, each_kept};
 ghost use Rattle.rel_algebra.specs.Meaning.{ev_all, holds as holds_by, ev_rows, answer, ask, record_of as record_by};
 ghost use Rattle.bound_trees.specs.declared.statement.BoundQuery.TheVariants.{Select};
-ghost use Rattle.catalog_store.specs.View.{exprs_of, rows_of, from_of, query_of};
+ghost use Rattle.catalog_store.specs.View.{exprs_of, rows_of, query_of};
 ghost use Rattle.psm_interp.specs.declared.stop.Stop.TheVariants.{NoMemory as WantOfMemory};
 ghost use Rattle.psm_interp.specs.Content.{world_of};
 ghost use Rattle.psm_interp.specs.Ending.{Ended};
@@ -122,7 +122,7 @@ fn records_of(
 
 // The rows of FROM: those of a table in key order.
 fn from_rows(from: &BoundFrom, world: &World) -> Result<FlatRows, NoMemory>
-    ensures { IfOk result (λ rows. rows ≡ from_rows_of (from_of from.now) world.now.memory.tables) }
+    ensures { IfOk result (λ rows. rows ≡ from_rows_of from.now world.now.memory.tables) }
 {
     match from {
         BoundFrom::Table(name) => match world.tables().table(name) {

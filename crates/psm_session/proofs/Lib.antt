@@ -1,6 +1,8 @@
 pub mod Shapes
 pub mod Creating
 pub mod Concluding
+pub mod Widths
+pub mod Answering
 pub mod One
 pub mod Each
 pub mod Laws

@@ -2,6 +2,8 @@ pub mod Database
 pub mod Codes
 pub mod Shapes
 pub mod Effects
+pub mod Tasks
+pub mod Answering
 pub mod Executing
 pub mod Statement
 pub mod Conclusions

@@ -7,7 +7,7 @@ ghost use Rattle.psm_session.specs.Conclusions.{database, IsEffect};
 ghost use Rattle.psm_session.specs.Shapes.{IsWhole};
 
 use crate::create::create;
-use crate::world::{answer, store};
+use crate::world::{Task, do_task};
 use catalog_store::Catalog;
 use reply_text::Reply;
 use sql_names::BoundStmt;
@@ -31,7 +31,7 @@ pub(crate) fn run_bound(
 {
     match stmt {
         BoundStmt::Create(name, object) => create(alloc, name, object, catalog, tables),
-        BoundStmt::Insert(insert) => store(alloc, &insert, catalog, tables),
-        BoundStmt::Query(query) => answer(alloc, &query, catalog, tables),
+        BoundStmt::Insert(insert) => do_task(alloc, Task::Store(&insert), catalog, tables),
+        BoundStmt::Query(query) => do_task(alloc, Task::Answer(&query), catalog, tables),
     }
 }

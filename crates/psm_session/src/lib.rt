@@ -6,6 +6,7 @@ mod create;
 mod database;
 mod effect;
 mod next;
+mod planned;
 mod world;
 
 pub use budget::DEFAULT_BUDGET;

@@ -5,21 +5,30 @@ ghost use Rattle.std.specs.Prelude.{◌≡◌, ◌≤◌, length, IfOk, OnOk, On
 ghost use Rattle.rel_algebra.specs.Meaning.{ask};
 ghost use Rattle.rel_algebra.specs.Writing.{insert as insert_by};
 ghost use Rattle.catalog_store.specs.View.{query_of};
-ghost use Rattle.sql_names.specs.declared.statement.BoundStmt.TheVariants.{Insert, Query};
 ghost use Rattle.reply_text.specs.Texts.{rows_text};
 ghost use Rattle.psm_interp.specs.Content.{world_of as plain_world, IsBackAt};
-ghost use Rattle.psm_session.specs.Effects.{effect, replied, stored_text};
+ghost use Rattle.psm_interp.specs.Ending.{Ended};
+ghost use Rattle.psm_session.specs.Effects.{replied, stored_text};
+ghost use Rattle.psm_session.specs.Shapes.{IsWhole};
+ghost use Rattle.psm_session.specs.Tasks.{task_effect};
 ghost use Rattle.psm_session.specs.Conclusions.{database, IsEffect, IsStopped, KeepsShapes};
 
 use crate::DEFAULT_BUDGET;
+use crate::planned::planned_answer;
 use atomic_undo::Mark;
 use bound_trees::{BoundInsert, BoundQuery};
 use catalog_store::Catalog;
-use psm_interp::{Stop, World, run_insert, run_query};
+use plan_exec::Answer;
+use psm_interp::{Stop, World, run_insert, run_query, store_rows};
+use query_plan::is_planned;
 use reply_text::{Reply, area_reply, done_reply, rows_reply, spent_reply};
+use row_types::{PlanRow, Row, RowList, Steps, copied_row};
 use sql_values::NoMemory;
+use sqlite_items::Items;
 use std::alloc::Global;
+use std::marker::Brand;
 use std::mem::replace;
+use std::sync::ledger::{Blank, Ledger};
 use table_store::Tables;
 
 // A reply, where there was memory for it; else all changes after the mark are taken back.
@@ -58,22 +67,53 @@ fn stop_reply(stop: Stop, mark: Mark, world: &mut World) -> Result<Reply, NoMemo
     }
 }
 
+// Evaluates all rows of an INSERT, and stores them.
+fn insert_in<L: Ledger>(
+    insert: &BoundInsert,
+    world: &mut World,
+    catalog: &Catalog,
+    steps: &mut Steps<L>,
+) -> Result<u64, Stop>
+    requires { IsWhole (database catalog.now world.old.memory) }
+    ensures { Ended world.old world.new result (insert_by insert.now.table (query_of catalog.now insert.now.source) (plain_world world.old)) }
+{
+    if !is_planned(&insert.source, catalog) {
+        return run_insert(&insert.table, &insert.source, world, catalog);
+    }
+    let alloc = world.allocator();
+    match planned_answer(alloc, &insert.source, catalog, world.tables(), steps)? {
+        Answer::Rows(rows) => store_rows(&insert.table, rows, world, steps),
+        Answer::Raised(area) => Err(Stop::Raised(area)),
+    }
+}
+
 // Stores the rows of an INSERT in a world.
-fn store_in(insert: &BoundInsert, world: &mut World, catalog: &Catalog) -> Result<Reply, NoMemory>
+fn store_in<L: Ledger>(
+    insert: &BoundInsert,
+    world: &mut World,
+    catalog: &Catalog,
+    steps: &mut Steps<L>,
+) -> Result<Reply, NoMemory>
+    requires { IsWhole (database catalog.now world.old.memory) }
     ensures ok { IfOk result (λ r. IsEffect (replied stored_text (database catalog.now world.old.memory)
         (insert_by insert.now.table (query_of catalog.now insert.now.source) (plain_world world.old))) r (database catalog.now world.new.memory)) }
     ensures err { OnErr result (world.new.memory.tables ≡ world.old.memory.tables) }
     ensures shapes { KeepsShapes world.old.memory world.new.memory }
 {
     let mark = world.mark();
-    match run_insert(&insert.table, &insert.source, world, catalog) {
+    match insert_in(insert, world, catalog, steps) {
         Ok(count) => conclude(done_reply(world.allocator(), &[], Some(count)), mark, world),
         Err(stop) => stop_reply(stop, mark, world),
     }
 }
 
-// Answers a query in a world.
-fn answer_in(query: &BoundQuery, world: &mut World, catalog: &Catalog) -> Result<Reply, NoMemory>
+// Answers a query, some function of which has no plan, row by row.
+fn answer_by_rows<L: Ledger>(
+    query: &BoundQuery,
+    world: &mut World,
+    catalog: &Catalog,
+    steps: &mut Steps<L>,
+) -> Result<Reply, NoMemory>
     ensures ok { IfOk result (λ r. IsEffect (replied rows_text (database catalog.now world.old.memory)
         (ask (query_of catalog.now query.now) (plain_world world.old))) r (database catalog.now world.new.memory)) }
     ensures err { OnErr result (world.new.memory.tables ≡ world.old.memory.tables) }
@@ -81,41 +121,96 @@ fn answer_in(query: &BoundQuery, world: &mut World, catalog: &Catalog) -> Result
 {
     let mark = world.mark();
     match run_query(query, world, catalog) {
-        Ok(rows) => conclude(rows_reply(world.allocator(), rows.as_slice()), mark, world),
+        Ok(rows) => conclude(listed_reply(world.allocator(), &rows, steps), mark, world),
         Err(stop) => stop_reply(stop, mark, world),
     }
 }
 
-/// Does an INSERT. Without memory no table changes.
-pub(crate) fn store(
+// The reply of a query with these rows.
+fn listed_reply<L: Ledger>(
     alloc: Global,
-    insert: &BoundInsert,
+    rows: &Items<Row>,
+    steps: &mut Steps<L>,
+) -> Result<Reply, NoMemory>
+    ensures { IfOk result (λ r. r ≡ rows_text rows.now) }
+{
+    let mut list = RowList::with_capacity(alloc, rows.len())?;
+    for row in rows.as_slice() {
+        list.push(PlanRow::of_values(copied_row(alloc, row)?))?;
+    }
+    rows_reply(alloc, list, steps)
+}
+
+// Answers a query in a world: where its functions all have plans, by its own plan.
+fn answer_in<L: Ledger>(
+    query: &BoundQuery,
+    world: &mut World,
+    catalog: &Catalog,
+    steps: &mut Steps<L>,
+) -> Result<Reply, NoMemory>
+    requires { IsWhole (database catalog.now world.old.memory) }
+    ensures ok { IfOk result (λ r. IsEffect (replied rows_text (database catalog.now world.old.memory)
+        (ask (query_of catalog.now query.now) (plain_world world.old))) r (database catalog.now world.new.memory)) }
+    ensures err { OnErr result (world.new.memory.tables ≡ world.old.memory.tables) }
+    ensures shapes { KeepsShapes world.old.memory world.new.memory }
+{
+    if !is_planned(query, catalog) {
+        return answer_by_rows(query, world, catalog, steps);
+    }
+    let alloc = world.allocator();
+    match planned_answer(alloc, query, catalog, world.tables(), steps)? {
+        Answer::Rows(rows) => rows_reply(alloc, rows, steps),
+        Answer::Raised(area) => area_reply(alloc, &area),
+    }
+}
+
+/// What is done in a world of tables.
+#[derive(Drop)]
+pub(crate) enum Task<'a> {
+    /// An INSERT.
+    Store(&'a BoundInsert),
+    /// A query.
+    Answer(&'a BoundQuery),
+}
+
+// Does a task in a world of the tables, whose reads of rows are counted by a new ledger.
+fn in_world<L: Ledger>(
+    blank: Blank,
+    alloc: Global,
+    task: Task,
     catalog: &Catalog,
     tables: &mut Tables,
 ) -> Result<Reply, NoMemory>
-    ensures ok { IfOk result (λ r. IsEffect (effect (Insert insert.now) (database catalog.now tables.old)) r (database catalog.now tables.new)) }
+    requires name { blank.name ≡ L.name }
+    requires parts { blank.parts ≡ L.parts }
+    requires some { blank.parts ≡ 1 }
+    requires whole { IsWhole (database catalog.now tables.old) }
+    ensures ok { IfOk result (λ r. IsEffect (task_effect task.entry (database catalog.now tables.old)) r (database catalog.now tables.new)) }
     ensures err { OnErr result (tables.new.tables ≡ tables.old.tables) }
     ensures shapes { KeepsShapes tables.old tables.new }
 {
+    let (book, share) = blank.open();
+    let mut steps = Steps::<L>::new(book, share);
     let mut world = World::new(alloc, replace(tables, Tables::new(alloc)), DEFAULT_BUDGET);
-    let reply = store_in(insert, &mut world, catalog);
+    let reply = match task {
+        Task::Store(insert) => store_in(insert, &mut world, catalog, &mut steps),
+        Task::Answer(query) => answer_in(query, &mut world, catalog, &mut steps),
+    };
     *tables = world.into_tables();
     reply
 }
 
-/// Answers a query. Without memory no table changes.
-pub(crate) fn answer(
+/// Does a task in a world of the tables. Without memory no table changes.
+pub(crate) fn do_task(
     alloc: Global,
-    query: &BoundQuery,
+    task: Task,
     catalog: &Catalog,
     tables: &mut Tables,
 ) -> Result<Reply, NoMemory>
-    ensures ok { IfOk result (λ r. IsEffect (effect (Query query.now) (database catalog.now tables.old)) r (database catalog.now tables.new)) }
+    requires whole { IsWhole (database catalog.now tables.old) }
+    ensures ok { IfOk result (λ r. IsEffect (task_effect task.entry (database catalog.now tables.old)) r (database catalog.now tables.new)) }
     ensures err { OnErr result (tables.new.tables ≡ tables.old.tables) }
     ensures shapes { KeepsShapes tables.old tables.new }
 {
-    let mut world = World::new(alloc, replace(tables, Tables::new(alloc)), DEFAULT_BUDGET);
-    let reply = answer_in(query, &mut world, catalog);
-    *tables = world.into_tables();
-    reply
+    in_world::<Brand>(Blank::new(1), alloc, task, catalog, tables)
 }

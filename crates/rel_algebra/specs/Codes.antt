@@ -13,7 +13,7 @@ use Rattle.sql_values.specs.declared.operators.Operator.{Operator}
 use Rattle.sql_values.specs.declared.operators.Operator.TheVariants.{Add, Subtract, Multiply, Divide}
 use Rattle.sql_values.specs.declared.operators.Comparison.{Comparison}
 use Rattle.sql_values.specs.declared.operators.Comparison.TheVariants.{Equals, NotEquals, LessThan, LessThanOrEquals, GreaterThan, GreaterThanOrEquals}
-use Rattle.rel_algebra.specs.Tree.{Expr, Literal, Column, Variable, Negate, Compare, Chain, Call, CallSelf, Links, NoLink, MoreLinks, Exprs, NoExpr, MoreExprs, Routine, Function}
+use Rattle.rel_algebra.specs.Tree.{Operation, Negation, Arithmetic, Comparing, Opposite, NullTest, TrueTest, FalseTest, AnyOf, Aggregate, Count, Sum, Average, Min, Max, SortKey, Expr, Literal, Column, Variable, Negate, Compare, Chain, Operate, And, Or, Case, CaseOf, Coalesce, In, Exists, Single, Call, CallSelf, Links, NoLink, MoreLinks, Exprs, NoExpr, MoreExprs, Routine, Function, Rows, NoRow, MoreRows, From, Table, Derived, Cross, Inner, LeftOuter, Query, Select, Grouped, Values, Ordered}
 
 -- a code that is read back
 abbrev pub coded_back : {A : Type 0} (code : A → Gv) (from : Gv → A) → ((a : A) → from (code a) ≡ a) → Coded A
@@ -146,11 +146,100 @@ pub bool_back : (b : Bool) → by_number (num (bool_code b)) false true ≡ b
 bool_back false = refl
 bool_back true = refl
 
+abbrev pub operation_code : Operation → Gv
+operation_code Negation = gcons (gnum 0) gnil
+operation_code (Arithmetic operator) = gcons (gnum 1) (operator_code operator)
+operation_code (Comparing comparison) = gcons (gnum 2) (comparison_code comparison)
+operation_code Opposite = gcons (gnum 3) gnil
+operation_code NullTest = gcons (gnum 4) gnil
+operation_code TrueTest = gcons (gnum 5) gnil
+operation_code FalseTest = gcons (gnum 6) gnil
+operation_code AnyOf = gcons (gnum 7) gnil
+
+abbrev pub operation_by : ℕ → ℕ → Operation
+operation_by kind n =
+    if nat_eq kind 0 then Negation else if nat_eq kind 1 then Arithmetic (operator_by n) else if nat_eq kind 2 then Comparing (comparison_by n)
+    else if nat_eq kind 3 then Opposite else if nat_eq kind 4 then NullTest else if nat_eq kind 5 then TrueTest
+    else if nat_eq kind 6 then FalseTest else AnyOf
+
+abbrev pub operation_from : Gv → Operation
+operation_from g = operation_by (num (left g)) (num (right g))
+
+pub operation_back : (o : Operation) → operation_from (operation_code o) ≡ o
+operation_back Negation = refl
+operation_back (Arithmetic operator) = ap Arithmetic (operator_back operator)
+operation_back (Comparing comparison) = ap Comparing (comparison_back comparison)
+operation_back Opposite = refl
+operation_back NullTest = refl
+operation_back TrueTest = refl
+operation_back FalseTest = refl
+operation_back AnyOf = refl
+
+abbrev pub aggregate_code : Aggregate → Gv
+aggregate_code Count = gnum 0
+aggregate_code Sum = gnum 1
+aggregate_code Average = gnum 2
+aggregate_code Min = gnum 3
+aggregate_code Max = gnum 4
+
+abbrev pub aggregate_by : ℕ → Aggregate
+aggregate_by n =
+    if nat_eq n 0 then Count else if nat_eq n 1 then Sum else if nat_eq n 2 then Average else if nat_eq n 3 then Min else Max
+
+pub aggregate_back : (a : Aggregate) → aggregate_by (num (aggregate_code a)) ≡ a
+aggregate_back Count = refl
+aggregate_back Sum = refl
+aggregate_back Average = refl
+aggregate_back Min = refl
+aggregate_back Max = refl
+
+abbrev pub aggregates_code : List Aggregate → Gv
+aggregates_code [] = gnil
+aggregates_code (a ∷ ags) = gcons (aggregate_code a) (aggregates_code ags)
+
+abbrev pub aggregates_from : Gv → List Aggregate
+aggregates_from gnil = []
+aggregates_from (gnum n) = []
+aggregates_from (gcons a ags) = aggregate_by (num a) ∷ aggregates_from ags
+
+pub aggregates_back : (ags : List Aggregate) → aggregates_from (aggregates_code ags) ≡ ags
+aggregates_back [] = refl
+aggregates_back (a ∷ ags) = ap₂ (λ (x : Aggregate) (xs : List Aggregate). x ∷ xs) (aggregate_back a) (aggregates_back ags)
+
+abbrev pub key_code : SortKey → Gv
+key_code key = gcons (gnum key.place) (bool_code key.descending)
+
+abbrev pub key_from : Gv → SortKey
+key_from g = record { place = num (left g); descending = by_number (num (right g)) false true }
+
+pub key_back : (key : SortKey) → key_from (key_code key) ≡ key
+key_back key = ap (λ (b : Bool). record { place = key.place; descending = b }) (bool_back key.descending)
+
+abbrev pub keys_code : List SortKey → Gv
+keys_code [] = gnil
+keys_code (key ∷ keys) = gcons (key_code key) (keys_code keys)
+
+abbrev pub keys_from : Gv → List SortKey
+keys_from gnil = []
+keys_from (gnum n) = []
+keys_from (gcons key keys) = key_from key ∷ keys_from keys
+
+pub keys_back : (keys : List SortKey) → keys_from (keys_code keys) ≡ keys
+keys_back [] = refl
+keys_back (key ∷ keys) = ap₂ (λ (x : SortKey) (xs : List SortKey). x ∷ xs) (key_back key) (keys_back keys)
+
 -- ---- trees
 
 -- a node of a kind, with what it has beside its two parts
 abbrev pub node : ℕ → Gv → Gv → Gv → Gv
 node kind with_it a b = gcons (gcons (gnum kind) with_it) (gcons a b)
+
+-- a FROM, of three parts, and a query, of five
+abbrev pub node₃ : ℕ → Gv → Gv → Gv → Gv → Gv
+node₃ kind with_it a b c = gcons (gcons (gnum kind) with_it) (gcons a (gcons b c))
+
+abbrev pub node₅ : ℕ → Gv → Gv → Gv → Gv → Gv → Gv → Gv
+node₅ kind with_it a b c d e = gcons (gcons (gnum kind) with_it) (gcons a (gcons b (gcons c (gcons d e))))
 
 abbrev mutual
   pub expr_code : Expr → Gv
@@ -162,6 +251,15 @@ abbrev mutual
   expr_code (Chain e ls) = node 5 gnil (expr_code e) (links_code ls)
   expr_code (Call name r es) = node 6 (name_code name) (routine_code r) (exprs_code es)
   expr_code (CallSelf parameters es) = node 7 (types_code parameters) gnil (exprs_code es)
+  expr_code (Operate operation es) = node 8 (operation_code operation) gnil (exprs_code es)
+  expr_code (And es) = node 9 gnil gnil (exprs_code es)
+  expr_code (Or es) = node 10 gnil gnil (exprs_code es)
+  expr_code (Case arms) = node 11 gnil gnil (exprs_code arms)
+  expr_code (CaseOf e test result arms) = node 12 gnil (expr_code e) (gcons (expr_code test) (gcons (expr_code result) (exprs_code arms)))
+  expr_code (Coalesce es) = node 13 gnil gnil (exprs_code es)
+  expr_code (In e query) = node 14 gnil (expr_code e) (query_code query)
+  expr_code (Exists query) = node 15 gnil gnil (query_code query)
+  expr_code (Single query) = node 16 gnil gnil (query_code query)
 
   pub links_code : Links → Gv
   links_code NoLink = gnil
@@ -172,15 +270,54 @@ abbrev mutual
   exprs_code (MoreExprs e es) = gcons (expr_code e) (exprs_code es)
 
   pub routine_code : Routine → Gv
-  routine_code (Function calls_itself parameters returns e) = gcons (gcons (bool_code calls_itself) (gcons (types_code parameters) (type_code returns))) (expr_code e)
+  routine_code (Function calls_itself parameters returns e) = gcons (gcons (bool_code calls_itself)
+      (gcons (types_code parameters) (type_code returns))) (expr_code e)
+
+  pub rows_code : Rows → Gv
+  rows_code NoRow = gnil
+  rows_code (MoreRows es rows) = gcons (exprs_code es) (rows_code rows)
+
+  pub from_code : From → Gv
+  from_code (Table name) = node₃ 0 (name_code name) gnil gnil gnil
+  from_code (Derived query) = node₃ 1 gnil (query_code query) gnil gnil
+  from_code (Cross a b) = node₃ 2 gnil (from_code a) (from_code b) gnil
+  from_code (Inner a b on) = node₃ 3 gnil (from_code a) (from_code b) (exprs_code on)
+  from_code (LeftOuter a b on) = node₃ 4 gnil (from_code a) (from_code b) (exprs_code on)
+
+  pub query_code : Query → Gv
+  query_code (Select items from conjuncts) = node₅ 0 gnil (exprs_code items) (from_code from) (exprs_code conjuncts) gnil gnil
+  query_code (Grouped from conjuncts k items ags having list) =
+      node₅ 1 (gcons (gnum k) (aggregates_code ags)) (exprs_code items) (from_code from) (exprs_code conjuncts) (exprs_code having) (exprs_code list)
+  query_code (Values rows) = node₅ 2 gnil (rows_code rows) gnil gnil gnil gnil
+  query_code (Ordered query keys) = node₅ 3 (keys_code keys) gnil (query_code query) gnil gnil gnil
+
+-- an operand, and a list that begins with the first comparison and its result
+abbrev pub case_of : Expr → Exprs → Expr
+case_of e (MoreExprs test (MoreExprs result arms)) = CaseOf e test result arms
+case_of e _ = e
 
 -- an expression by its kind, what it has beside trees, and what its parts are, read in each way
-abbrev pub expr_by : ℕ → Gv → Expr → Routine → Expr → Links → Exprs → Expr
-expr_by kind with_it a routine b ls es =
+abbrev pub expr_by : ℕ → Gv → Expr → Routine → Expr → Links → Exprs → Query → Expr
+expr_by kind with_it a routine b ls es query =
     if nat_eq kind 0 then Literal (value_from with_it) else if nat_eq kind 1 then Column (num (left with_it)) (num (right with_it))
     else if nat_eq kind 2 then Variable (num with_it) else if nat_eq kind 3 then Negate a
     else if nat_eq kind 4 then Compare (comparison_by (num with_it)) a b else if nat_eq kind 5 then Chain a ls
-    else if nat_eq kind 6 then Call (name_from with_it) routine es else CallSelf (types_from with_it) es
+    else if nat_eq kind 6 then Call (name_from with_it) routine es else if nat_eq kind 7 then CallSelf (types_from with_it) es
+    else if nat_eq kind 8 then Operate (operation_from with_it) es else if nat_eq kind 9 then And es
+    else if nat_eq kind 10 then Or es else if nat_eq kind 11 then Case es
+    else if nat_eq kind 12 then case_of a es else if nat_eq kind 13 then Coalesce es
+    else if nat_eq kind 14 then In a query else if nat_eq kind 15 then Exists query else Single query
+
+abbrev pub from_by : ℕ → Gv → Query → From → From → Exprs → From
+from_by kind with_it query a b on =
+    if nat_eq kind 0 then Table (name_from with_it) else if nat_eq kind 1 then Derived query else if nat_eq kind 2 then Cross a b
+    else if nat_eq kind 3 then Inner a b on else LeftOuter a b on
+
+abbrev pub query_by : ℕ → Gv → Exprs → Rows → From → Query → Exprs → Exprs → Exprs → Query
+query_by kind with_it items rows from query conjuncts having list =
+    if nat_eq kind 0 then Select items from conjuncts
+    else if nat_eq kind 1 then Grouped from conjuncts (num (left with_it)) items (aggregates_from (right with_it)) having list
+    else if nat_eq kind 2 then Values rows else Ordered query (keys_from with_it)
 
 abbrev mutual
   pub expr_from : Gv → Expr
@@ -188,7 +325,8 @@ abbrev mutual
   expr_from (gnum n) = Literal Null
   expr_from (gcons label gnil) = Literal Null
   expr_from (gcons label (gnum n)) = Literal Null
-  expr_from (gcons label (gcons a b)) = expr_by (num (left label)) (right label) (expr_from a) (routine_from a) (expr_from b) (links_from b) (exprs_from b)
+  expr_from (gcons label (gcons a b)) =
+      expr_by (num (left label)) (right label) (expr_from a) (routine_from a) (expr_from b) (links_from b) (exprs_from b) (query_from b)
 
   pub links_from : Gv → Links
   links_from gnil = NoLink
@@ -205,7 +343,22 @@ abbrev mutual
   pub routine_from : Gv → Routine
   routine_from gnil = Function false [] Integer (Literal Null)
   routine_from (gnum n) = Function false [] Integer (Literal Null)
-  routine_from (gcons head e) = Function (by_number (num (left head)) false true) (types_from (left (right head))) (type_from (right (right head))) (expr_from e)
+  routine_from (gcons head e) = Function (by_number (num (left head)) false true) (types_from (left (right head))) (type_from (right (right head)))
+      (expr_from e)
+
+  pub rows_from : Gv → Rows
+  rows_from gnil = NoRow
+  rows_from (gnum n) = NoRow
+  rows_from (gcons es rest) = MoreRows (exprs_from es) (rows_from rest)
+
+  pub from_from : Gv → From
+  from_from (gcons label (gcons a (gcons b c))) = from_by (num (left label)) (right label) (query_from a) (from_from a) (from_from b) (exprs_from c)
+  from_from _ = Table []
+
+  pub query_from : Gv → Query
+  query_from (gcons label (gcons a (gcons b (gcons c (gcons d e))))) =
+      query_by (num (left label)) (right label) (exprs_from a) (rows_from a) (from_from b) (query_from b) (exprs_from c) (exprs_from d) (exprs_from e)
+  query_from _ = Values NoRow
 
 mutual
   pub expr_back : (e : Expr) → expr_from (expr_code e) ≡ e
@@ -217,6 +370,15 @@ mutual
   expr_back (Chain e ls) = λ i. Chain (expr_back e i) (links_back ls i)
   expr_back (Call name r es) = λ i. Call (name_back name i) (routine_back r i) (exprs_back es i)
   expr_back (CallSelf parameters es) = λ i. CallSelf (types_back parameters i) (exprs_back es i)
+  expr_back (Operate operation es) = λ i. Operate (operation_back operation i) (exprs_back es i)
+  expr_back (And es) = ap And (exprs_back es)
+  expr_back (Or es) = ap Or (exprs_back es)
+  expr_back (Case arms) = ap Case (exprs_back arms)
+  expr_back (CaseOf e test result arms) = λ i. CaseOf (expr_back e i) (expr_back test i) (expr_back result i) (exprs_back arms i)
+  expr_back (Coalesce es) = ap Coalesce (exprs_back es)
+  expr_back (In e query) = λ i. In (expr_back e i) (query_back query i)
+  expr_back (Exists query) = ap Exists (query_back query)
+  expr_back (Single query) = ap Single (query_back query)
 
   pub links_back : (ls : Links) → links_from (links_code ls) ≡ ls
   links_back NoLink = refl
@@ -229,6 +391,25 @@ mutual
   pub routine_back : (r : Routine) → routine_from (routine_code r) ≡ r
   routine_back (Function calls_itself parameters returns e) =
       λ i. Function (bool_back calls_itself i) (types_back parameters i) (type_back returns i) (expr_back e i)
+
+  pub rows_back : (rows : Rows) → rows_from (rows_code rows) ≡ rows
+  rows_back NoRow = refl
+  rows_back (MoreRows es rows) = λ i. MoreRows (exprs_back es i) (rows_back rows i)
+
+  pub from_back : (from : From) → from_from (from_code from) ≡ from
+  from_back (Table name) = ap Table (name_back name)
+  from_back (Derived query) = ap Derived (query_back query)
+  from_back (Cross a b) = λ i. Cross (from_back a i) (from_back b i)
+  from_back (Inner a b on) = λ i. Inner (from_back a i) (from_back b i) (exprs_back on i)
+  from_back (LeftOuter a b on) = λ i. LeftOuter (from_back a i) (from_back b i) (exprs_back on i)
+
+  pub query_back : (query : Query) → query_from (query_code query) ≡ query
+  query_back (Select items from conjuncts) = λ i. Select (exprs_back items i) (from_back from i) (exprs_back conjuncts i)
+  query_back (Grouped from conjuncts k items ags having list) =
+      λ i. Grouped (from_back from i) (exprs_back conjuncts i) k (exprs_back items i) (aggregates_back ags i) (exprs_back having i)
+      (exprs_back list i)
+  query_back (Values rows) = ap Values (rows_back rows)
+  query_back (Ordered query keys) = λ i. Ordered (query_back query i) (keys_back keys i)
 
 -- a function's tree is told apart by its code
 abbrev pub coded_routine : Coded Routine

@@ -1,9 +1,37 @@
 -- Plain trees: statements with their names resolved. A call holds the tree of the function that it calls.
-use Rattle.std.specs.Prelude.{ℕ, Bool, List}
+use Rattle.std.specs.Prelude.{ℕ, suc, Bool, List}
 use Rattle.sql_values.specs.declared.value.Value.{Value}
 use Rattle.sql_values.specs.declared.value.SqlType.{SqlType}
 use Rattle.sql_values.specs.declared.operators.Operator.{Operator}
 use Rattle.sql_values.specs.declared.operators.Comparison.{Comparison}
+
+-- The operations that take all their operands, from left to right. ISO/IEC 9075-2, 6.27, 8.2, 8.4, 8.8 and 6.39.
+pub data Operation : Type 0 where
+  -- the number with the other sign
+  Negation : Operation
+  Arithmetic : Operator → Operation
+  Comparing : Comparison → Operation
+  -- NOT
+  Opposite : Operation
+  -- IS NULL, IS TRUE, IS FALSE
+  NullTest : Operation
+  TrueTest : Operation
+  FalseTest : Operation
+  -- the first among the others: x IN (a, b)
+  AnyOf : Operation
+
+-- ISO/IEC 9075-2, 10.9 (aggregate function). COUNT of all rows is that of a column of TRUE.
+pub data Aggregate : Type 0 where
+  Count : Aggregate
+  Sum : Aggregate
+  Average : Aggregate
+  Min : Aggregate
+  Max : Aggregate
+
+-- a column of ORDER BY, and whether it is descending
+pub record SortKey : Type 0 where
+  pub place : ℕ
+  pub descending : Bool
 
 mutual
   pub data Expr : Type 0 where
@@ -17,6 +45,20 @@ mutual
     Compare : Comparison → Expr → Expr → Expr
     -- a chain of operators, read from the left
     Chain : Expr → Links → Expr
+    Operate : Operation → Exprs → Expr
+    -- chains of AND and of OR
+    And : Exprs → Expr
+    Or : Exprs → Expr
+    -- tests and results in turn, and perhaps a last result
+    Case : Exprs → Expr
+    -- an operand, what it is compared with first and that result, and so on
+    CaseOf : Expr → Expr → Expr → Exprs → Expr
+    Coalesce : Exprs → Expr
+    -- x IN a query
+    In : Expr → Query → Expr
+    Exists : Query → Expr
+    -- a scalar subquery
+    Single : Query → Expr
     -- a call: the function's name, of which the meaning knows nothing, its tree, and the arguments
     Call : List ℕ → Routine → Exprs → Expr
     -- a call of the function in which it stands, with the types of its parameters
@@ -42,12 +84,27 @@ mutual
   -- what stands behind FROM
   pub data From : Type 0 where
     Table : List ℕ → From
+    -- a derived table
+    Derived : Query → From
+    Cross : From → From → From
+    -- joins with the conjuncts of ON, which see the pair as their row
+    Inner : From → From → Exprs → From
+    LeftOuter : From → From → Exprs → From
 
   pub data Query : Type 0 where
     -- the select list, FROM, and the top conjuncts of WHERE
     Select : Exprs → From → Exprs → Query
+    -- FROM, the conjuncts of WHERE, how many grouping columns, these and then the arguments of the aggregates, the aggregates, the conjuncts of
+    -- HAVING and the list. Both of these see the row of a group: its grouping columns, and then its finished aggregates.
+    Grouped : From → Exprs → ℕ → Exprs → List Aggregate → Exprs → Exprs → Query
     Values : Rows → Query
+    Ordered : Query → List SortKey → Query
 
 -- the types of a function's parameters
 abbrev pub parameters_of : Routine → List SqlType
 parameters_of (Function calls_itself parameters returns e) = parameters
+
+-- how many expressions there are
+abbrev pub count : Exprs → ℕ
+count NoExpr = 0
+count (MoreExprs e es) = suc (count es)

@@ -1,5 +1,5 @@
 -- Worlds, frames, and how evaluations end. ISO/IEC 9075-4, 4.8 (conditions), and 9075-2, 10.4 (routine invocation).
-use Rattle.std.specs.Prelude.{ℕ, zero, suc, ◌+◌, ◌-◌, Bool, true, false, List, [], ◌∷◌, Option, Some, None, Ok, Err, slice_index_or, if◌then◌else◌}
+use Rattle.std.specs.Prelude.{ℕ, zero, suc, ◌+◌, ◌-◌, Bool, true, false, List, [], ◌∷◌, ◌++◌, Option, Some, None, Ok, Err, slice_index_or, if◌then◌else◌}
 use Rattle.sql_values.specs.declared.value.Value.{Value}
 use Rattle.sql_values.specs.declared.value.Value.TheVariants.{Null}
 use Rattle.sql_values.specs.declared.value.ValueFault.{ValueFault}
@@ -107,6 +107,27 @@ each_kept f (x ∷ xs) = do
   y ← f x
   ys ← each_kept f xs
   give (with_front y ys)
+
+-- each in turn, all that they give in one list
+abbrev pub each_listed : {A B : Type 0} → (A → Eval (List B)) → List A → Eval (List B)
+each_listed f [] = give []
+each_listed f (x ∷ xs) = do
+  ys ← f x
+  zs ← each_listed f xs
+  give (ys ++ zs)
+
+-- the record of a row that is kept
+abbrev pub kept : {A : Type 0} → Bool → Eval A → Eval (Option A)
+kept false list = give None
+kept true list = do
+  values ← list
+  give (Some values)
+
+-- a record, where the tests are true
+abbrev pub tested : {A : Type 0} → Eval Bool → Eval A → Eval (Option A)
+tested tests list = do
+  keep ← tests
+  kept keep list
 
 -- one turn, where one is left
 abbrev pub turn_of : ℕ → World → Ends (Unit {0})

@@ -36,9 +36,14 @@ store_in (Some t) name new = do
   rows ← each (row_for t) new
   keep_rows (inserted t rows) name
 
--- All rows are evaluated, and then stored; it gives how many there are.
+-- New rows in the table of a name; it gives how many they are.
+abbrev pub stored : List ℕ → List Row → Eval ℕ
+stored name new = do
+  done ← (λ w. store_in (table_named name w.tables) name new w)
+  give (length new)
+
+-- All rows are evaluated, and then stored.
 abbrev pub insert : List ℕ → Query → Eval ℕ
 insert name query = unit (do
   new ← answer query no_self [] no_frame
-  stored ← (λ w. store_in (table_named name w.tables) name new w)
-  give (length new))
+  stored name new)

@@ -1,15 +1,17 @@
 //! Replies, and those of statements that raise nothing.
 
-ghost use Rattle.std.specs.Prelude.{◌≡◌, ◌++◌, IfOk, OnOk};
+ghost use Rattle.std.specs.Prelude.{◌≡◌, ◌≤◌, ◌+◌, [], ◌++◌, length, IfOk, OnOk};
 ghost use Rattle.std.specs.List.{flat_map};
+ghost use Rattle.row_types.specs.Cells.{row_end, with_values, value_rows};
 ghost use Rattle.reply_text.specs.Texts.{record_text, count_text, rows_text, values_text, end_text, done_text};
 
 use crate::put::{put, put_count};
 use crate::record::put_record;
+use row_types::{PlanRow, RowEnd, RowList, Steps};
 use sql_values::{NoMemory, Value};
-use sqlite_items::Items;
 use std::alloc::Global;
 use std::marker::Model;
+use std::sync::ledger::Ledger;
 
 /// What a statement replies. Contracts see its bytes.
 #[derive(Debug, Drop)]
@@ -53,22 +55,50 @@ fn put_total(text: &mut Vec<u8>, count: u64) -> Result<(), NoMemory>
     put(text, b"\n")
 }
 
-fn put_records(text: &mut Vec<u8>, rows: &[Items<Value>]) -> Result<(), NoMemory>
-    ensures { OnOk result (text.new.items ≡ text.old.items ++ flat_map record_text rows.now) }
+// Writes the record of a row that has values.
+fn put_row(text: &mut Vec<u8>, alloc: Global, row: PlanRow) -> Result<(), NoMemory>
+    ensures { OnOk result (text.new.items ≡ text.old.items ++ flat_map record_text (with_values (row_end row) [])) }
 {
-    for row in rows {
-        put_record(text, row.as_slice())?;
+    match row.into_end(alloc)? {
+        RowEnd::Values(values) => put_record(text, values.as_slice()),
+        RowEnd::Raised(_) => Ok(()),
+    }
+}
+
+// Writes a record for each row.
+fn put_records<L: Ledger>(
+    text: &mut Vec<u8>,
+    alloc: Global,
+    rows: RowList,
+    steps: &mut Steps<L>,
+) -> Result<(), NoMemory>
+    ensures text { OnOk result (text.new.items ≡ text.old.items ++ flat_map record_text (value_rows rows)) }
+    ensures steps { steps.new ≤ steps.old + length rows }
+{
+    let mut rows = rows;
+    while rows.len() > 0 {
+        if let Some(row) = rows.take_first(steps) {
+            put_row(text, alloc, row)?;
+        }
     }
     Ok(())
 }
 
-/// The reply of a query: a record for each row, and how many there are.
-pub fn rows_reply(alloc: Global, rows: &[Items<Value>]) -> Result<Reply, NoMemory>
-    ensures { IfOk result (λ r. r ≡ rows_text rows.now) }
+/// The reply of a query whose rows all have values: a record for each of them, and how many there
+/// are. Each row is read in a step.
+pub fn rows_reply<L: Ledger>(
+    alloc: Global,
+    rows: RowList,
+    steps: &mut Steps<L>,
+) -> Result<Reply, NoMemory>
+    requires { length (value_rows rows) ≡ length rows }
+    ensures reply { IfOk result (λ r. r ≡ rows_text (value_rows rows)) }
+    ensures steps { steps.new ≤ steps.old + length rows }
 {
     let mut text = Vec::new(alloc);
-    put_records(&mut text, rows)?;
-    put_total(&mut text, rows.len() as u64)?;
+    let total = rows.len() as u64;
+    put_records(&mut text, alloc, rows, steps)?;
+    put_total(&mut text, total)?;
     Ok(Reply::of(text))
 }
 

@@ -5,3 +5,6 @@ pub mod Comparing
 pub mod Fitting
 pub mod Naming
 pub mod Laws
+pub mod Sight
+pub mod Moves
+pub mod Ends

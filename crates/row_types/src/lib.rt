@@ -4,14 +4,26 @@
 ghost use Rattle.std.specs.Prelude.{◌≡◌, IfOk};
 ghost use Rattle.row_types.specs.Rows.{fits as fits_by};
 
+mod cell;
+mod gather;
 mod key;
+#[cfg(test)]
+mod list_tests;
 mod order;
+mod plan_row;
 mod row;
+mod row_in_sight;
+mod row_list;
 mod steps;
 
+pub use cell::{Cell, copied_area, copied_cell};
+pub use gather::gathered;
 pub use key::Key;
 pub use order::{order_by_key, order_of, order_to_key};
+pub use plan_row::{PlanRow, RowEnd, first_area_in};
 pub use row::{Row, copied_row, copied_value, fits};
+pub use row_in_sight::{Outer, RowInSight, outer_cell};
+pub use row_list::RowList;
 use sql_values::{Name, NoMemory, SqlType};
 use sqlite_items::Items;
 use std::alloc::Global;

@@ -44,6 +44,18 @@ impl Area {
         self.conditions.as_slice()
     }
 
+    /// The same area once more.
+    pub fn copied(&self) -> Area
+        ensures { result ≡ self.now }
+    {
+        let mut conditions = ArrayVec::new();
+        let held = self.conditions.as_slice();
+        for condition in held {
+            conditions.push(condition.copied());
+        }
+        Area { conditions }
+    }
+
     /// Puts a condition first. Where there were four, the oldest goes.
     pub fn push_front(&mut self, condition: Condition)
         ensures { self.new ≡ pushed condition self.old }

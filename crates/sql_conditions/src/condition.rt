@@ -17,6 +17,8 @@ pub enum EngineCondition {
     ConstraintViolated,
     /// A routine that calls itself is active too often.
     RecursionTooDeep,
+    /// A query that is to give one row gives several.
+    SeveralRows,
 }
 
 impl EngineCondition {
@@ -29,6 +31,7 @@ impl EngineCondition {
             EngineCondition::DivisionByZero => "22012",
             EngineCondition::ConstraintViolated => "23000",
             EngineCondition::RecursionTooDeep => "PS002",
+            EngineCondition::SeveralRows => "21000",
         }
     }
 
@@ -41,6 +44,7 @@ impl EngineCondition {
             EngineCondition::DivisionByZero => "division by zero",
             EngineCondition::ConstraintViolated => "constraint violated",
             EngineCondition::RecursionTooDeep => "recursion too deep",
+            EngineCondition::SeveralRows => "more than one row",
         }
     }
 }
@@ -65,6 +69,15 @@ impl Condition {
         ensures { result ≡ own engine }
     {
         Condition { engine }
+    }
+
+    /// The same condition once more.
+    pub fn copied(&self) -> Condition
+        ensures { result ≡ self.now }
+    {
+        Condition {
+            engine: self.engine,
+        }
     }
 
     /// The SQLSTATE.

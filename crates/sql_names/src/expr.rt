@@ -183,7 +183,7 @@ pub(crate) fn bind_exprs(
     ensures value { IfOk result (λ es. es ≡ (judge_all exprs.now (seen_by sight.now)).value) }
     ensures notes { OnOk result (notes.new ≡ taken notes.old (judge_all exprs.now (seen_by sight.now))) }
 {
-    let mut found = Items::new(alloc);
+    let mut found = Items::from_vec(Vec::with_capacity(alloc, exprs.len())?);
     for expr in exprs {
         let bound = bind_expr(alloc, expr, sight, notes)?;
         found.push(bound)?;
@@ -201,7 +201,7 @@ fn bind_links(
     ensures value { IfOk result (λ ls. ls ≡ (judge_links links.now (seen_by sight.now)).value) }
     ensures notes { OnOk result (notes.new ≡ taken notes.old (judge_links links.now (seen_by sight.now))) }
 {
-    let mut found = Items::new(alloc);
+    let mut found = Items::from_vec(Vec::with_capacity(alloc, links.len())?);
     for link in links {
         let operand = bind_expr(alloc, &link.operand, sight, notes)?;
         let operator = link.operator;

@@ -59,7 +59,7 @@ fn bind_rows(
     ensures value { IfOk result (λ rs. rs ≡ (judged_rows at width (seen_by sight.now) rows.now).value) }
     ensures notes { OnOk result (notes.new ≡ taken notes.old (judged_rows at width (seen_by sight.now) rows.now)) }
 {
-    let mut found = Items::new(alloc);
+    let mut found = Items::from_vec(Vec::with_capacity(alloc, rows.len())?);
     for row in rows {
         let bound = bind_row(alloc, row, at, width, sight, notes)?;
         found.push(bound)?;

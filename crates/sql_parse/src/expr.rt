@@ -23,7 +23,7 @@ pub(crate) fn with_first<T: Drop>(
 ) -> Result<Items<T>, AllocError>
     ensures { IfOk result (λ all. all ≡ first ∷ more) }
 {
-    let mut all = Items::new(alloc);
+    let mut all = Items::from_vec(Vec::with_capacity(alloc, more.len().saturating_add(1))?);
     all.push(first)?;
     all.append(more)?;
     Ok(all)

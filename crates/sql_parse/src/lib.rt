@@ -9,8 +9,6 @@ mod parse;
 mod place;
 mod query;
 mod statement;
-#[cfg(test)]
-mod tests;
 mod values;
 
 pub use parse::{parse_ddl, parse_dml, parse_query, parse_statement};

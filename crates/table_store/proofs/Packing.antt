@@ -321,6 +321,31 @@ module _ (bs : List (List Row)) (k off : ℕ) (b : List Row) (l : k < length bs)
       let q = subst Packed (split_here bs k b l e) (packed_from bs k p) in
       packed-other bs k (insert b off row) l f (Packed-more b (insert b off row) (drop (k + 1) bs) (length-insert b off row w) s (not_full b (drop (k + 1) bs) q s))
 
+  -- the block in which the place behind all rows is
+  count_all : length (joined bs) ≡ length (joined (take k bs)) + (length b + length (joined (drop (k + 1) bs)))
+  count_all =
+      ap (λ (xs : List Row). length xs) parts ∙ length-append (joined (take k bs)) (b ++ joined (drop (k + 1) bs)) ∙ ap (λ n. length (joined (take k bs)) + n) (length-append b (joined (drop (k + 1) bs)))
+
+  pub has_room : length (joined bs) < 1024 * k + 1024 → length b < 1024
+  has_room w = let first = start in let all = count_all in omega arith
+
+  none_behind : Packed bs → length (joined bs) < 1024 * k + 1024 → joined (drop (k + 1) bs) ≡ []
+  none_behind p w = not_full b (drop (k + 1) bs) (subst Packed (split_here bs k b l e) (packed_from bs k p)) (has_room w)
+
+  pub pushed : (row : Row) → Packed bs → length (joined bs) < 1024 * k + 1024 → joined (set bs k (b ++ row ∷ [])) ≡ joined bs ++ row ∷ []
+  pushed row p w =
+      let front = joined (take k bs) in
+      let none = none_behind p w in
+      joined-other bs k (b ++ row ∷ []) l
+      ∙ ap (λ (xs : List Row). front ++ ((b ++ row ∷ []) ++ xs)) none
+      ∙ ap (λ (xs : List Row). front ++ xs) (append-nil (b ++ row ∷ []))
+      ∙ sym (append_assoc front b (row ∷ []))
+      ∙ ap (λ (xs : List Row). xs ++ row ∷ []) (sym (parts ∙ ap (λ (xs : List Row). front ++ (b ++ xs)) none ∙ ap (λ (xs : List Row). front ++ xs) (append-nil b)))
+
+  pub packed_pushed : (row : Row) → Packed bs → length (joined bs) < 1024 * k + 1024 → Packed (set bs k (b ++ row ∷ []))
+  packed_pushed row p w =
+      packed-other bs k (b ++ row ∷ []) l f (Packed-more b (b ++ row ∷ []) (drop (k + 1) bs) (length-append b (row ∷ [])) (has_room w) (none_behind p w))
+
   same_size : (c : List Row) (ds : List (List Row)) → length c ≡ length b → Packed (b ∷ ds) → Packed (c ∷ ds)
   same_size c ds n (inl p) = inl ((let h = p.0 in omega arith), p.1)
   same_size c ds n (inr p) = inr ((let h = p.0 in omega arith), p.1)

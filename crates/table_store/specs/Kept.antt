@@ -1,6 +1,6 @@
 -- A table beside the number of rows that it has memory for, and which edits it takes.
 -- ISO/IEC 9075-2, 4.14 (tables).
-use Rattle.std.specs.Prelude.{ℕ, ◌≤◌, ◌<◌, List, length, slice_set, IsTrue}
+use Rattle.std.specs.Prelude.{ℕ, ◌+◌, ◌≤◌, ◌<◌, List, ◌++◌, length, slice_set, IsTrue}
 use Rattle.std.specs.List.{insert}
 use Rattle.row_types.specs.Rows.{Row, well_kept}
 use Rattle.row_types.specs.Tables.{Table, with_rows}
@@ -24,6 +24,11 @@ pub record CanInsert (k : Kept) (at : ℕ) (row : Row) : Type 0 where
   pub place : at ≤ length k.table.rows
   pub room : length k.table.rows < k.capacity
   pub kept : IsTrue (well_kept k.table.columns k.table.key (insert k.table.rows at row))
+
+-- rows may stand behind the others: there is memory, each fits, and all stand in key order
+pub record CanAppend (k : Kept) (more : List Row) : Type 0 where
+  pub room : length k.table.rows + length more ≤ k.capacity
+  pub kept : IsTrue (well_kept k.table.columns k.table.key (k.table.rows ++ more))
 
 -- a row may take the place of another: it fits, and it keeps the key order
 pub record CanReplace (k : Kept) (at : ℕ) (row : Row) : Type 0 where

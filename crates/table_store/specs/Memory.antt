@@ -1,6 +1,7 @@
 -- All tables beside the numbers of rows that they have memory for. ISO/IEC 9075-2, 4.14 (tables).
-use Rattle.std.specs.Prelude.{ℕ, ◌≤◌, List, [], ◌∷◌, ◌++◌, map, slice_index, Option, Some, None}
-use Rattle.std.specs.List.{remove}
+use Rattle.std.specs.Prelude.{ℕ, ◌≤◌, List, [], ◌∷◌, ◌++◌, map, slice_index, Option, Some, None, IsTrue}
+use Rattle.std.specs.List.{remove, AllByRecursion}
+use Rattle.row_types.specs.Rows.{well_kept}
 use Rattle.row_types.specs.Tables.{Table, Tables, Stored, table_at}
 use Rattle.table_store.specs.Kept.{Kept}
 
@@ -41,3 +42,7 @@ table_of k = k.table
 -- no number has fallen
 abbrev pub NoLess : List ℕ → List ℕ → Type 0
 NoLess ms ns = (at : ℕ) → slice_index ms at ≤ slice_index ns at
+
+-- each row of each table fits, and their keys rise
+abbrev pub AllWellKept : Tables → Type 0
+AllWellKept ts = AllByRecursion (λ (s : Stored). IsTrue (well_kept s.table.columns s.table.key s.table.rows)) ts

@@ -75,6 +75,19 @@ pub fn insert_in(blocks: &mut Vec<Block>, at: usize, off: usize, row: Row)
     }
 }
 
+// Puts a row behind all others, in the block in which its place is.
+pub fn push_in(blocks: &mut Vec<Block>, at: usize, row: Row)
+    requires packed { Packed blocks.old.items }
+    requires start { 1024 * at ≤ length (joined blocks.old.items) }
+    requires end { length (joined blocks.old.items) < 1024 * at + 1024 }
+    requires room { length (joined blocks.old.items) < 1024 * length blocks.old.items }
+    ensures rows { joined blocks.new.items ≡ joined blocks.old.items ++ row ∷ [] }
+    ensures packed { Packed blocks.new.items }
+    ensures len { length blocks.new.items ≡ length blocks.old.items }
+{
+    blocks[at].push_back(row);
+}
+
 // Takes a row out at a place of a block, and fills its place from the blocks behind.
 pub fn remove_in(blocks: &mut Vec<Block>, at: usize, off: usize) -> Row
     requires packed { Packed blocks.old.items }

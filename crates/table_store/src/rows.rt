@@ -2,14 +2,15 @@
 //! the last that has rows. So an insert or a removal moves at most half the rows of a block and one
 //! row of each block behind it, and a place is found by a division.
 
-ghost use Rattle.std.specs.Prelude.{◌≡◌, ◌<◌, ◌≤◌, ◌+◌, ◌-◌, ◌^◌, [], length, slice_index_or, slice_set, OnOk};
+ghost use Rattle.std.specs.Prelude.{◌≡◌, ◌<◌, ◌≤◌, ◌+◌, ◌-◌, ◌^◌, [], ◌∷◌, ◌++◌, length, slice_index_or, slice_set, OnOk};
 ghost use Rattle.std.specs.List.{insert, remove};
 
 use crate::block::Block;
-use crate::blocks::{insert_in, remove_in, replace_in, row_in};
+use crate::blocks::{insert_in, push_in, remove_in, replace_in, row_in};
 use row_types::Row;
 use sql_values::NoMemory;
 use std::alloc::Global;
+use std::collections::VecDeque;
 use std::marker::Model;
 
 // More blocks than these are not made.
@@ -66,6 +67,27 @@ impl Rows {
     {
         insert_in(&mut self.blocks, at / 1024, at % 1024, row);
         self.count += 1;
+    }
+
+    // One row more, behind the others.
+    fn push(&mut self, row: Row)
+        requires { length self.old.rows < self.old.capacity }
+        ensures rows { self.new.rows ≡ self.old.rows ++ row ∷ [] }
+        ensures capacity { self.new.capacity ≡ self.old.capacity }
+    {
+        push_in(&mut self.blocks, self.count / 1024, row);
+        self.count += 1;
+    }
+
+    pub fn append(&mut self, more: Vec<Row>)
+        requires { length self.old.rows + length more.items ≤ self.old.capacity }
+        ensures rows { self.new.rows ≡ self.old.rows ++ more.items }
+        ensures capacity { self.new.capacity ≡ self.old.capacity }
+    {
+        let mut rest = VecDeque::from_vec(more);
+        while let Some(row) = rest.pop_front() {
+            self.push(row);
+        }
     }
 
     pub fn remove_at(&mut self, at: usize) -> Row

@@ -1,12 +1,12 @@
 //! One table.
 
-ghost use Rattle.std.specs.Prelude.{◌≡◌, ◌<◌, ◌≤◌, ◌+◌, ◌-◌, ◌^◌, [], length, slice_index_or, slice_set, OnOk, IsTrue};
+ghost use Rattle.std.specs.Prelude.{◌≡◌, ◌<◌, ◌≤◌, ◌+◌, ◌-◌, ◌^◌, [], ◌++◌, length, take, slice_index_or, slice_set, OnOk, IsTrue};
 ghost use Rattle.std.specs.List.{insert, remove};
 ghost use Rattle.std.specs.Ordering.{is_eq};
 ghost use Rattle.row_types.specs.Ordered.{searched};
 ghost use Rattle.row_types.specs.Rows.{by_key, to_key, has_key_columns};
 ghost use Rattle.row_types.specs.Tables.{with_rows};
-ghost use Rattle.table_store.specs.Kept.{IsKept, CanInsert, CanReplace};
+ghost use Rattle.table_store.specs.Kept.{IsKept, CanInsert, CanAppend, CanReplace};
 
 use crate::rows::Rows;
 use crate::search::{find, place_of};
@@ -129,6 +129,15 @@ impl Table {
         self.stored.insert_at(at, row);
     }
 
+    /// Puts rows behind the others, with which they stand in key order. There is memory for them.
+    pub fn append(&mut self, more: Vec<Row>)
+        requires { CanAppend self.old more.items }
+        ensures rows { self.new.table ≡ with_rows (self.old.table.rows ++ more.items) self.old.table }
+        ensures capacity { self.old.capacity ≤ self.new.capacity }
+    {
+        self.stored.append(more);
+    }
+
     /// Takes the row at a place out and hands it back; its memory is kept.
     pub fn remove_at(&mut self, at: usize) -> Row
         requires { at < length self.old.table.rows }
@@ -137,6 +146,16 @@ impl Table {
         ensures capacity { self.new.capacity ≡ self.old.capacity }
     {
         self.stored.remove_at(at)
+    }
+
+    /// Takes all rows from a place on out; their memory is kept.
+    pub fn truncate(&mut self, at: usize)
+        ensures rows { self.new.table ≡ with_rows (take at self.old.table.rows) self.old.table }
+        ensures capacity { self.new.capacity ≡ self.old.capacity }
+    {
+        while at < self.len() {
+            let _ = self.remove_at(self.len() - 1);
+        }
     }
 
     /// Puts a row in the place of another and hands that back.

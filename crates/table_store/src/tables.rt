@@ -1,11 +1,11 @@
 //! All tables, by their names.
 
-ghost use Rattle.std.specs.Prelude.{◌≡◌, ◌<◌, ◌≤◌, ◌+◌, [], length, slice_index, slice_index_or, slice_set, OnOk, OnErr, None};
+ghost use Rattle.std.specs.Prelude.{◌≡◌, ◌<◌, ◌≤◌, ◌+◌, [], ◌++◌, length, take, slice_index, slice_index_or, slice_set, OnOk, OnErr, None};
 ghost use Rattle.std.specs.Option.{option_copied, option_map};
 ghost use Rattle.std.specs.List.{insert, remove};
 ghost use Rattle.row_types.specs.Tables.{table_at, table_named, with_rows_at, without_table_named, place_named, HaveDistinctNames};
-ghost use Rattle.table_store.specs.Kept.{CanInsert, CanReplace};
-ghost use Rattle.table_store.specs.Memory.{with_one_more, without_place, kept_at, table_of, NoLess};
+ghost use Rattle.table_store.specs.Kept.{CanInsert, CanAppend, CanReplace};
+ghost use Rattle.table_store.specs.Memory.{with_one_more, without_place, kept_at, table_of, NoLess, AllWellKept};
 
 use crate::table::Table;
 use indexmap::IndexMap;
@@ -22,11 +22,13 @@ pub struct Tables {
 }
 
 impl Model for Tables {
-    ghost use Rattle.table_store.specs.Memory.{Memory, memory_of};
+    ghost use Rattle.table_store.specs.Memory.{Memory, memory_of, AllWellKept};
 
     ghost Value = { Memory };
 
     ghost view = { λ t. memory_of t.entries.entries };
+
+    ghost invariant = { λ t. AllWellKept (memory_of t.entries.entries).tables };
 }
 
 impl Tables {
@@ -43,6 +45,7 @@ impl Tables {
     pub fn len(&self) -> usize
         ensures value { result ≡ length self.now.tables }
         ensures names { HaveDistinctNames self.now.tables }
+        ensures rows { AllWellKept self.now.tables }
     {
         self.entries.len()
     }
@@ -69,6 +72,7 @@ impl Tables {
         ensures ok { OnOk result (self.new ≡ with_one_more self.old name table) }
         ensures unchanged { OnErr result (self.new ≡ self.old) }
     {
+        let _rows = table.len();
         self.entries.insert(name, table)?;
         Ok(())
     }
@@ -102,6 +106,17 @@ impl Tables {
         self.entries[t].insert_at(at, row);
     }
 
+    /// Puts rows behind those of the table at a place, with which they stand in key order. There is
+    /// memory for them.
+    pub fn append(&mut self, t: usize, more: Vec<Row>)
+        requires there { t < length self.old.tables }
+        requires can { CanAppend (kept_at self.old t) more.items }
+        ensures tables { self.new.tables ≡ with_rows_at t ((table_at self.old.tables t).rows ++ more.items) self.old.tables }
+        ensures capacities { NoLess self.old.capacities self.new.capacities }
+    {
+        self.entries[t].append(more);
+    }
+
     /// Takes a row out of the table at a place and hands it back; its memory is kept.
     pub fn remove_at(&mut self, t: usize, at: usize) -> Row
         requires there { t < length self.old.tables }
@@ -111,6 +126,15 @@ impl Tables {
         ensures capacities { NoLess self.old.capacities self.new.capacities }
     {
         self.entries[t].remove_at(at)
+    }
+
+    /// Takes all rows from a place on out of the table at a place; their memory is kept.
+    pub fn truncate(&mut self, t: usize, at: usize)
+        requires { t < length self.old.tables }
+        ensures tables { self.new.tables ≡ with_rows_at t (take at (table_at self.old.tables t).rows) self.old.tables }
+        ensures capacities { NoLess self.old.capacities self.new.capacities }
+    {
+        self.entries[t].truncate(at);
     }
 
     /// Puts a row in the place of another in the table at a place, and hands that back.

@@ -1,4 +1,4 @@
-use Rattle.std.proofs.Common.{◌≡◌, sym, ◌∙◌, arith}
+use Rattle.std.proofs.Common.{sym, ◌∙◌, arith}
 use Rattle.row_types.specs.Rows.{by_key}
 use Rattle.atomic_undo.proofs.Placing.{rises_end}
 use Rattle.atomic_undo.proofs.sorted.do_rise.Goals as goal

@@ -1,7 +1,7 @@
-use Rattle.std.proofs.Common.{◌≡◌, ◌<◌, ◌-◌, ◌++◌, ℕ, length, sym, ap, ◌∙◌, get_or, arith, is_lt}
+use Rattle.std.proofs.Common.{◌-◌, sym, ap, ◌∙◌, get_or, arith, is_lt}
 use Rattle.row_types.specs.Rows.{by_key}
 use Rattle.table_store.proofs.Laws.{kept_rises}
-use Rattle.atomic_undo.proofs.Placing.{behind_rows, nothing_behind, nothing_before}
+use Rattle.atomic_undo.proofs.Placing.{behind_rows}
 use Rattle.atomic_undo.proofs.sorted.rise_behind.Goals as goal
 
 pub returns : goal.returns

@@ -8,9 +8,9 @@ use Rattle.psm_interp.proofs.inserts.rows_for.Given as goal
 abbrev pub invariant-loop-values : goal.invariant-loop-values
 invariant-loop-values l =
     record {
-      tells : (w : World) → after (each (row_for l.table.table) (reverse l.waiting) w) (λ more. give (l.rows.items ++ more)) ≡ each (row_for l.table.table) l.fn.new w;
+      tells : (w : World) → after (each (row_for l.table.table) (reverse l.waiting.items) w) (λ more. give (l.rows.items ++ more)) ≡ each (row_for l.table.table) l.fn.new.items w;
       fit : list_all (fits l.table.table.columns l.table.table.key) l.rows.items ≡ true;
     }
 
 abbrev pub decreases-loop-values : goal.decreases-loop-values
-decreases-loop-values l = length l.waiting
+decreases-loop-values l = length l.waiting.items

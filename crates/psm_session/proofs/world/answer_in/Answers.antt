@@ -1,17 +1,23 @@
--- The reply tells how the query ends.
-use Rattle.std.proofs.Common.{◌≡◌, subst}
-use Rattle.std.specs.Prelude.{IfOk}
-use Rattle.reply_text.specs.Texts.{rows_text}
-use Rattle.psm_session.proofs.Concluding.{given_effect, given_shapes}
+-- The reply tells what the query's plan answers.
+use Rattle.std.proofs.Common.{ap, sym, ◌∙◌}
+use Rattle.table_store.specs.Memory.{Memory}
+use Rattle.catalog_store.specs.View.{query_of}
+use Rattle.plan_exec.specs.declared.collecting.Answer.{Answer}
+use Rattle.psm_interp.specs.Content.{world_of}
+use Rattle.psm_session.specs.Answering.{ends_with}
+use Rattle.psm_session.proofs.Answering.{rows_effect, area_effect}
 use Rattle.psm_session.proofs.world.answer_in.Goals as goal
 
-pub returns-in-Ok-clause-ok : goal.returns-in-Ok-clause-ok
-returns-in-Ok-clause-ok c =
-    given_effect rows_text c.args.catalog.now c.args.world.now c.run_query.new.world c.conclude.new.world _ c.in-Ok.rows c.rows_reply.result c.conclude.result
-    c.in-Ok.ensures.tells (subst (λ rows. IfOk c.rows_reply.result (λ r. r ≡ rows_text rows)) c.as_slice.ensures c.rows_reply.ensures)
-    c.conclude.ensures.same c.conclude.ensures.ok
+pub returns-in-Rows-clause-ok : goal.returns-in-Rows-clause-ok
+returns-in-Rows-clause-ok g c =
+    let w = c.args.world.now in
+    rows_effect c.args.catalog.now w (query_of c.args.catalog.now c.args.query.now) c.in-Rows.rows c.rows_reply.result
+    (c.in_ok-rows.ensures.ends (world_of w) (sym (ap (λ (m : Memory). m.tables) c.tables.ensures)) ∙ ap (λ (a : Answer). ends_with a (world_of w)) c.in-Rows.is)
+    c.rows_reply.ensures.reply
 
-pub returns-in-Ok-clause-shapes : goal.returns-in-Ok-clause-shapes
-returns-in-Ok-clause-shapes c =
-    given_shapes c.mark-mark.result c.args.world.now c.run_query.new.world c.conclude.new.world c.conclude.result c.mark-mark.ensures c.in-Ok.ensures.stays
-    c.conclude.ensures.ok c.conclude.ensures.err
+pub returns-in-Raised-clause-ok : goal.returns-in-Raised-clause-ok
+returns-in-Raised-clause-ok g c =
+    let w = c.args.world.now in
+    area_effect c.args.catalog.now w (query_of c.args.catalog.now c.args.query.now) c.in-Raised.area c.area_reply.result
+    (c.in_ok-rows.ensures.ends (world_of w) (sym (ap (λ (m : Memory). m.tables) c.tables.ensures)) ∙ ap (λ (a : Answer). ends_with a (world_of w)) c.in-Raised.is)
+    c.area_reply.ensures

@@ -1,7 +1,14 @@
-use Rattle.std.proofs.Common.{◌≡◌, ◌++◌, take}
+use Rattle.std.proofs.Common.{◌≡◌, ◌≤◌, ◌+◌, ◌++◌, length}
 use Rattle.std.specs.List.{flat_map}
+use Rattle.row_types.specs.Cells.{value_rows}
 use Rattle.reply_text.specs.Texts.{record_text}
 use Rattle.reply_text.proofs.reply.put_records.Given as goal
 
-abbrev pub invariant-loop-row : goal.invariant-loop-row
-invariant-loop-row l = l.text.items ≡ l.initial.text.items ++ flat_map record_text (take l.row-index l.rows)
+-- what stands written and what is still to come are all records
+abbrev pub invariant-loop-alloc : goal.invariant-loop-alloc
+invariant-loop-alloc g l =
+    (l.text.items ++ flat_map record_text (value_rows l.rows) ≡ l.initial.text.items ++ flat_map record_text (value_rows l.initial.rows))
+    × (l.steps + length l.rows ≤ l.initial.steps + length l.initial.rows)
+
+abbrev pub decreases-loop-alloc : goal.decreases-loop-alloc
+decreases-loop-alloc g l = length l.rows

@@ -1,6 +1,7 @@
 use Rattle.std.proofs.Common.{◌≡◌, ◌<◌, arith, length, subst, sym, remove, get_or}
 use Rattle.table_store.specs.Kept.{Kept}
 use Rattle.table_store.proofs.Memory.{kept_is, tables_are, no_less_is}
+use Rattle.table_store.proofs.WellKept.{kept_removed}
 use Rattle.table_store.proofs.tables.Tables.remove_at.Goals as goal
 
 pub remove_at-requires : goal.remove_at-requires
@@ -18,3 +19,6 @@ returns-clause-tables c =
 
 pub returns-clause-capacities : goal.returns-clause-capacities
 returns-clause-capacities c = no_less_is c.self.inside.entries.entries c.args.self.now c.args.t c.index_mut.result.now c.remove_at.new.self c.self.view_is c.index_mut.ensures.value (omega arith)
+
+pub invariant_of-self : goal.invariant_of-self
+invariant_of-self c = kept_removed c.self.inside.entries.entries c.args.self.now c.args.t c.index_mut.result.now c.remove_at.new.self c.self.view_is c.index_mut.ensures.value c.self.invariant c.args.at c.remove_at.ensures.rows

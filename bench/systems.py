@@ -1,0 +1,66 @@
+"""Other systems that do the work of a script, where the machine has them."""
+import glob
+import os
+import pwd
+import shutil
+import subprocess
+import tempfile
+import time
+
+
+def timed(command, text, **options):
+    start = time.perf_counter()
+    subprocess.run(command, input=text, stdout=subprocess.DEVNULL, stderr=subprocess.DEVNULL, check=True, **options)
+    return time.perf_counter() - start, 0
+
+
+class Sqlite:
+    """sqlite3 over a database in memory. It has no functions of its own making, so a call is written out."""
+
+    name = "sqlite3"
+
+    def __enter__(self):
+        if shutil.which("sqlite3") is None:
+            raise OSError("no program sqlite3")
+        return self
+
+    def __exit__(self, *_):
+        pass
+
+    def run(self, text):
+        script = b"".join(line for line in text.replace(b"f(a)", b"a * a + 1").splitlines(True) if not line.startswith(b"CREATE FUNCTION"))
+        return timed(["sqlite3", ":memory:"], script)
+
+
+class PostgreSQL:
+    """A PostgreSQL server of its own, in a folder that goes when it is done. Tables are temporary."""
+
+    name = "PostgreSQL"
+
+    def __enter__(self):
+        found = sorted(glob.glob("/usr/lib/postgresql/*/bin"))
+        if not found or shutil.which("psql") is None:
+            raise OSError("no PostgreSQL server")
+        self.programs = found[-1]
+        self.folder = tempfile.mkdtemp()
+        user = "postgres" if os.getuid() == 0 else None
+        if user:
+            os.chown(self.folder, pwd.getpwnam(user).pw_uid, -1)
+        self.options = {"user": user, "cwd": self.folder}
+        self.server(["initdb", "-D", "data", "-U", "bench", "-A", "trust"])
+        self.server(["pg_ctl", "-D", "data", "-w", "-l", "log", "-o", f"-c listen_addresses= -k {self.folder}", "start"])
+        return self
+
+    def server(self, command):
+        command = [os.path.join(self.programs, command[0])] + command[1:]
+        subprocess.run(command, stdout=subprocess.DEVNULL, stderr=subprocess.DEVNULL, check=True, **self.options)
+
+    def __exit__(self, *_):
+        self.server(["pg_ctl", "-D", "data", "-w", "-m", "immediate", "stop"])
+        shutil.rmtree(self.folder)
+
+    def run(self, text):
+        script = text.replace(b"CREATE TABLE", b"CREATE TEMPORARY TABLE")
+        script = script.replace(b"CREATE FUNCTION f (x INTEGER) RETURNS INTEGER RETURN", b"CREATE FUNCTION pg_temp.f (x BIGINT) RETURNS BIGINT LANGUAGE SQL IMMUTABLE RETURN")
+        script = script.replace(b"f(a)", b"pg_temp.f(a)").replace(b"INTEGER", b"BIGINT")
+        return timed(["psql", "-q", "-v", "ON_ERROR_STOP=1", "-h", self.folder, "-U", "bench", "postgres"], script, **self.options)

@@ -1,0 +1,14 @@
+//! Tests of the libraries, over what they make public. They stand in a crate of their own, since a
+//! crate that has tests is proved twice, once with them and once without.
+#![tactic(auto)]
+
+#[cfg(test)]
+mod interpreter;
+#[cfg(test)]
+mod parser;
+#[cfg(test)]
+mod plans;
+#[cfg(test)]
+mod scalars;
+#[cfg(test)]
+mod small_table;

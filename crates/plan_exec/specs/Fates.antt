@@ -1,0 +1,57 @@
+-- What becomes of one row on its way through nodes that act row by row.
+use Rattle.std.specs.Prelude.{Bool, true, false, List, [], ◌∷◌, ◌++◌, if◌then◌else◌}
+use Rattle.sql_values.specs.declared.value.Value.{Value}
+use Rattle.sql_values.specs.Values.{is_true}
+use Rattle.sql_conditions.specs.Conditions.{Area}
+use Rattle.row_types.specs.declared.cell.Cell.{Cell}
+use Rattle.row_types.specs.declared.cell.Cell.TheVariants.{Val, Cond}
+use Rattle.row_types.specs.Cells.{PlanRow, Whole, Poisoned}
+use Rattle.rel_algebra.specs.declared.plan.Node.{Node}
+use Rattle.rel_algebra.specs.declared.plan.Node.TheVariants.{Extend, Filter, Keep}
+use Rattle.rel_algebra.specs.Plan.{cell_of, cells_of, cells_at, each}
+use Rattle.rel_algebra.specs.PlanView.{scalar_of, scalars_of}
+use Rattle.scalar_eval.specs.Sights.{sight_of}
+
+-- it stays, with these cells; or it is left out; or deciding on it raises
+pub data Fate : Type 0 where
+  Stays : List Cell → Fate
+  Gone : Fate
+  Raises : Area → Fate
+
+-- a row that was tested
+abbrev pub tested : Cell → List Cell → Fate
+tested (Cond area) row = Raises area
+tested (Val v) row = if is_true v then Stays row else Gone
+
+-- what a node makes of a row
+abbrev pub node_fate : Node → List Cell → List (List Cell) → List Value → Fate
+node_fate (Extend ss) row outer args = Stays (row ++ cells_of (scalars_of ss) (sight_of row outer args))
+node_fate (Filter s) row outer args = tested (cell_of (scalar_of s) (sight_of row outer args)) row
+node_fate (Keep places) row outer args = Stays (cells_at row places)
+
+-- goes on with a row that stays
+abbrev pub go_on : Fate → (List Cell → Fate) → Fate
+go_on (Stays row) more = more row
+go_on Gone more = Gone
+go_on (Raises area) more = Raises area
+
+-- what nodes make of a row, the first of them first
+abbrev pub fate : List Node → List Cell → List (List Cell) → List Value → Fate
+fate [] row outer args = Stays row
+fate (n ∷ ns) row outer args = go_on (node_fate n row outer args) (λ r. fate ns r outer args)
+
+-- the rows that come of it
+abbrev pub fate_rows : Fate → List PlanRow
+fate_rows (Stays row) = Whole row ∷ []
+fate_rows Gone = []
+fate_rows (Raises area) = Poisoned area ∷ []
+
+-- the rows that nodes make of rows
+abbrev pub passed : List Node → List (List Cell) → List Value → List PlanRow → List PlanRow
+passed ns outer args rows = each (λ row. fate_rows (fate ns row outer args)) rows
+
+-- a node that leaves no row out
+abbrev pub keeps : Node → Bool
+keeps (Extend ss) = true
+keeps (Filter s) = false
+keeps (Keep places) = true

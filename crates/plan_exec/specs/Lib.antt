@@ -1,0 +1,4 @@
+pub mod Answers
+pub mod Fates
+pub mod Passing
+pub mod Ways

@@ -1,0 +1,167 @@
+//! The last nodes of a plan, by which a row gets its final cells. They are worked out straight into
+//! the memory of the row that comes out.
+
+ghost use Rattle.std.specs.Prelude.{◌≡◌, ◌++◌, [], ◌-◌, List, length, take, map, IfOk, IfSome};
+ghost use Rattle.sql_values.specs.declared.value.Value.{Value as PlainValue};
+ghost use Rattle.row_types.specs.declared.cell.Cell.{Cell as PlainCell};
+ghost use Rattle.row_types.specs.declared.cell.Cell.TheVariants.{Val};
+ghost use Rattle.row_types.specs.Cells.{Whole as WholeRow};
+ghost use Rattle.row_types.specs.OuterRows.{outer_rows};
+ghost use Rattle.rel_algebra.specs.Plan.{cell_at, cells_of, cells_at};
+ghost use Rattle.rel_algebra.specs.PlanView.{scalars_of};
+ghost use Rattle.scalar_eval.specs.Sights.{sight_of};
+ghost use Rattle.plan_exec.specs.Fates.{Stays, fate, go_on};
+ghost use Rattle.plan_exec.specs.Ways.{last_cells, way_fate};
+
+use crate::scratch::Scratch;
+use rel_algebra::{Node, Scalar};
+use row_types::{Cell, Outer, PlanRow, Row, RowInSight, gathered};
+use scalar_eval::{eval_on, own_cell};
+use sql_values::{NoMemory, Value};
+use sqlite_items::Items;
+use std::alloc::Global;
+
+/// How a row gets its final cells.
+#[derive(Drop)]
+pub enum Last<'a> {
+    /// It has them.
+    Whole,
+    /// They are the cells at these places of the row with the cells of these scalars behind its own.
+    Picked(&'a [Scalar], &'a [usize]),
+}
+
+/// The way of a row: nodes, and how it then gets its final cells.
+#[derive(Drop)]
+pub struct Way<'a> {
+    pub nodes: &'a [Node],
+    pub last: Last<'a>,
+}
+
+impl<'a> Way<'a> {
+    /// The way through these nodes.
+    pub fn through(nodes: &'a [Node]) -> Way<'a>
+        ensures { (row : List PlainCell) (outer : List (List PlainCell)) (args : List PlainValue) →
+            fate nodes.now row outer args ≡ way_fate result row outer args }
+    {
+        match nodes.last() {
+            Some(Node::Keep(places)) => before_keep(without_last(nodes), places.as_slice()),
+            _ => Way {
+                nodes,
+                last: Last::Whole,
+            },
+        }
+    }
+}
+
+// The way through nodes and then a Keep of these places.
+fn before_keep<'a>(nodes: &'a [Node], places: &'a [usize]) -> Way<'a>
+    ensures { (row : List PlainCell) (outer : List (List PlainCell)) (args : List PlainValue) →
+        go_on (fate nodes.now row outer args) (λ r. Stays (cells_at r places.now)) ≡ way_fate result row outer args }
+{
+    match nodes.last() {
+        Some(Node::Extend(scalars)) => Way {
+            nodes: without_last(nodes),
+            last: Last::Picked(scalars.as_slice(), places),
+        },
+        _ => Way {
+            nodes,
+            last: Last::Picked(&[], places),
+        },
+    }
+}
+
+// All nodes but the last.
+fn without_last(nodes: &[Node]) -> &[Node]
+    ensures { result.now ≡ take (length nodes.now - 1) nodes.now }
+{
+    let (front, _) = nodes.split_at(nodes.len().saturating_sub(1));
+    front
+}
+
+/// The row that comes of these values and of the cells in the scratch behind them.
+pub fn finished(
+    alloc: Global,
+    last: &Last,
+    front: &[Value],
+    scratch: &mut Scratch,
+    outer: &Outer,
+    args: &[Value],
+) -> Result<PlanRow, NoMemory>
+    ensures { IfOk result (λ r. r ≡ WholeRow (last_cells last.now (map Val front.now ++ scratch.old.cells.items) (outer_rows outer.now) args.now)) }
+{
+    match last {
+        Last::Whole => gathered(alloc, front, scratch.cells.as_mut_slice()),
+        Last::Picked(scalars, places) => {
+            let row = RowInSight::of(front, scratch.cells.as_slice());
+            match picked_values(alloc, scalars, places, &row, outer, args)? {
+                Some(values) => Ok(PlanRow::of_values(values)),
+                None => picked_cells(alloc, scalars, places, front, scratch, outer, args),
+            }
+        }
+    }
+}
+
+// The cells at places of a row with the cells of scalars behind its own.
+fn picked_cells(
+    alloc: Global,
+    scalars: &[Scalar],
+    places: &[usize],
+    front: &[Value],
+    scratch: &mut Scratch,
+    outer: &Outer,
+    args: &[Value],
+) -> Result<PlanRow, NoMemory>
+    ensures { let row = map Val front.now ++ scratch.old.cells.items in
+        IfOk result (λ r. r ≡ WholeRow (cells_at (row ++ cells_of (scalars_of scalars.now) (sight_of row (outer_rows outer.now) args.now)) places.now)) }
+{
+    scratch.extend(alloc, scalars, front, outer, args)?;
+    scratch.keep(alloc, places, front)?;
+    gathered(alloc, &[], scratch.cells.as_mut_slice())
+}
+
+// The same where each of the cells is a value. `None` says nothing.
+fn picked_values(
+    alloc: Global,
+    scalars: &[Scalar],
+    places: &[usize],
+    row: &RowInSight,
+    outer: &Outer,
+    args: &[Value],
+) -> Result<Option<Row>, NoMemory>
+    ensures { IfOk result (λ o. IfSome o (λ values. map Val values ≡ cells_at (row.now ++ cells_of (scalars_of scalars.now) (sight_of row.now (outer_rows outer.now) args.now)) places.now)) }
+{
+    let width = row.len();
+    let mut values = Items::from_vec(Vec::with_capacity(alloc, places.len())?);
+    for place in places {
+        match extended_cell(alloc, scalars, row, width, *place, outer, args)? {
+            Cell::Val(value) => values.push(value)?,
+            Cell::Cond(_) => return Ok(None),
+        }
+    }
+    Ok(Some(values))
+}
+
+// The cell at a place of a row with the cells of scalars behind its own.
+#[tactic(auto, using(crate::proofs::Picks::cell_front, crate::proofs::Picks::cell_behind, crate::proofs::Picks::cell_scalar, crate::proofs::Picks::cell_none, std::proofs::lemmas::Grind::common_steps))]
+fn extended_cell(
+    alloc: Global,
+    scalars: &[Scalar],
+    row: &RowInSight,
+    width: usize,
+    place: usize,
+    outer: &Outer,
+    args: &[Value],
+) -> Result<Cell, NoMemory>
+    requires { width ≡ length row.now }
+    ensures { IfOk result (λ c. c ≡ cell_at (row.now ++ cells_of (scalars_of scalars.now) (sight_of row.now (outer_rows outer.now) args.now)) place) }
+{
+    if place < width {
+        return own_cell(alloc, row, place);
+    }
+    let behind = place - width;
+    if behind < scalars.len() {
+        eval_on(alloc, &scalars[behind], row, outer, args)
+    } else {
+        Ok(Cell::Val(Value::Null))
+    }
+}

@@ -1,0 +1,63 @@
+//! One row on its way through the nodes of a plan.
+
+ghost use Rattle.std.specs.Prelude.{◌≡◌, ◌++◌, map, IfOk};
+ghost use Rattle.row_types.specs.declared.cell.Cell.TheVariants.{Val};
+ghost use Rattle.row_types.specs.OuterRows.{outer_rows};
+ghost use Rattle.plan_exec.specs.Fates.{fate};
+ghost use Rattle.plan_exec.specs.Passing.{fate_of};
+
+use crate::scratch::Scratch;
+use rel_algebra::Node;
+use row_types::{Cell, Outer, RowInSight};
+use scalar_eval::{eval_on, is_true};
+use sql_conditions::Area;
+use sql_values::{NoMemory, Value};
+use sqlite_items::Boxed;
+use std::alloc::Global;
+
+/// What becomes of a row.
+pub enum RowFate<'a> {
+    /// It stays: these values, and the cells that are left in the scratch behind them.
+    Stays(&'a [Value]),
+    /// It is left out.
+    Gone,
+    /// Deciding on it raises.
+    Raises(Boxed<Area>),
+}
+
+/// What nodes make of the row of these values and of the cells in the scratch behind them.
+pub fn pass<'a>(
+    alloc: Global,
+    nodes: &[Node],
+    values: &'a [Value],
+    scratch: &mut Scratch,
+    outer: &Outer,
+    args: &[Value],
+) -> Result<RowFate<'a>, NoMemory>
+    ensures { IfOk result (λ f. fate_of f scratch.new.cells.items ≡ fate nodes.now (map Val values.now ++ scratch.old.cells.items) (outer_rows outer.now) args.now) }
+{
+    let mut front = values;
+    for node in nodes {
+        match node {
+            Node::Extend(scalars) => {
+                scratch.extend(alloc, scalars.as_slice(), front, outer, args)?;
+            }
+            Node::Filter(test) => {
+                let row = RowInSight::of(front, scratch.cells.as_slice());
+                match eval_on(alloc, test, &row, outer, args)? {
+                    Cell::Val(value) => {
+                        if !is_true(&value) {
+                            return Ok(RowFate::Gone);
+                        }
+                    }
+                    Cell::Cond(area) => return Ok(RowFate::Raises(area)),
+                }
+            }
+            Node::Keep(places) => {
+                scratch.keep(alloc, places.as_slice(), front)?;
+                front = &[];
+            }
+        }
+    }
+    Ok(RowFate::Stays(front))
+}

@@ -1,0 +1,190 @@
+//! Rows of values on their way through a filter that raises, and what they come to.
+
+ghost use Rattle.std.specs.Prelude.{◌≡◌};
+
+use crate::{Answer, Values, collect, collect_values, execute};
+use rel_algebra::{Leaf, Node, Plan, Scalar, ScalarLink, ScalarRow};
+use row_types::{PlanRow, RowEnd, Steps};
+use sql_values::{Comparison, Name, NoMemory, Operator, Value};
+use sqlite_items::{Boxed, Items};
+use std::alloc::Global;
+use std::marker::Brand;
+use std::sync::ledger::{Blank, Ledger};
+use std::test::Fail;
+use table_store::Tables;
+
+// An operator between a number and column 0.
+fn with_column(alloc: Global, number: i64, operator: Operator) -> Result<Scalar, NoMemory> {
+    let mut links = Items::new(alloc);
+    links.push(ScalarLink {
+        operator,
+        operand: Scalar::Column(0, 0),
+    })?;
+    let first = Boxed::new(alloc, Scalar::Constant(Value::Int(number)))?;
+    Ok(Scalar::Chain(first, links))
+}
+
+// The rows of VALUES 1, 0, 2.
+fn numbers(alloc: Global) -> Result<Leaf, NoMemory> {
+    let mut rows = Items::new(alloc);
+    for number in [1, 0, 2] {
+        let mut scalars = Items::new(alloc);
+        scalars.push(Scalar::Constant(Value::Int(number)))?;
+        rows.push(ScalarRow { scalars })?;
+    }
+    Ok(Leaf::Values(rows))
+}
+
+// The rows of VALUES 20 / 10, 20 / 0, 20 / 5.
+fn quotients(alloc: Global) -> Result<Leaf, NoMemory> {
+    let mut rows = Items::new(alloc);
+    for number in [10, 0, 5] {
+        let mut links = Items::new(alloc);
+        links.push(ScalarLink {
+            operator: Operator::Divide,
+            operand: Scalar::Constant(Value::Int(number)),
+        })?;
+        let first = Boxed::new(alloc, Scalar::Constant(Value::Int(20)))?;
+        let mut scalars = Items::new(alloc);
+        scalars.push(Scalar::Chain(first, links))?;
+        rows.push(ScalarRow { scalars })?;
+    }
+    Ok(Leaf::Values(rows))
+}
+
+// Filter 20 / #0 >= 10, Extend 2 * #0, Keep #1
+fn filtered(alloc: Global) -> Result<Plan, NoMemory> {
+    let quotient = Boxed::new(alloc, with_column(alloc, 20, Operator::Divide)?)?;
+    let ten = Boxed::new(alloc, Scalar::Constant(Value::Int(10)))?;
+    let mut scalars = Items::new(alloc);
+    scalars.push(with_column(alloc, 2, Operator::Multiply)?)?;
+    let mut places = Items::new(alloc);
+    places.push(1usize)?;
+    let mut nodes = Items::new(alloc);
+    let test = Scalar::Compare(Comparison::GreaterThanOrEquals, quotient, ten);
+    nodes.push(Node::Filter(test))?;
+    nodes.push(Node::Extend(scalars))?;
+    nodes.push(Node::Keep(places))?;
+    Ok(Plan {
+        leaf: numbers(alloc)?,
+        nodes,
+    })
+}
+
+// Extend 20 / #0, and then, where all are kept, Keep #1, #0
+fn extended(alloc: Global, keep: bool) -> Result<Plan, NoMemory> {
+    let mut scalars = Items::new(alloc);
+    scalars.push(with_column(alloc, 20, Operator::Divide)?)?;
+    let mut nodes = Items::new(alloc);
+    nodes.push(Node::Extend(scalars))?;
+    if keep {
+        let mut places = Items::new(alloc);
+        places.push(1usize)?;
+        places.push(0usize)?;
+        nodes.push(Node::Keep(places))?;
+    }
+    Ok(Plan {
+        leaf: numbers(alloc)?,
+        nodes,
+    })
+}
+
+// A row's first number, or -1 for an area.
+fn told(alloc: Global, row: PlanRow) -> Result<i64, NoMemory> {
+    match row.into_end(alloc)? {
+        RowEnd::Values(values) => match values.get(0) {
+            Some(Value::Int(number)) => Ok(*number),
+            _ => Ok(0),
+        },
+        RowEnd::Raised(_) => Ok(-1),
+    }
+}
+
+// What the rows of a plan tell, and how many there are where they come to rows.
+fn run<L: Ledger>(blank: Blank, alloc: Global, plan: &Plan) -> Result<Items<i64>, NoMemory>
+    requires name { blank.name ≡ L.name }
+    requires parts { blank.parts ≡ L.parts }
+    requires some { blank.parts ≡ 1 }
+{
+    let (book, share) = blank.open();
+    let mut steps = Steps::<L>::new(book, share);
+    let tables = Tables::new(alloc);
+    let mut rows = execute(alloc, plan, &tables, &[], &mut steps)?;
+    let mut numbers = Items::new(alloc);
+    for _ in 0..rows.len() {
+        if let Some(row) = rows.take_first(&mut steps) {
+            numbers.push(told(alloc, row)?)?;
+        }
+    }
+    let again = execute(alloc, plan, &tables, &[], &mut steps)?;
+    match collect(again, &mut steps)? {
+        Answer::Rows(rows) => numbers.push(100 + rows.len() as i64)?,
+        Answer::Raised(_) => numbers.push(-100)?,
+    }
+    let again = execute(alloc, plan, &tables, &[], &mut steps)?;
+    match collect_values(alloc, again, &mut steps)? {
+        Values::Rows(rows) => numbers.push(200 + rows.len() as i64)?,
+        Values::Raised(_) => numbers.push(-200)?,
+    }
+    Ok(numbers)
+}
+
+fn run_branded(alloc: Global, plan: &Plan) -> Result<Items<i64>, NoMemory> {
+    run::<Brand>(Blank::new(1), alloc, plan)
+}
+
+fn tell(alloc: Global, plan: Result<Plan, NoMemory>) -> Result<Items<i64>, NoMemory> {
+    let plan = plan?;
+    run_branded(alloc, &plan)
+}
+
+fn scanned(alloc: Global) -> Result<Plan, NoMemory> {
+    Ok(Plan {
+        leaf: Leaf::Scan(Name::folded(alloc, b"absent")?, 2),
+        nodes: Items::new(alloc),
+    })
+}
+
+fn unit(alloc: Global) -> Result<Plan, NoMemory> {
+    Ok(Plan {
+        leaf: Leaf::Unit,
+        nodes: Items::new(alloc),
+    })
+}
+
+fn without_nodes(alloc: Global, leaf: Result<Leaf, NoMemory>) -> Result<Plan, NoMemory> {
+    Ok(Plan {
+        leaf: leaf?,
+        nodes: Items::new(alloc),
+    })
+}
+
+#[test]
+fn lists_are_rows(rt: HostRuntime) -> Result<(), Fail> {
+    let alloc = rt.alloc();
+    let rows = tell(alloc, without_nodes(alloc, numbers(alloc)))
+        .ok()
+        .ok_or("no memory")?;
+    assert!(rt; rows.as_slice() == [1, 0, 2, 103, 203].as_slice());
+    let rows = tell(alloc, without_nodes(alloc, quotients(alloc)))
+        .ok()
+        .ok_or("no memory")?;
+    assert!(rt; rows.as_slice() == [2, -1, 4, -100, -200].as_slice());
+    Ok(())
+}
+
+#[test]
+fn a_test_that_raises_keeps_its_row(rt: HostRuntime) -> Result<(), Fail> {
+    let alloc = rt.alloc();
+    let rows = tell(alloc, filtered(alloc)).ok().ok_or("no memory")?;
+    assert!(rt; rows.as_slice() == [2, -1, 4, -100, -200].as_slice());
+    let rows = tell(alloc, extended(alloc, true)).ok().ok_or("no memory")?;
+    assert!(rt; rows.as_slice() == [20, -1, 10, -100, -200].as_slice());
+    let rows = tell(alloc, extended(alloc, false)).ok().ok_or("no memory")?;
+    assert!(rt; rows.as_slice() == [1, -1, 2, -100, -200].as_slice());
+    let rows = tell(alloc, scanned(alloc)).ok().ok_or("no memory")?;
+    assert!(rt; rows.as_slice() == [100, 200].as_slice());
+    let rows = tell(alloc, unit(alloc)).ok().ok_or("no memory")?;
+    assert!(rt; rows.as_slice() == [0, 101, 201].as_slice());
+    Ok(())
+}

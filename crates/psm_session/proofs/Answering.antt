@@ -1,0 +1,148 @@
+-- The answer of a query's plan is how the query ends; and what an INSERT makes of it.
+use Rattle.std.proofs.Common.{◌≡◌, ℕ, suc, true, List, [], ◌∷◌, ◌++◌, length, Ok, Err, refl, sym, ap, ◌∙◌, subst}
+use Rattle.std.specs.List.{IsDistinct}
+use Rattle.std.specs.Str.{bytes_eq}
+use Rattle.row_types.specs.Rows.{Row}
+use Rattle.row_types.specs.Tables.{Tables}
+use Rattle.row_types.specs.Cells.{PlanRow, Whole, value_rows, row_end, cells_end, with_value, with_values}
+use Rattle.table_store.specs.Memory.{Memory, AllWellKept}
+use Rattle.rel_algebra.specs.Tree.{Query}
+use Rattle.rel_algebra.specs.World.{World, Ends, Gives, Raises, after, unit_of, unit, no_self, no_frame}
+use Rattle.rel_algebra.specs.Meaning.{answer, ask, carried}
+use Rattle.rel_algebra.specs.Writing.{insert, stored}
+use Rattle.rel_algebra.specs.Endings.{Ending}
+use Rattle.rel_algebra.specs.Joins.{table_width}
+use Rattle.rel_algebra.specs.Plain.{planned}
+use Rattle.rel_algebra.specs.Theorem.{Fits}
+use Rattle.rel_algebra.specs.Plan.{PlanTree, den, collected, shown, shown_rows}
+use Rattle.rel_algebra.specs.Emit.{plan, top}
+use Rattle.rel_algebra.proofs.Passing.{means_passing}
+use Rattle.catalog_store.specs.Catalog.{Catalog, names_of}
+use Rattle.query_plan.specs.Widths.{width_in}
+use Rattle.plan_exec.specs.Passing.{inputs_of}
+use Rattle.plan_exec.specs.Answers.{answer_end, shown_end}
+use Rattle.plan_exec.specs.declared.collecting.Answer.{Answer}
+use Rattle.plan_exec.specs.declared.collecting.Answer.TheVariants.{Rows, Raised}
+use Rattle.std.specs.Prelude.{Result, IfOk}
+use Rattle.sql_texts.specs.declared.memory.NoMemory.{NoMemory}
+use Rattle.sql_conditions.specs.Conditions.{Area}
+use Rattle.reply_text.specs.Texts.{rows_text, area_text}
+use Rattle.psm_interp.specs.declared.stop.Stop.{Stop}
+use Rattle.psm_interp.specs.declared.stop.Stop.TheVariants as stop
+use Rattle.psm_interp.specs.Content.{Content, world_of}
+use Rattle.psm_interp.specs.Ending.{Ended}
+use Rattle.psm_interp.proofs.Stays.{stays_same}
+use Rattle.psm_session.specs.Effects.{Effect, replied}
+use Rattle.psm_session.specs.Answering.{ends_with, HasValues}
+use Rattle.psm_session.specs.Conclusions.{database, IsEffect}
+use Rattle.psm_session.specs.Shapes.{IsWhole}
+use Rattle.psm_session.proofs.Widths.{fits_of, widths_agree}
+
+pub if_ok : {A E : Type 0} {P Q : A → Type 0} (r : Result A E) → ((a : A) → P a → Q a) → IfOk r P → IfOk r Q
+if_ok (Ok a) f p = f a p
+if_ok (Err e) f p = tt
+
+-- ---- rows of values
+
+cells_end-shown : (r : Row) → cells_end (shown r) ≡ Ok r
+cells_end-shown [] = refl
+cells_end-shown (v ∷ vs) = ap (with_value v) (cells_end-shown vs)
+
+pub value_rows-shown : (rows : List Row) → value_rows (shown_rows rows) ≡ rows
+value_rows-shown [] = refl
+value_rows-shown (r ∷ rs) = ap (λ e. with_values e (value_rows (shown_rows rs))) (cells_end-shown r) ∙ ap (λ (more : List Row). r ∷ more) (value_rows-shown rs)
+
+length-shown : (rows : List Row) → length (shown_rows rows) ≡ length rows
+length-shown [] = refl
+length-shown (r ∷ rs) = ap (λ (n : ℕ). suc n) (length-shown rs)
+
+in_front-push : (e : Result Row Area) (more rows : List Row) (r : Row) → more ≡ rows ++ r ∷ [] → with_values e more ≡ with_values e rows ++ r ∷ []
+in_front-push (Ok v) more rows r h = ap (λ (xs : List Row). v ∷ xs) h
+in_front-push (Err area) more rows r h = h
+
+-- one more row of values
+pub value_rows-push : (rows : List PlanRow) (r : Row) → value_rows (rows ++ Whole (shown r) ∷ []) ≡ value_rows rows ++ r ∷ []
+value_rows-push [] r = ap (λ e. with_values e []) (cells_end-shown r)
+value_rows-push (x ∷ xs) r = in_front-push (row_end x) (value_rows (xs ++ Whole (shown r) ∷ [])) (value_rows xs) r (value_rows-push xs r)
+
+-- ---- answers
+
+abbrev rows_or : List PlanRow → Ending (List PlanRow) → List PlanRow
+rows_or other (Ok rows) = rows
+rows_or other (Err area) = other
+
+pub tells_end : (a : Answer) (end : Ending (List Row)) → answer_end a ≡ shown_end end → (w : World) → carried end w ≡ ends_with a w
+tells_end (Rows rows) (Ok values) h w =
+    let same : rows ≡ shown_rows values = ap (rows_or []) h in
+    ap (λ (r : List Row). Gives r w) (sym (ap value_rows same ∙ value_rows-shown values))
+tells_end (Rows rows) (Err area) h w = cc
+tells_end (Raised s) (Ok values) h w = cc
+tells_end (Raised s) (Err area) h w = cc
+
+pub all_values : (a : Answer) (end : Ending (List Row)) → answer_end a ≡ shown_end end → HasValues a
+all_values (Rows rows) (Ok values) h =
+    let same : rows ≡ shown_rows values = ap (rows_or []) h in
+    ap (λ (r : List PlanRow). length (value_rows r)) same ∙ ap (λ (r : List Row). length r) (value_rows-shown values) ∙ sym (length-shown values) ∙ sym (ap (λ (r : List PlanRow). length r) same)
+all_values (Rows rows) (Err area) h = cc
+all_values (Raised s) (Ok values) h = tt
+all_values (Raised s) (Err area) h = tt
+
+-- ---- plans
+
+-- what is collected of a query's plan, by the tables and their widths
+abbrev of_plan : Query → (List ℕ → ℕ) → Tables → Ending (List Row)
+of_plan q widths ts = collected (den (plan q widths (top 0)) (record { tables = ts; args = [] }) [])
+
+pub planned_ends : (known : Catalog) (m : Memory) (q : Query) (p : PlanTree) (rows : List PlanRow) (a : Answer)
+    → IsWhole (database known m) → IsDistinct bytes_eq (names_of known) → AllWellKept m.tables → planned q ≡ true
+    → p ≡ plan q (width_in known) (top 0) → rows ≡ den p (inputs_of m []) [] → answer_end a ≡ shown_end (collected rows)
+    → (w : World) → w.tables ≡ m.tables → answer q no_self [] no_frame w ≡ ends_with a w
+planned_ends known m q p rows a whole distinct kept is_planned plan_is rows_are told w same =
+    means_passing q no_frame w is_planned (subst (λ (ts : Tables). fits_there ts) (sym same) (fits_of m.tables [] kept))
+    ∙ ap (λ end. carried end w) collected_is ∙ tells_end a (collected rows) told w
+  where
+    fits_there : Tables → Type 0
+    fits_there ts = Fits (record { tables = ts; args = [] })
+
+    collected_is : of_plan q (table_width w.tables) w.tables ≡ collected rows
+    collected_is =
+        ap (λ (ts : Tables). of_plan q (table_width ts) ts) same
+        ∙ ap (λ (widths : List ℕ → ℕ). of_plan q widths m.tables) (sym (λ i name. widths_agree (database known m) whole distinct name i))
+        ∙ sym (ap collected (rows_are ∙ ap (λ (t : PlanTree). den t (inputs_of m []) []) plan_is))
+
+-- ---- INSERT
+
+pub insert_given : (name : List ℕ) (q : Query) (rows : List Row) (w : World) → answer q no_self [] no_frame w ≡ Gives rows w → insert name q w ≡ unit (stored name rows) w
+insert_given name q rows w h = ap (λ (e : Ends (List Row)). unit_of w (after e (stored name))) h
+
+pub insert_raised : (name : List ℕ) (q : Query) (area : Area) (w : World) → answer q no_self [] no_frame w ≡ Raises area w → insert name q w ≡ Raises area w
+insert_raised name q area w h = ap (λ (e : Ends (List Row)). unit_of w (after e (stored name))) h
+
+-- an INSERT ends as its plan's rows are stored, or as its plan raises
+pub stored_ends : (name : List ℕ) (q : Query) (rows : List PlanRow) (old new : Content) (r : Result ℕ Stop) → answer q no_self [] no_frame (world_of old) ≡ Gives (value_rows rows) (world_of old)
+    → Ended old new r (unit (stored name (value_rows rows)) (world_of old)) → Ended old new r (insert name q (world_of old))
+stored_ends name q rows old new r h ended = subst (Ended old new r) (sym (insert_given name q (value_rows rows) (world_of old) h)) ended
+
+pub raised_ends : (name : List ℕ) (q : Query) (area : Area) (old : Content) → answer q no_self [] no_frame (world_of old) ≡ Raises area (world_of old)
+    → Ended {A = ℕ} old old (Err (stop.Raised area)) (insert name q (world_of old))
+raised_ends name q area old h = record { tells = insert_raised name q area (world_of old) h; stays = stays_same old }
+
+-- ---- queries
+
+pub rows_effect : (known : Catalog) (w : Content) (q : Query) (rows : List PlanRow) (reply : Result (List ℕ) NoMemory)
+    → answer q no_self [] no_frame (world_of w) ≡ Gives (value_rows rows) (world_of w) → IfOk reply (λ r. r ≡ rows_text (value_rows rows))
+    → IfOk reply (λ r. IsEffect (replied rows_text (database known w.memory) (ask q (world_of w))) r (database known w.memory))
+rows_effect known w q rows (Ok r) h says =
+    let db = database known w.memory in
+    let effect_is = ap (λ (e : Ends (List Row)). replied rows_text db (unit_of (world_of w) e)) h in
+    (says ∙ sym (ap (λ (e : Effect). e.reply) effect_is), sym (ap (λ (e : Effect). e.after) effect_is))
+rows_effect known w q rows (Err e) h says = tt
+
+pub area_effect : (known : Catalog) (w : Content) (q : Query) (area : Area) (reply : Result (List ℕ) NoMemory)
+    → answer q no_self [] no_frame (world_of w) ≡ Raises area (world_of w) → IfOk reply (λ r. r ≡ area_text area)
+    → IfOk reply (λ r. IsEffect (replied rows_text (database known w.memory) (ask q (world_of w))) r (database known w.memory))
+area_effect known w q area (Ok r) h says =
+    let db = database known w.memory in
+    let effect_is = ap (λ (e : Ends (List Row)). replied rows_text db (unit_of (world_of w) e)) h in
+    (says ∙ sym (ap (λ (e : Effect). e.reply) effect_is), sym (ap (λ (e : Effect). e.after) effect_is))
+area_effect known w q area (Err e) h says = tt

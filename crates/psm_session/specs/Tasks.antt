@@ -1,0 +1,11 @@
+-- What is done in a world of tables.
+use Rattle.sql_names.specs.declared.statement.BoundStmt.TheVariants.{Insert, Query}
+use Rattle.psm_session.specs.declared.world.Task.{Task}
+use Rattle.psm_session.specs.declared.world.Task.TheVariants.{Store, Answer}
+use Rattle.psm_session.specs.Database.{Plain}
+use Rattle.psm_session.specs.Effects.{Effect, effect}
+
+-- the effect of the statement whose task it is
+abbrev pub task_effect : Task → Plain → Effect
+task_effect (Store insert) db = effect (Insert insert.now) db
+task_effect (Answer query) db = effect (Query query.now) db

@@ -1,0 +1,12 @@
+pub mod Places
+pub mod Joins
+pub mod Nodes
+pub mod Views
+pub mod Lists
+pub mod Checks
+pub mod Emitting
+pub mod Even
+pub mod Tests
+pub mod Own
+pub mod Choosing
+pub mod Queries

@@ -1,0 +1,255 @@
+-- Whole queries.
+use Rattle.std.proofs.Common.{ℕ, ◌≡◌, ◌<◌, ◌≤◌, ◌+◌, ◌∷◌, [], ◌++◌, List, Option, Some, None, MatchOption, Bool, true, false, ◌&&◌, if◌then◌else◌, replicate, length, drop, get_or, slice_get, suc, refl, sym, ap, ◌∙◌, subst, arith, append_assoc}
+use Rattle.std.proofs.lemmas.List.{drop_all, length-replicate, append-nil}
+use Rattle.bound_trees.specs.declared.expr.BoundExpr.{BoundExpr}
+use Rattle.bound_trees.specs.declared.statement.BoundRow.{BoundRow}
+use Rattle.catalog_store.specs.Catalog.{Catalog}
+use Rattle.catalog_store.specs.View.{exprs_of, rows_of}
+use Rattle.rel_algebra.specs.declared.plan.ScalarRow.{ScalarRow}
+use Rattle.rel_algebra.specs.Tree.{Exprs, count, From, Select, Values}
+use Rattle.rel_algebra.specs.Plan.{Scalar, Scalars, PlanTree, Nodes, no_node, extend_by, apply_by, values, unit_row, on_each}
+use Rattle.rel_algebra.specs.Joins.{from_width, rows_width}
+use Rattle.rel_algebra.specs.PlanView.{scalars_of, lists_of}
+use Rattle.rel_algebra.specs.Emit.{Env, EmittedAll, top, lifted, entered, none_waits, emit_all, emit_rows, emit_tests, filters, filters_width, listed, list_nodes, chosen, several, numbers, is_plain, all_plain, values_plan, scalars_of as all_scalars_of, from_plan, plan, width}
+use Rattle.query_plan.specs.declared.draft.Draft.{Draft}
+use Rattle.query_plan.specs.Drafts.{drafted}
+use Rattle.query_plan.specs.Emission.{EmitsAll}
+use Rattle.query_plan.specs.Listing.{listed_only}
+use Rattle.query_plan.specs.Plainness.{ArePlain}
+use Rattle.query_plan.specs.Choosing.{is_unit_row, columns_from, with_row, closed, all_arms_of}
+use Rattle.query_plan.specs.Widths.{width_in}
+use Rattle.query_plan.proofs.Joins.{on_each-joined, width-joined}
+use Rattle.query_plan.proofs.Lists.{rest, map-last}
+use Rattle.query_plan.proofs.Nodes.{plain_unit}
+use Rattle.query_plan.proofs.Own.{listed-after}
+use Rattle.query_plan.proofs.Choosing.{columns_more, rows_narrow, columns_first, columns_last}
+
+-- ---- a list over a plan
+
+pub listed_emission : (f : ℕ → EmittedAll) (n : ℕ) (t : PlanTree) (start between : Draft) (ss : Scalars) (end : PlanTree) → (drafted start).tree ≡ t → (drafted start).width ≡ n →
+    EmitsAll start between ss (f (drafted start).width) → end ≡ listed_only ss (drafted between).width (drafted between).tree → end ≡ listed (f n) n t
+listed_emission f n t start between ss end tree wide d is =
+    is ∙ (λ j. listed_only (d.scalars j) (d.columns j) (d.tree j)) ∙ sym (listed-after (f (drafted start).width) (drafted start).width (drafted start).tree)
+    ∙ (λ j. listed (f (wide j)) (wide j) (tree j))
+
+-- ---- SELECT
+
+pub select_plan : (items tests : Exprs) (from : From) (S : List ℕ → ℕ) (columns : ℕ) (start filtered between : Draft) (ss : Scalars) (end : PlanTree) → columns ≡ (drafted start).width →
+    (drafted start).tree ≡ from_plan from S (top 0) → (drafted start).width ≡ from_width from S →
+    (drafted filtered).tree ≡ filters (emit_tests tests S (entered (top 0) columns) none_waits (drafted start).width) (drafted start).tree →
+    (drafted filtered).width ≡ filters_width (emit_tests tests S (entered (top 0) columns) none_waits (drafted start).width) (drafted start).width →
+    EmitsAll filtered between ss (emit_all items S (entered (top 0) columns) (drafted filtered).width) →
+    end ≡ listed_only ss (drafted between).width (drafted between).tree → end ≡ plan (Select items from tests) S (top 0)
+select_plan items tests from S columns start filtered between ss end same tree wide kept kept_width d is =
+    let n = from_width from S in
+    let c : columns ≡ n = same ∙ wide in
+    let ts = emit_tests tests S (entered (top 0) n) none_waits n in
+    let input = from_plan from S (top 0) in
+    let tested : emit_tests tests S (entered (top 0) columns) none_waits (drafted start).width ≡ ts = λ j. emit_tests tests S (entered (top 0) (c j)) none_waits (wide j) in
+    listed_emission (λ m. emit_all items S (entered (top 0) columns) m) (filters_width ts n) (filters ts input) filtered between ss end
+    (kept ∙ (λ j. filters (tested j) (tree j))) (kept_width ∙ (λ j. filters_width (tested j) (wide j))) d is
+    ∙ ap (λ q. listed (emit_all items S (entered (top 0) q) (filters_width ts n)) (filters_width ts n) (filters ts input)) c
+
+-- ---- VALUES
+
+abbrev pub nowhere_env : Env
+nowhere_env = lifted (top 0)
+
+pub count-exprs : (k : Catalog) (es : List BoundExpr) → count (exprs_of k es) ≡ length es
+count-exprs k [] = refl
+count-exprs k (e ∷ es) = ap suc (count-exprs k es)
+
+pub width_first : (k : Catalog) (rs : List BoundRow) (r : BoundRow) → Some r ≡ slice_get rs 0 → rows_width (rows_of k rs) ≡ length r.values
+width_first k [] r h = absurd (let never = h in cc)
+width_first k (x ∷ rs) r h = count-exprs k x.values ∙ (let same : x ≡ r = cc in ap (λ (y : BoundRow). length y.values) same)
+
+rows_counted : (k : Catalog) (rs : List BoundRow) (S : List ℕ → ℕ) (e : Env) (n : ℕ) → length (emit_rows (rows_of k rs) S e n) ≡ length rs
+rows_counted k [] S e n = refl
+rows_counted k (r ∷ rs) S e n = ap suc (rows_counted k rs S e (width (emit_all (exprs_of k r.values) S e n).nodes n))
+
+-- what is left of rows begins with the row at its place
+rows_at : (k : Catalog) (rs : List BoundRow) (i : ℕ) (r : BoundRow) (S : List ℕ → ℕ) (e : Env) (n : ℕ) → i < length rs → r ≡ get_or rs i r →
+    emit_rows (rows_of k (drop i rs)) S e n ≡ emit_all (exprs_of k r.values) S e n ∷ emit_rows (rows_of k (drop (i + 1) rs)) S e (width (emit_all (exprs_of k r.values) S e n).nodes n)
+rows_at k rs i r S e n h is = ap (λ (xs : List BoundRow). emit_rows (rows_of k xs) S e n) (rest rs i r h is)
+
+-- of the rows this much is done
+pub record Numbering (k : Catalog) (w : ℕ) (rs : List BoundRow) (i : ℕ) (start now : Draft) (held : List ScalarRow) : Type 0 where
+  pub tree : on_each (list_nodes (emit_rows (rows_of k (drop i rs)) (width_in k) nowhere_env (drafted now).width)) (drafted now).tree
+      ≡ on_each (list_nodes (emit_rows (rows_of k rs) (width_in k) nowhere_env (drafted start).width)) (drafted start).tree
+  pub columns : width (list_nodes (emit_rows (rows_of k (drop i rs)) (width_in k) nowhere_env (drafted now).width)) (drafted now).width
+      ≡ width (list_nodes (emit_rows (rows_of k rs) (width_in k) nowhere_env (drafted start).width)) (drafted start).width
+  pub cells : columns_from (all_arms_of held) (chosen w i (emit_rows (rows_of k (drop i rs)) (width_in k) nowhere_env (drafted now).width))
+      ≡ chosen w 0 (emit_rows (rows_of k rs) (width_in k) nowhere_env (drafted start).width)
+  pub narrow : length (all_arms_of held) ≤ w
+
+pub numbering_first : (k : Catalog) (w : ℕ) (rs : List BoundRow) (start : Draft) (columns : List ScalarRow) → all_arms_of columns ≡ replicate w [] → Numbering k w rs 0 start start columns
+numbering_first k w rs start columns h = record {
+  tree = refl;
+  columns = refl;
+  cells =
+      ap (λ cs. columns_from cs (chosen w 0 (emit_rows (rows_of k rs) (width_in k) nowhere_env (drafted start).width))) h
+      ∙ columns_first w (emit_rows (rows_of k rs) (width_in k) nowhere_env (drafted start).width);
+  narrow = omega (arith, ap length h, length-replicate {A = List Scalar} w []);
+}
+
+pub numbering_next : (k : Catalog) (w : ℕ) (rs : List BoundRow) (i : ℕ) (r : BoundRow) (start old new : Draft) (columns grown : List ScalarRow) (ss : Scalars) → i < length rs → r ≡ get_or rs i r →
+    Numbering k w rs i start old columns → EmitsAll old new ss (emit_all (exprs_of k r.values) (width_in k) nowhere_env (drafted old).width) →
+    all_arms_of grown ≡ with_row i (all_arms_of columns) ss → Numbering k w rs (i + 1) start new grown
+numbering_next k w rs i r start old new columns grown ss h is b d g =
+    let S = width_in k in
+    let n = (drafted old).width in
+    let a = emit_all (exprs_of k r.values) S nowhere_env n in
+    let others : ℕ → List EmittedAll = emit_rows (rows_of k (drop (i + 1) rs)) S nowhere_env in
+    let at = rows_at k rs i r S nowhere_env n h is in
+    let left = others (width a.nodes n) in
+    let next : i + 1 ≡ suc i = omega arith in
+    record {
+      tree =
+          (λ j. on_each (list_nodes (others (d.columns j))) (d.tree j)) ∙ sym (on_each-joined a.nodes (list_nodes left) (drafted old).tree)
+          ∙ ap (λ ls. on_each (list_nodes ls) (drafted old).tree) (sym at) ∙ b.tree;
+      columns =
+          (λ j. width (list_nodes (others (d.columns j))) (d.columns j)) ∙ sym (width-joined a.nodes (list_nodes left) n)
+          ∙ ap (λ ls. width (list_nodes ls) n) (sym at) ∙ b.columns;
+      cells =
+          (λ j. columns_from ((g ∙ (λ q. with_row i (all_arms_of columns) (d.scalars q))) j) (chosen w (next j) (others (d.columns j))))
+          ∙ columns_more (all_arms_of columns) i a.scalars (chosen w (suc i) left)
+          ∙ ap (λ ls. columns_from (all_arms_of columns) (chosen w i ls)) (sym at) ∙ b.cells;
+      narrow = omega (arith, ap length g, rows_narrow (all_arms_of columns) i ss, b.narrow);
+    }
+
+-- the plan of rows over their numbers
+pub numbered_plan : (k : Catalog) (w : ℕ) (rs : List BoundRow) (i : ℕ) (start now : Draft) (columns : List ScalarRow) (ss : Scalars) (end : PlanTree) → length rs ≤ i →
+    Numbering k w rs i start now columns → (drafted start).tree ≡ values (numbers 0 (length rs)) → (drafted start).width ≡ 1 → ss ≡ closed (all_arms_of columns) →
+    end ≡ listed_only ss (drafted now).width (drafted now).tree → end ≡ several w (emit_rows (rows_of k rs) (width_in k) nowhere_env 1)
+numbered_plan k w rs i start now columns ss end h b tree wide is made =
+    let S = width_in k in
+    let whole : ℕ → List EmittedAll = emit_rows (rows_of k rs) S nowhere_env in
+    let done = drop_all i rs h in
+    let cells : ss ≡ chosen w 0 (whole (drafted start).width) =
+    is ∙ sym (columns_last (all_arms_of columns) w b.narrow)
+    ∙ ap (λ (xs : List BoundRow). columns_from (all_arms_of columns) (chosen w i (emit_rows (rows_of k xs) S nowhere_env (drafted now).width))) (sym done) ∙ b.cells in
+    let tree_now : (drafted now).tree ≡ on_each (list_nodes (whole (drafted start).width)) (drafted start).tree =
+    ap (λ (xs : List BoundRow). on_each (list_nodes (emit_rows (rows_of k xs) S nowhere_env (drafted now).width)) (drafted now).tree) (sym done) ∙ b.tree in
+    let width_now : (drafted now).width ≡ width (list_nodes (whole (drafted start).width)) (drafted start).width =
+    ap (λ (xs : List BoundRow). width (list_nodes (emit_rows (rows_of k xs) S nowhere_env (drafted now).width)) (drafted now).width) (sym done) ∙ b.columns in
+    listed_emission (λ n. record { nodes = list_nodes (whole n); scalars = chosen w 0 (whole n) }) 1 (values (numbers 0 (length rs))) start now ss end tree wide
+    (record { tree = tree_now; columns = width_now; scalars = cells }) made
+    ∙ ap (λ q. listed (record { nodes = list_nodes (whole 1); scalars = chosen w 0 (whole 1) }) 1 (values (numbers 0 q))) (sym (rows_counted k rs S nowhere_env 1))
+
+-- one row
+pub single_plan : (k : Catalog) (rs : List BoundRow) (r : BoundRow) → length rs ≡ 1 → r ≡ get_or rs 0 r →
+    listed (emit_all (exprs_of k r.values) (width_in k) nowhere_env 0) 0 unit_row ≡ plan (Values (rows_of k rs)) (width_in k) (top 0)
+single_plan k [] r h is = absurd (omega (arith, h))
+single_plan k (x ∷ []) r h is = ap (λ (y : BoundRow). listed (emit_all (exprs_of k y.values) (width_in k) nowhere_env 0) 0 unit_row) is
+single_plan k (x ∷ y ∷ rs) r h is = absurd (omega (arith, h))
+
+-- ---- rows that need no nodes
+
+pub plain-width : (a : Nodes) (n : ℕ) → is_plain a ≡ true → width a n ≡ n
+plain-width no_node n h = refl
+plain-width (extend_by ss a) n h = absurd (let never = h in cc)
+plain-width (apply_by when kind inner a) n h = absurd (let never = h in cc)
+
+pub record Plains (k : Catalog) (rs : List BoundRow) (i : ℕ) (held : List ScalarRow) : Type 0 where
+  pub plain : all_plain (emit_rows (rows_of k (drop i rs)) (width_in k) nowhere_env 0) ≡ all_plain (emit_rows (rows_of k rs) (width_in k) nowhere_env 0)
+  pub lists : lists_of held ++ all_scalars_of (emit_rows (rows_of k (drop i rs)) (width_in k) nowhere_env 0) ≡ all_scalars_of (emit_rows (rows_of k rs) (width_in k) nowhere_env 0)
+
+plains_at : (k : Catalog) (rs : List BoundRow) (i : ℕ) (r : BoundRow) → i < length rs → r ≡ get_or rs i r →
+    is_plain (emit_all (exprs_of k r.values) (width_in k) nowhere_env 0).nodes ≡ true →
+    emit_rows (rows_of k (drop i rs)) (width_in k) nowhere_env 0 ≡ emit_all (exprs_of k r.values) (width_in k) nowhere_env 0 ∷ emit_rows (rows_of k (drop (i + 1) rs)) (width_in k) nowhere_env 0
+plains_at k rs i r h is p =
+    let a = emit_all (exprs_of k r.values) (width_in k) nowhere_env 0 in
+    rows_at k rs i r (width_in k) nowhere_env 0 h is ∙ ap (λ n. a ∷ emit_rows (rows_of k (drop (i + 1) rs)) (width_in k) nowhere_env n) (plain-width a.nodes 0 p)
+
+pub plains_next : (k : Catalog) (rs : List BoundRow) (i : ℕ) (r : BoundRow) (old new : List ScalarRow) (list : ScalarRow) → i < length rs → r ≡ get_or rs i r → Plains k rs i old →
+    is_plain (emit_all (exprs_of k r.values) (width_in k) nowhere_env 0).nodes ≡ true → scalars_of list.scalars ≡ (emit_all (exprs_of k r.values) (width_in k) nowhere_env 0).scalars →
+    new ≡ old ++ list ∷ [] → Plains k rs (i + 1) new
+plains_next k rs i r old new list h is b p same f =
+    let a = emit_all (exprs_of k r.values) (width_in k) nowhere_env 0 in
+    let left = emit_rows (rows_of k (drop (i + 1) rs)) (width_in k) nowhere_env 0 in
+    let at = plains_at k rs i r h is p in
+    record {
+      plain = ap (λ q. q && all_plain left) (sym p) ∙ ap all_plain (sym at) ∙ b.plain;
+      lists =
+          ap (λ (xs : List ScalarRow). lists_of xs ++ all_scalars_of left) f ∙ ap (λ (xs : List Scalars). xs ++ all_scalars_of left) (map-last (λ (x : ScalarRow). scalars_of x.scalars) old list)
+          ∙ append_assoc (lists_of old) (scalars_of list.scalars ∷ []) (all_scalars_of left) ∙ ap (λ ss. lists_of old ++ ss ∷ all_scalars_of left) same
+          ∙ ap (λ ls. lists_of old ++ all_scalars_of ls) (sym at) ∙ b.lists;
+    }
+
+-- a row that needs nodes
+pub plains_end : (k : Catalog) (rs : List BoundRow) (i : ℕ) (r : BoundRow) (old : List ScalarRow) → i < length rs → r ≡ get_or rs i r → Plains k rs i old →
+    is_plain (emit_all (exprs_of k r.values) (width_in k) nowhere_env 0).nodes ≡ false → all_plain (emit_rows (rows_of k rs) (width_in k) nowhere_env 0) ≡ false
+plains_end k rs i r old h is b p =
+    let a = emit_all (exprs_of k r.values) (width_in k) nowhere_env 0 in
+    let left = emit_rows (rows_of k (drop (i + 1) rs)) (width_in k) nowhere_env (width a.nodes 0) in
+    sym b.plain ∙ ap all_plain (rows_at k rs i r (width_in k) nowhere_env 0 h is) ∙ ap (λ q. q && all_plain left) p
+
+pub plains_done : (k : Catalog) (rs : List BoundRow) (i : ℕ) (lists : List ScalarRow) → length rs ≤ i → Plains k rs i lists →
+    (all_plain (emit_rows (rows_of k rs) (width_in k) nowhere_env 0) ≡ true) × (lists_of lists ≡ all_scalars_of (emit_rows (rows_of k rs) (width_in k) nowhere_env 0))
+plains_done k rs i lists h b =
+    let done = drop_all i rs h in (
+      sym b.plain ∙ ap (λ (xs : List BoundRow). all_plain (emit_rows (rows_of k xs) (width_in k) nowhere_env 0)) done,
+      sym (append-nil (lists_of lists)) ∙ ap (λ (xs : List BoundRow). lists_of lists ++ all_scalars_of (emit_rows (rows_of k xs) (width_in k) nowhere_env 0)) (sym done) ∙ b.lists,
+    )
+
+-- which of the plans of rows it is
+pub several_there : (lists : List EmittedAll) (m : ℕ) → length lists ≡ m → ¬ (m ≡ 1) → all_plain lists ≡ false → (k : ℕ) (numbered : List EmittedAll) → several k numbered ≡ values_plan k lists numbered
+several_there [] m h n p k numbered = refl
+several_there (a ∷ []) m h n p k numbered = absurd (n (sym h))
+several_there (a ∷ b ∷ lists) m h n p k numbered = ap (λ q. if q then values (all_scalars_of (a ∷ b ∷ lists)) else several k numbered) (sym p)
+
+pub values_there : (lists : List EmittedAll) (m : ℕ) (rows : List Scalars) → length lists ≡ m → ¬ (m ≡ 1) → ¬ (m ≡ 0) → all_plain lists ≡ true → rows ≡ all_scalars_of lists → (k : ℕ) (numbered : List EmittedAll) →
+    values rows ≡ values_plan k lists numbered
+values_there [] m rows h n z p is k numbered = absurd (z (sym h))
+values_there (a ∷ []) m rows h n z p is k numbered = absurd (n (sym h))
+values_there (a ∷ b ∷ lists) m rows h n z p is k numbered =
+    ap values is ∙ ap (λ q. if q then values (all_scalars_of (a ∷ b ∷ lists)) else several k numbered) (sym p)
+
+pub rows-length : (k : Catalog) (rs : List BoundRow) → length (emit_rows (rows_of k rs) (width_in k) nowhere_env 0) ≡ length rs
+rows-length k rs = rows_counted k rs (width_in k) nowhere_env 0
+
+pub none_there : (k : Catalog) (rs : List BoundRow) → rs ≡ [] → (w : ℕ) (numbered : List EmittedAll) → several w numbered ≡ values_plan w (emit_rows (rows_of k rs) (width_in k) nowhere_env 0) numbered
+none_there k rs h w numbered = ap (λ (xs : List BoundRow). values_plan w (emit_rows (rows_of k xs) (width_in k) nowhere_env 0) numbered) (sym h)
+
+-- ---- the same of bound trees
+
+pub select_bound : (k : Catalog) (is js items tests : List BoundExpr) (from : From) (columns : ℕ) (start filtered between : Draft) (ss : Scalars) (end : PlanTree) →
+    is ≡ items → js ≡ tests → columns ≡ (drafted start).width →
+    (drafted start).tree ≡ from_plan from (width_in k) (top 0) → (drafted start).width ≡ from_width from (width_in k) →
+    (drafted filtered).tree ≡ filters (emit_tests (exprs_of k js) (width_in k) (entered (top 0) columns) none_waits (drafted start).width) (drafted start).tree →
+    (drafted filtered).width ≡ filters_width (emit_tests (exprs_of k js) (width_in k) (entered (top 0) columns) none_waits (drafted start).width) (drafted start).width →
+    EmitsAll filtered between ss (emit_all (exprs_of k is) (width_in k) (entered (top 0) columns) (drafted filtered).width) →
+    end ≡ listed_only ss (drafted between).width (drafted between).tree → end ≡ plan (Select (exprs_of k items) from (exprs_of k tests)) (width_in k) (top 0)
+select_bound k is js items tests from columns start filtered between ss end p q same tree wide kept kept_width d made =
+    select_plan (exprs_of k is) (exprs_of k js) from (width_in k) columns start filtered between ss end same tree wide kept kept_width d made
+    ∙ (λ j. plan (Select (exprs_of k (p j)) from (exprs_of k (q j))) (width_in k) (top 0))
+
+pub row_bound : (k : Catalog) (vs ws : List BoundExpr) (start between : Draft) (ss : Scalars) (end : PlanTree) → vs ≡ ws → (drafted start).tree ≡ unit_row → (drafted start).width ≡ 0 →
+    EmitsAll start between ss (emit_all (exprs_of k vs) (width_in k) nowhere_env (drafted start).width) → end ≡ listed_only ss (drafted between).width (drafted between).tree →
+    end ≡ listed (emit_all (exprs_of k ws) (width_in k) nowhere_env 0) 0 unit_row
+row_bound k vs ws start between ss end p tree wide d made =
+    listed_emission (emit_all (exprs_of k vs) (width_in k) nowhere_env) 0 unit_row start between ss end tree wide d made
+    ∙ ap (λ (xs : List BoundExpr). listed (emit_all (exprs_of k xs) (width_in k) nowhere_env 0) 0 unit_row) p
+
+pub plain_bound : (k : Catalog) (vs ws : List BoundExpr) (start new : Draft) (ss : Scalars) (b : Bool) → vs ≡ ws → (drafted start).tree ≡ unit_row → (drafted start).width ≡ 0 →
+    EmitsAll start new ss (emit_all (exprs_of k vs) (width_in k) nowhere_env (drafted start).width) → b ≡ is_unit_row (drafted new).tree →
+    (b ≡ is_plain (emit_all (exprs_of k ws) (width_in k) nowhere_env 0).nodes) × (ss ≡ (emit_all (exprs_of k ws) (width_in k) nowhere_env 0).scalars)
+plain_bound k vs ws start new ss b p tree wide d is =
+    let same : emit_all (exprs_of k vs) (width_in k) nowhere_env (drafted start).width ≡ emit_all (exprs_of k ws) (width_in k) nowhere_env 0 =
+    λ j. emit_all (exprs_of k (p j)) (width_in k) nowhere_env (wide j) in
+    let a = emit_all (exprs_of k ws) (width_in k) nowhere_env 0 in
+    (is ∙ ap is_unit_row (d.tree ∙ (λ j. on_each (same j).nodes (tree j))) ∙ plain_unit a.nodes, d.scalars ∙ ap (λ y. y.scalars) same)
+
+pub plain_rows_there : (o : Option (List ScalarRow)) (lists : List EmittedAll) (m : ℕ) → length lists ≡ m → ¬ (m ≡ 1) → ¬ (m ≡ 0) → ArePlain o lists →
+    MatchOption o ((k : ℕ) (numbered : List EmittedAll) → several k numbered ≡ values_plan k lists numbered)
+    (λ rows. (k : ℕ) (numbered : List EmittedAll) → values (lists_of rows) ≡ values_plan k lists numbered)
+plain_rows_there None lists m h n z p = several_there lists m h n p
+plain_rows_there (Some rows) lists m h n z p = values_there lists m (lists_of rows) h n z p.0 p.1
+
+pub numbering_bound : (k : Catalog) (w : ℕ) (rs : List BoundRow) (i : ℕ) (r : BoundRow) (vs : List BoundExpr) (start old new : Draft) (columns grown : List ScalarRow) (ss : Scalars) →
+    i < length rs → r ≡ get_or rs i r → vs ≡ r.values → Numbering k w rs i start old columns →
+    EmitsAll old new ss (emit_all (exprs_of k vs) (width_in k) nowhere_env (drafted old).width) →
+    all_arms_of grown ≡ with_row i (all_arms_of columns) ss → Numbering k w rs (i + 1) start new grown
+numbering_bound k w rs i r vs start old new columns grown ss h is p b d g =
+    numbering_next k w rs i r start old new columns grown ss h is b
+    (subst (λ (xs : List BoundExpr). EmitsAll old new ss (emit_all (exprs_of k xs) (width_in k) nowhere_env (drafted old).width)) p d) g

@@ -1,0 +1,6 @@
+use Rattle.std.proofs.Common.{sym, ◌∙◌}
+use Rattle.query_plan.proofs.Queries.{width_first}
+use Rattle.query_plan.proofs.values.first_width.Goals as goal
+
+pub returns-in-Some : goal.returns-in-Some
+returns-in-Some c = λ k. c.len.ensures ∙ sym (width_first k c.args.rows.now c.in-Some.row.now c.in-Some.ensures.value)

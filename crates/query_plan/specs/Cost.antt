@@ -1,0 +1,22 @@
+-- How deep an emission can nest: what falls at each of its calls. Constructors that no bound tree stands for end it.
+use Rattle.std.specs.Prelude.{ℕ, ◌+◌}
+use Rattle.rel_algebra.specs.Tree.{Expr, Negate, Compare, Chain, Call, Links, NoLink, MoreLinks, Exprs, NoExpr, MoreExprs, Routine, Function}
+
+abbrev mutual
+  pub cost : Expr → ℕ
+  cost (Negate e) = cost e + 1
+  cost (Compare comparison a b) = cost a + cost b + 1
+  cost (Chain e links) = cost e + links_cost links + 1
+  cost (Call name routine args) = costs args + routine_cost routine + 2
+  cost _ = 1
+
+  pub links_cost : Links → ℕ
+  links_cost NoLink = 1
+  links_cost (MoreLinks operator e links) = cost e + links_cost links + 1
+
+  pub costs : Exprs → ℕ
+  costs NoExpr = 1
+  costs (MoreExprs e es) = cost e + costs es + 1
+
+  pub routine_cost : Routine → ℕ
+  routine_cost (Function calls_itself parameters returns e) = cost e + 1

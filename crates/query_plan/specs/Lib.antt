@@ -1,0 +1,9 @@
+pub mod Widths
+pub mod Drafts
+pub mod Scopes
+pub mod Emission
+pub mod Conjuncts
+pub mod Listing
+pub mod Choosing
+pub mod Plainness
+pub mod Cost

@@ -1,0 +1,429 @@
+-- The plan of a query.
+use Rattle.std.specs.Prelude.{ℕ, zero, suc, ◌+◌, ◌&&◌, Bool, true, false, if◌then◌else◌, List, [], ◌∷◌, ◌++◌, length, Option, Some, None, pos}
+use Rattle.sql_values.specs.declared.value.Value.TheVariants.{Null, Int, Bool as Truth}
+use Rattle.sql_values.specs.declared.operators.Comparison.TheVariants.{Equals}
+use Rattle.rel_algebra.specs.Tree.{Negation, Arithmetic, Comparing, NullTest, TrueTest, AnyOf, Aggregate, Expr, Literal, Column, Variable, Negate, Compare, Chain, Operate, And, Or, Case, CaseOf, Coalesce, In, Exists, Single, Call, CallSelf, Links, NoLink, MoreLinks, Exprs, NoExpr, MoreExprs, Routine, Function, Rows, NoRow, MoreRows, From, Table, Derived, Cross, Inner, LeftOuter, Query, Select, Grouped, Values, Ordered, parameters_of}
+use Rattle.rel_algebra.specs.Joins.{places, numbered, rows_width, from_width}
+use Rattle.rel_algebra.specs.Plan.{Word, strict, and_word, or_word, case_word, coalesce_word, Scalar, constant, column, argument, word, Scalars, none, more, Kind, single, exists, member, aggregate, kind_width, PlanTree, unit_row, scan, values, filter, keep, cross, left_outer, settle, group, sort, Nodes, no_node, extend_by, apply_by, on_each}
+
+-- where a column or a parameter is read
+pub data Place : Type 0 where
+  at : ℕ → ℕ → Place
+  given : ℕ → Place
+  nowhere : Place
+
+abbrev pub read : Place → Scalar
+read (at level i) = column level i
+read (given i) = argument i
+read nowhere = constant Null
+
+-- the same place, seen from a row further in
+abbrev pub outward : Place → Place
+outward (at level i) = at (suc level) i
+outward (given i) = given i
+outward nowhere = nowhere
+
+-- the place p, where i is below n
+abbrev pub below : ℕ → ℕ → Place → Place
+below zero i p = nowhere
+below (suc n) zero p = p
+below (suc n) (suc i) p = below n i p
+
+-- where an expression finds its columns, by level and place, and its parameters
+pub record Env : Type 0 where
+  pub columns : ℕ → ℕ → Place
+  pub params : ℕ → Place
+
+-- on a row of n columns within the rows of an environment
+abbrev pub columns_within : Env → ℕ → ℕ → ℕ → Place
+columns_within e n zero i = below n i (at 0 i)
+columns_within e n (suc d) i = outward (e.columns d i)
+
+abbrev pub entered : Env → ℕ → Env
+entered e n = record { columns = columns_within e n; params = λ i. outward (e.params i) }
+
+-- in a function's body: no row, and k parameters in the columns from m on
+abbrev pub passed : ℕ → ℕ → Env
+passed m k = record { columns = λ d i. nowhere; params = λ i. below k i (at 0 (m + i)) }
+
+-- in a row of VALUES, which stands in the rows outside alone
+abbrev pub lifted : Env → Env
+lifted e = record { columns = λ d i. outward (e.columns d i); params = λ i. outward (e.params i) }
+
+-- a whole query: its parameters are the n arguments
+abbrev pub top : ℕ → Env
+top n = record { columns = λ d i. nowhere; params = λ i. below n i (given i) }
+
+-- nodes that add columns, and a scalar over the wider row
+pub record Emitted : Type 0 where
+  pub nodes : Nodes
+  pub scalar : Scalar
+
+pub record EmittedAll : Type 0 where
+  pub nodes : Nodes
+  pub scalars : Scalars
+
+abbrev pub joined_nodes : Nodes → Nodes → Nodes
+joined_nodes no_node b = b
+joined_nodes (extend_by ss a) b = extend_by ss (joined_nodes a b)
+joined_nodes (apply_by when kind inner a) b = apply_by when kind inner (joined_nodes a b)
+
+abbrev pub scalar_count : Scalars → ℕ
+scalar_count none = 0
+scalar_count (more s ss) = suc (scalar_count ss)
+
+-- the width of a row of n columns after these nodes
+abbrev pub width : Nodes → ℕ → ℕ
+width no_node n = n
+width (extend_by ss a) n = width a (n + scalar_count ss)
+width (apply_by when kind inner a) n = width a (n + kind_width kind)
+
+abbrev pub plain : Scalar → Emitted
+plain s = record { nodes = no_node; scalar = s }
+
+abbrev pub no_scalar : EmittedAll
+no_scalar = record { nodes = no_node; scalars = none }
+
+abbrev pub word_on : Word → EmittedAll → Emitted
+word_on w a = record { nodes = a.nodes; scalar = word w a.scalars }
+
+-- one after another: the second on the row that the first leaves
+abbrev pub first_and : Emitted → (ℕ → EmittedAll) → ℕ → EmittedAll
+first_and a b n = let c = b (width a.nodes n) in record { nodes = joined_nodes a.nodes c.nodes; scalars = more a.scalar c.scalars }
+
+-- the scalars become columns, and the rest sees the row that has them
+abbrev pub then_columns : EmittedAll → (ℕ → ℕ → Emitted) → ℕ → Emitted
+then_columns a go n =
+    let m = width a.nodes n in let k = scalar_count a.scalars in let c = go m k in
+    record { nodes = joined_nodes a.nodes (extend_by a.scalars c.nodes); scalar = c.scalar }
+
+-- a query inside, under an Apply
+abbrev pub asked : Kind → PlanTree → ℕ → Emitted
+asked kind inner n = record { nodes = apply_by (constant (Truth true)) kind inner no_node; scalar = column 0 n }
+
+abbrev pub asked_member : Emitted → PlanTree → ℕ → Emitted
+asked_member a inner n =
+    record { nodes = joined_nodes a.nodes (apply_by (constant (Truth true)) (member a.scalar) inner no_node); scalar = column 0 (width a.nodes n) }
+
+-- TRUE where these columns are values, and else the first one's area: for each or(isnull(#i), TRUE)
+abbrev pub checks : List ℕ → Scalars
+checks [] = none
+checks (i ∷ is) = more (word or_word (more (word (strict NullTest) (more (column 0 i) none)) (more (constant (Truth true)) none))) (checks is)
+
+abbrev pub all_values : List ℕ → Scalar
+all_values is = word and_word (checks is)
+
+-- the scalar, where these columns are values
+abbrev pub if_values : List ℕ → Scalar → Scalar
+if_values [] s = s
+if_values (i ∷ is) s = word case_word (more (all_values (i ∷ is)) (more s none))
+
+-- the columns from m on of those arguments that may raise
+abbrev pub raising : Exprs → ℕ → List ℕ
+raising NoExpr m = []
+raising (MoreExprs (Literal v) es) m = raising es (suc m)
+raising (MoreExprs (Column d i) es) m = raising es (suc m)
+raising (MoreExprs (Variable i) es) m = raising es (suc m)
+raising (MoreExprs _ es) m = m ∷ raising es (suc m)
+
+-- the same for scalars
+abbrev pub checks_of : Scalars → Scalars
+checks_of none = none
+checks_of (more s ss) = more (word or_word (more (word (strict NullTest) (more s none)) (more (constant (Truth true)) none))) (checks_of ss)
+
+abbrev pub if_all : Scalars → Scalar → Scalar
+if_all ss s = word case_word (more (word and_word (checks_of ss)) (more s none))
+
+-- A query of aggregates alone, without GROUP BY and HAVING, is folded under the Apply: its cells are the finished aggregates, and its list
+-- is read on the row that has them.
+pub record Folded : Type 0 where
+  pub input : PlanTree
+  pub aggregates : List (Aggregate × ℕ)
+  -- from the width of the row that asks
+  pub list : ℕ → EmittedAll
+
+-- in the list of a query that is folded: its row is the m columns from n on
+abbrev pub folded_columns : Env → ℕ → ℕ → ℕ → ℕ → Place
+folded_columns e n m zero i = below m i (at 0 (n + i))
+folded_columns e n m (suc d) i = e.columns d i
+
+abbrev pub folded_env : Env → ℕ → ℕ → Env
+folded_env e n m = record { columns = folded_columns e n m; params = e.params }
+
+-- of the one row of the list: its first value, where all are values
+abbrev pub first_value : Scalars → Scalar
+first_value none = constant Null
+first_value (more s none) = s
+first_value (more s (more t ss)) = if_all (more s (more t ss)) s
+
+abbrev pub row_stands : Scalars → Scalar
+row_stands ss = if_all ss (constant (Truth true))
+
+-- the first of the aggregates' cells tells whether they are values
+abbrev pub folding : Folded → (Scalars → Scalar) → ℕ → Emitted
+folding a use_list n =
+    let c = a.list n in
+    record { nodes = apply_by (constant (Truth true)) (aggregate a.aggregates) a.input c.nodes; scalar = if_values (n ∷ []) (use_list c.scalars) }
+
+abbrev pub ask : Option Folded → Kind → (Scalars → Scalar) → PlanTree → ℕ → Emitted
+ask None kind use_list inner n = asked kind inner n
+ask (Some a) kind use_list inner n = folding a use_list n
+
+-- x IN the value of b
+abbrev pub folded_member : Emitted → Emitted → Emitted
+folded_member a b = record { nodes = joined_nodes a.nodes b.nodes; scalar = word (strict AnyOf) (more a.scalar (more b.scalar none)) }
+
+abbrev pub ask_member : Option Folded → Emitted → PlanTree → ℕ → Emitted
+ask_member None a inner n = asked_member a inner n
+ask_member (Some c) a inner n = folded_member a (folding c first_value (width a.nodes n))
+
+-- A conjunct `name = column` is read as `column = name`.
+abbrev pub turned : Place → Place → Emitted
+turned own other = plain (word (strict (Comparing Equals)) (more (read own) (more (read other) none)))
+
+-- a conjunct that compares a column with a name from outside: the two places, and whether the name is a column's
+pub record Key : Type 0 where
+  pub own : Place
+  pub other : Place
+  pub of_column : Bool
+
+abbrev pub column_key : Env → ℕ → ℕ → ℕ → Key
+column_key e i d j = record { own = e.columns zero i; other = e.columns (suc d) j; of_column = true }
+
+abbrev pub param_key : Env → ℕ → ℕ → Key
+param_key e i j = record { own = e.columns zero i; other = e.params j; of_column = false }
+
+abbrev pub key_of : Expr → Env → Option Key
+key_of (Compare Equals (Column zero i) (Column (suc d) j)) e = Some (column_key e i d j)
+key_of (Compare Equals (Column (suc d) j) (Column zero i)) e = Some (column_key e i d j)
+key_of (Compare Equals (Column zero i) (Variable j)) e = Some (param_key e i j)
+key_of (Compare Equals (Variable j) (Column zero i)) e = Some (param_key e i j)
+key_of _ e = None
+
+-- Such conjuncts raise nothing, so they may wait. Those whose names are parameters come first, and then those whose names are columns: so the
+-- Filters that use outer columns stand in one run, whether parameters are arguments of the plan or columns of a row outside it.
+pub record Waiting : Type 0 where
+  pub params : List Emitted
+  pub columns : List Emitted
+
+abbrev pub none_waits : Waiting
+none_waits = record { params = []; columns = [] }
+
+abbrev pub all_waiting : Waiting → List Emitted
+all_waiting p = p.params ++ p.columns
+
+abbrev pub one_param : Emitted → Waiting → Waiting
+one_param t p = record { params = p.params ++ t ∷ []; columns = p.columns }
+
+abbrev pub one_column : Emitted → Waiting → Waiting
+one_column t p = record { params = p.params; columns = p.columns ++ t ∷ [] }
+
+-- a name that reads NULL needs no row outside
+abbrev pub key_step : Bool → Place → Emitted → (Waiting → ℕ → List Emitted) → Waiting → ℕ → List Emitted
+key_step true (at level i) t rest pending n = rest (one_column t pending) n
+key_step true (given i) t rest pending n = t ∷ rest pending n
+key_step true nowhere t rest pending n = t ∷ rest pending n
+key_step false (at level i) t rest pending n = rest (one_param t pending) n
+key_step false (given i) t rest pending n = rest (one_param t pending) n
+key_step false nowhere t rest pending n = t ∷ rest pending n
+
+-- the rest emits the other conjuncts, from those that wait and the width
+abbrev pub test_step : Option Key → Emitted → (Waiting → ℕ → List Emitted) → Waiting → ℕ → List Emitted
+test_step None a rest pending n = all_waiting pending ++ a ∷ rest none_waits (width a.nodes n)
+test_step (Some key) a rest pending n = key_step key.of_column key.other (turned key.own key.other) rest pending n
+
+-- tests become comparisons with a column
+abbrev pub against : ℕ → Scalars → Scalars
+against p none = none
+against p (more last none) = more last none
+against p (more test (more result arms)) = more (word (strict (Comparing Equals)) (more (column 0 p) (more test none))) (more result (against p arms))
+
+abbrev pub against_on : ℕ → EmittedAll → Emitted
+against_on p a = record { nodes = a.nodes; scalar = word case_word (against p a.scalars) }
+
+abbrev pub called : List ℕ → Emitted → Emitted
+called is body = record { nodes = body.nodes; scalar = if_values is body.scalar }
+
+-- A call of a function that has a plan of its own, as a region that reads its parameters from the k columns from m on of the row outside: it is run
+-- where all of these are values.
+abbrev pub called_region : (ℕ → ℕ → PlanTree) → ℕ → ℕ → Emitted
+called_region region m k = record { nodes = apply_by (all_values (places m k)) single (region m k) no_node; scalar = column 0 (m + k) }
+
+-- conjuncts as one scalar, up to the first that isn't true: and(istrue(..), ..)
+abbrev pub truths : Scalars → Scalars
+truths none = none
+truths (more s ss) = more (word (strict TrueTest) (more s none)) (truths ss)
+
+abbrev pub all_true : Scalars → Scalar
+all_true ss = word and_word (truths ss)
+
+-- for each test its nodes and a Filter
+abbrev pub filters : List Emitted → PlanTree → PlanTree
+filters [] input = input
+filters (a ∷ ags) input = filters ags (filter a.scalar (on_each a.nodes input))
+
+abbrev pub filters_width : List Emitted → ℕ → ℕ
+filters_width [] n = n
+filters_width (a ∷ ags) n = filters_width ags (width a.nodes n)
+
+-- the places, where all are columns of the row itself
+abbrev pub with_place : ℕ → Option (List ℕ) → Option (List ℕ)
+with_place i None = None
+with_place i (Some is) = Some (i ∷ is)
+
+abbrev pub own_places : Scalars → Option (List ℕ)
+own_places none = Some []
+own_places (more (column zero i) ss) = with_place i (own_places ss)
+own_places (more _ ss) = None
+
+-- the list's nodes, its cells, and only these; columns need no cells of their own
+abbrev pub listed_by : Option (List ℕ) → EmittedAll → ℕ → PlanTree → PlanTree
+listed_by (Some is) a n input = keep is (on_each a.nodes input)
+listed_by None a n input = keep (places (width a.nodes n) (scalar_count a.scalars))
+    (on_each (joined_nodes a.nodes (extend_by a.scalars no_node)) input)
+
+abbrev pub listed : EmittedAll → ℕ → PlanTree → PlanTree
+listed a n input = listed_by (own_places a.scalars) a n input
+
+-- tests and then a list on rows of n columns
+abbrev pub selected : (ℕ → List Emitted) → (ℕ → EmittedAll) → ℕ → PlanTree → PlanTree
+selected tests list n input =
+    let ts = tests n in let m = filters_width ts n in listed (list m) m (filters ts input)
+
+abbrev pub nulls : ℕ → Scalars
+nulls zero = none
+nulls (suc k) = more (constant Null) (nulls k)
+
+abbrev pub singly : Emitted → EmittedAll
+singly a = record { nodes = a.nodes; scalars = more a.scalar none }
+
+-- VALUES of several rows: one row for each, with its number, and on each the nodes of all lists; a column is that of the list of this number.
+abbrev pub numbers : ℕ → ℕ → List Scalars
+numbers i zero = []
+numbers i (suc k) = more (constant (Int (pos i))) none ∷ numbers (suc i) k
+
+abbrev pub list_nodes : List EmittedAll → Nodes
+list_nodes [] = no_node
+list_nodes (a ∷ lists) = joined_nodes a.nodes (list_nodes lists)
+
+-- a last result that is a CASE goes on as arms
+abbrev pub else_arms : Scalar → Scalars
+else_arms (word case_word arms) = arms
+else_arms s = more s none
+
+-- on the row of number i the first, else the second
+abbrev pub either_of : ℕ → Scalar → Scalar → Scalar
+either_of i s r = word case_word (more (word (strict (Comparing Equals)) (more (column 0 0) (more (constant (Int (pos i))) none)))
+    (more s (else_arms r)))
+
+abbrev pub either_all : ℕ → Scalars → Scalars → Scalars
+either_all i (more s ss) (more r rs) = more (either_of i s r) (either_all i ss rs)
+either_all i _ _ = none
+
+abbrev pub chosen : ℕ → ℕ → List EmittedAll → Scalars
+chosen k i [] = nulls k
+chosen k i (a ∷ lists) = either_all i a.scalars (chosen k (suc i) lists)
+
+abbrev pub several : ℕ → List EmittedAll → PlanTree
+several k lists = listed (record { nodes = list_nodes lists; scalars = chosen k 0 lists }) 1 (values (numbers 0 (length lists)))
+
+abbrev pub is_plain : Nodes → Bool
+is_plain no_node = true
+is_plain (extend_by ss rest) = false
+is_plain (apply_by when kind inner rest) = false
+
+abbrev pub all_plain : List EmittedAll → Bool
+all_plain [] = true
+all_plain (a ∷ lists) = is_plain a.nodes && all_plain lists
+
+abbrev pub scalars_of : List EmittedAll → List Scalars
+scalars_of [] = []
+scalars_of (a ∷ lists) = a.scalars ∷ scalars_of lists
+
+-- one row on Unit; several without nodes by Values alone
+abbrev pub values_plan : ℕ → List EmittedAll → List EmittedAll → PlanTree
+values_plan k [] lists = several k lists
+values_plan k (a ∷ []) lists = listed a 0 unit_row
+values_plan k (a ∷ b ∷ more_lists) lists = if all_plain (a ∷ b ∷ more_lists) then values (scalars_of (a ∷ b ∷ more_lists)) else several k lists
+
+abbrev mutual
+  pub emit : Expr → (List ℕ → ℕ) → Env → ℕ → Emitted
+  emit (Literal v) S e n = plain (constant v)
+  emit (Column d i) S e n = plain (read (e.columns d i))
+  emit (Variable i) S e n = plain (read (e.params i))
+  emit (Negate x) S e n = word_on (strict Negation) (singly (emit x S e n))
+  emit (Compare comparison x y) S e n = word_on (strict (Comparing comparison)) (first_and (emit x S e n) (λ m. singly (emit y S e m)) n)
+  emit (Chain x links) S e n = emit_links links (emit x S e n) S e n
+  emit (Operate op es) S e n = word_on (strict op) (emit_all es S e n)
+  emit (And es) S e n = word_on and_word (emit_all es S e n)
+  emit (Or es) S e n = word_on or_word (emit_all es S e n)
+  emit (Case arms) S e n = word_on case_word (emit_all arms S e n)
+  emit (CaseOf x test result arms) S e n =
+      then_columns (singly (emit x S e n)) (λ p k. against_on p
+      (first_and (emit test S e (suc p)) (λ m. first_and (emit result S e m) (emit_all arms S e) m) (suc p))) n
+  emit (Coalesce es) S e n = word_on coalesce_word (emit_all es S e n)
+  emit (In x q) S e n = ask_member (folded q S e) (emit x S e n) (plan q S e) n
+  emit (Exists q) S e n = ask (folded q S e) exists row_stands (plan q S e) n
+  emit (Single q) S e n = ask (folded q S e) single first_value (plan q S e) n
+  emit (Call name r es) S e n = then_columns (emit_all es S e n) (λ m k. called (raising es m) (emit_body r S (passed m k) (m + k))) n
+  -- no planned expression calls the function in which it stands
+  emit (CallSelf types es) S e n = plain (constant Null)
+
+  -- goes on from what stands left, on a row of n columns
+  pub emit_links : Links → Emitted → (List ℕ → ℕ) → Env → ℕ → Emitted
+  emit_links NoLink a S e n = a
+  emit_links (MoreLinks operator x links) a S e n =
+      emit_links links (word_on (strict (Arithmetic operator)) (first_and a (λ m. singly (emit x S e m)) n)) S e n
+
+  pub emit_all : Exprs → (List ℕ → ℕ) → Env → ℕ → EmittedAll
+  emit_all NoExpr S e n = no_scalar
+  emit_all (MoreExprs x es) S e n = first_and (emit x S e n) (emit_all es S e) n
+
+  pub emit_rows : Rows → (List ℕ → ℕ) → Env → ℕ → List EmittedAll
+  emit_rows NoRow S e n = []
+  emit_rows (MoreRows es rows) S e n = let a = emit_all es S e n in a ∷ emit_rows rows S e (width a.nodes n)
+
+  pub emit_body : Routine → (List ℕ → ℕ) → Env → ℕ → Emitted
+  emit_body (Function calls_itself types returns x) S e n = emit x S e n
+
+  pub emit_tests : Exprs → (List ℕ → ℕ) → Env → Waiting → ℕ → List Emitted
+  emit_tests NoExpr S e pending n = all_waiting pending
+  emit_tests (MoreExprs x es) S e pending n = test_step (key_of x e) (emit x S e n) (emit_tests es S e) pending n
+
+  -- the environment is that of the rows outside
+  pub plan : Query → (List ℕ → ℕ) → Env → PlanTree
+  plan (Select items from tests) S e =
+      let n = from_width from S in let within = entered e n in
+      selected (emit_tests tests S within none_waits) (emit_all items S within) n (from_plan from S e)
+  plan (Grouped from tests k items ags having list) S e =
+      let n = from_width from S in let within = entered e n in let m = k + length ags in let group_within = entered e m in
+      selected (emit_tests having S group_within none_waits) (emit_all list S group_within) m
+      (filter (all_values (places k (length ags))) (group (places 0 k) (numbered k ags)
+      (selected (emit_tests tests S within none_waits) (emit_all items S within) n (from_plan from S e))))
+  plan (Values rows) S e = values_plan (rows_width rows) (emit_rows rows S (lifted e) 0) (emit_rows rows S (lifted e) 1)
+  plan (Ordered q keys) S e = sort keys (plan q S e)
+
+  pub folded : Query → (List ℕ → ℕ) → Env → Option Folded
+  folded (Grouped from tests zero items (a ∷ ags) NoExpr list) S e =
+      let n = from_width from S in let within = entered e n in let m = suc (length ags) in
+      Some (record {
+        input = selected (emit_tests tests S within none_waits) (emit_all items S within) n (from_plan from S e);
+        aggregates = numbered 0 (a ∷ ags);
+        list = λ p. emit_all list S (folded_env e p m) (p + m);
+      })
+  folded _ S e = None
+
+  pub from_plan : From → (List ℕ → ℕ) → Env → PlanTree
+  from_plan (Table name) S e = scan name (S name)
+  from_plan (Derived q) S e = settle (plan q S e)
+  from_plan (Cross a b) S e = cross (from_plan a S e) (from_plan b S e)
+  from_plan (Inner a b on) S e =
+      let n = from_width a S + from_width b S in
+      settle (keep (places 0 n) (filters (emit_tests on S (entered e n) none_waits n) (cross (from_plan a S e) (from_plan b S e))))
+  from_plan (LeftOuter a b on) S e =
+      let n = from_width a S + from_width b S in let c = emit_all on S (entered e n) n in
+      left_outer c.nodes (all_true c.scalars) (from_width b S) (from_plan a S e) (from_plan b S e)
+
+-- The plan of a function, by itself: one row of one cell, its parameters the arguments.
+abbrev pub routine_plan : Routine → (List ℕ → ℕ) → PlanTree
+routine_plan r S = listed (singly (emit_body r S (top (length (parameters_of r))) 0)) 0 unit_row

@@ -1,0 +1,259 @@
+-- What planned expressions and queries mean by the tables alone: for given tables and rows outside a value or the rows, or the first condition.
+-- The law `means_passing` says that this is what they do.
+use Rattle.std.specs.Prelude.{ℕ, Bool, true, false, if◌then◌else◌, List, [], ◌∷◌, ◌++◌, nat_eq, ◌&&◌, not, Ok}
+use Rattle.sql_values.specs.declared.value.Value.{Value}
+use Rattle.sql_values.specs.declared.value.Value.TheVariants.{Null, Bool as Truth}
+use Rattle.sql_values.specs.Values.{negation_of, is_null, is_true}
+use Rattle.sql_values.specs.Operators.{applied, compared}
+use Rattle.row_types.specs.Rows.{Row}
+use Rattle.row_types.specs.Tables.{Tables, rows_named}
+use Rattle.rel_algebra.specs.Tree.{Expr, Literal, Column, Variable, Negate, Compare, Chain, Operate, And, Or, Case, CaseOf, Coalesce, In, Exists, Single, Call, CallSelf, Links, NoLink, MoreLinks, Exprs, NoExpr, MoreExprs, count, Routine, Function, Rows, NoRow, MoreRows, From, Table, Derived, Cross, Inner, LeftOuter, Query, Select, Grouped, Values, Ordered}
+use Rattle.rel_algebra.specs.Endings.{Ending, ◌>>=◌, ending_of, is_false, equal_values, op_value, value_at, row_at}
+use Rattle.rel_algebra.specs.Groups.{groups, in_order}
+use Rattle.rel_algebra.specs.Joins.{places, numbered, pairs, or_nulls, single_of, exists_of, member_of, group_row, rows_width, from_width, table_width}
+
+-- the tables, and the arguments of the whole query
+pub record Inputs : Type 0 where
+  pub tables : Tables
+  pub args : List Value
+
+-- how many columns each table has
+abbrev pub columns_in : Inputs → List ℕ → ℕ
+columns_in w = table_width w.tables
+
+-- the rows outside, the innermost first, and the values of the parameters
+pub record Scope : Type 0 where
+  pub rows : List Row
+  pub params : List Value
+
+abbrev pub within : Scope → Row → Scope
+within f r = record { rows = r ∷ f.rows; params = f.params }
+
+-- each in turn; the first condition ends it
+abbrev pub each_of : {A B : Type 0} → (A → Ending (List B)) → List A → Ending (List B)
+each_of f [] = Ok []
+each_of f (x ∷ xs) = do
+  ys ← f x
+  zs ← each_of f xs
+  Ok (ys ++ zs)
+
+abbrev pub kept_if : Bool → Row → List Row
+kept_if true r = r ∷ []
+kept_if false r = []
+
+abbrev pub one_row : Ending Row → Ending (List Row)
+one_row e = do
+  r ← e
+  Ok (r ∷ [])
+
+-- the list, where the tests hold
+abbrev pub list_if : Bool → Ending Row → Ending (List Row)
+list_if true list = one_row list
+list_if false list = Ok []
+
+abbrev pub list_where : Ending Bool → Ending Row → Ending (List Row)
+list_where tests list = do
+  b ← tests
+  list_if b list
+
+-- a left row with its right rows
+abbrev pub joined_row : ℕ → (Row → Ending Bool) → List Row → Row → Ending (List Row)
+joined_row n on right l = do
+  ms ← each_of (λ r. do
+    b ← on (l ++ r)
+    Ok (kept_if b (l ++ r))) right
+  Ok (or_nulls l n ms)
+
+abbrev mutual
+  pub ev : Expr → Inputs → Scope → Ending Value
+  ev (Literal v) w f = Ok v
+  ev (Column d i) w f = Ok (value_at (row_at f.rows d) i)
+  ev (Variable i) w f = Ok (value_at f.params i)
+  ev (Negate x) w f = do
+    v ← ev x w f
+    ending_of (negation_of v)
+  ev (Compare comparison x y) w f = do
+    u ← ev x w f
+    v ← ev y w f
+    Ok (compared comparison u v)
+  ev (Chain x links) w f = do
+    v ← ev x w f
+    ev_links links v w f
+  ev (Operate op es) w f = do
+    vs ← ev_all es w f
+    op_value op vs
+  ev (And es) w f = ev_and es (Truth true) w f
+  ev (Or es) w f = ev_or es (Truth false) w f
+  ev (Case arms) w f = ev_case arms is_true w f
+  ev (CaseOf e test result arms) w f = do
+    x ← ev e w f
+    y ← ev test w f
+    if is_true (equal_values x y) then ev result w f else ev_case arms (λ z. is_true (equal_values x z)) w f
+  ev (Coalesce es) w f = ev_coalesce es w f
+  ev (In e q) w f = do
+    x ← ev e w f
+    rows ← answer q w f
+    Ok (member_of x rows)
+  ev (Exists q) w f = do
+    rows ← answer q w f
+    Ok (exists_of rows)
+  ev (Single q) w f = do
+    rows ← answer q w f
+    single_of rows
+  ev (Call name r es) w f = do
+    vs ← ev_all es w f
+    call r vs w
+  -- no planned expression calls the function in which it stands
+  ev (CallSelf types es) w f = Ok Null
+
+  pub ev_links : Links → Value → Inputs → Scope → Ending Value
+  ev_links NoLink v w f = Ok v
+  ev_links (MoreLinks operator x links) v w f = do
+    u ← ev x w f
+    y ← ending_of (applied operator v u)
+    ev_links links y w f
+
+  -- from left to right
+  pub ev_all : Exprs → Inputs → Scope → Ending Row
+  ev_all NoExpr w f = Ok []
+  ev_all (MoreExprs e es) w f = do
+    v ← ev e w f
+    vs ← ev_all es w f
+    Ok (v ∷ vs)
+
+  -- row by row
+  pub ev_rows : Rows → Inputs → Scope → Ending (List Row)
+  ev_rows NoRow w f = Ok []
+  ev_rows (MoreRows es rows) w f = do
+    r ← ev_all es w f
+    rs ← ev_rows rows w f
+    Ok (r ∷ rs)
+
+  -- up to the first that is false; NULL where one before it is
+  pub ev_and : Exprs → Value → Inputs → Scope → Ending Value
+  ev_and NoExpr so_far w f = Ok so_far
+  ev_and (MoreExprs e es) so_far w f = do
+    v ← ev e w f
+    if is_false v then Ok (Truth false) else ev_and es (if is_true v then so_far else Null) w f
+
+  pub ev_or : Exprs → Value → Inputs → Scope → Ending Value
+  ev_or NoExpr so_far w f = Ok so_far
+  ev_or (MoreExprs e es) so_far w f = do
+    v ← ev e w f
+    if is_true v then Ok (Truth true) else ev_or es (if is_false v then so_far else Null) w f
+
+  -- the first result whose test passes
+  pub ev_case : Exprs → (Value → Bool) → Inputs → Scope → Ending Value
+  ev_case NoExpr passes w f = Ok Null
+  ev_case (MoreExprs last NoExpr) passes w f = ev last w f
+  ev_case (MoreExprs test (MoreExprs result arms)) passes w f = do
+    v ← ev test w f
+    if passes v then ev result w f else ev_case arms passes w f
+
+  -- up to the first that isn't NULL
+  pub ev_coalesce : Exprs → Inputs → Scope → Ending Value
+  ev_coalesce NoExpr w f = Ok Null
+  ev_coalesce (MoreExprs e es) w f = do
+    v ← ev e w f
+    if is_null v then ev_coalesce es w f else Ok v
+
+  -- the body is run anew on parameters of its own; it sees no row
+  pub call : Routine → List Value → Inputs → Ending Value
+  call (Function calls_itself types returns e) vs w = ev e w (record { rows = []; params = vs })
+
+  -- whether all conjuncts are true: a row leaves at the first that isn't
+  pub holds : Exprs → Inputs → Scope → Ending Bool
+  holds NoExpr w f = Ok true
+  holds (MoreExprs e es) w f = do
+    v ← ev e w f
+    if is_true v then holds es w f else Ok false
+
+  -- FROM is complete before the first row goes on
+  pub answer : Query → Inputs → Scope → Ending (List Row)
+  answer (Select items from tests) w f = do
+    rows ← from_rows from w f
+    each_of (λ r. list_where (holds tests w (within f r)) (ev_all items w (within f r))) rows
+  answer (Grouped from tests k items ags having list) w f = do
+    rows ← from_rows from w f
+    parts ← each_of (λ r. list_where (holds tests w (within f r)) (ev_all items w (within f r))) rows
+    each_of (λ g. do
+      r ← group_row (numbered k ags) g
+      list_where (holds having w (within f r)) (ev_all list w (within f r))) (groups (places 0 k) parts)
+  answer (Values rows) w f = ev_rows rows w f
+  answer (Ordered q keys) w f = do
+    rows ← answer q w f
+    Ok (in_order keys rows)
+
+  -- the left list is made first, then the right one, and only then the pairs
+  pub from_rows : From → Inputs → Scope → Ending (List Row)
+  from_rows (Table t) w f = Ok (rows_named t w.tables)
+  from_rows (Derived q) w f = answer q w f
+  from_rows (Cross a b) w f = do
+    left ← from_rows a w f
+    right ← from_rows b w f
+    Ok (pairs left right)
+  from_rows (Inner a b on) w f = do
+    left ← from_rows a w f
+    right ← from_rows b w f
+    each_of (λ r. do
+      b ← holds on w (within f r)
+      Ok (kept_if b r)) (pairs left right)
+  from_rows (LeftOuter a b on) w f = do
+    left ← from_rows a w f
+    right ← from_rows b w f
+    each_of (joined_row (from_width b (columns_in w)) (λ r. holds on w (within f r)) right) left
+
+-- these many in each row of VALUES
+abbrev pub all_even : ℕ → Rows → Bool
+all_even n NoRow = true
+all_even n (MoreRows es rows) = nat_eq (count es) n && all_even n rows
+
+-- Which queries have a plan: no function that they call, in turn, calls itself; and the rows of each VALUES are of one length.
+abbrev mutual
+  pub planned_expr : Expr → Bool
+  planned_expr (Literal v) = true
+  planned_expr (Column level i) = true
+  planned_expr (Variable i) = true
+  planned_expr (Negate x) = planned_expr x
+  planned_expr (Compare comparison x y) = planned_expr x && planned_expr y
+  planned_expr (Chain x links) = planned_expr x && planned_links links
+  planned_expr (Operate op es) = planned_all es
+  planned_expr (And es) = planned_all es
+  planned_expr (Or es) = planned_all es
+  planned_expr (Case arms) = planned_all arms
+  planned_expr (CaseOf x test result arms) = planned_expr x && (planned_expr test && (planned_expr result && planned_all arms))
+  planned_expr (Coalesce es) = planned_all es
+  planned_expr (In x q) = planned_expr x && planned q
+  planned_expr (Exists q) = planned q
+  planned_expr (Single q) = planned q
+  planned_expr (Call name r es) = planned_routine r && planned_all es
+  planned_expr (CallSelf types es) = false
+
+  pub planned_links : Links → Bool
+  planned_links NoLink = true
+  planned_links (MoreLinks operator x links) = planned_expr x && planned_links links
+
+  pub planned_all : Exprs → Bool
+  planned_all NoExpr = true
+  planned_all (MoreExprs x es) = planned_expr x && planned_all es
+
+  pub planned_routine : Routine → Bool
+  planned_routine (Function calls_itself types returns x) = not calls_itself && planned_expr x
+
+  pub planned_rows : Rows → Bool
+  planned_rows NoRow = true
+  planned_rows (MoreRows es rows) = planned_all es && planned_rows rows
+
+  pub planned_from : From → Bool
+  planned_from (Table t) = true
+  planned_from (Derived q) = planned q
+  planned_from (Cross a b) = planned_from a && planned_from b
+  planned_from (Inner a b on) = planned_from a && (planned_from b && planned_all on)
+  planned_from (LeftOuter a b on) = planned_from a && (planned_from b && planned_all on)
+
+  pub planned : Query → Bool
+  planned (Select items from tests) = planned_all items && (planned_from from && planned_all tests)
+  planned (Grouped from tests k items ags having list) =
+      planned_from from && (planned_all tests && (planned_all items && (planned_all having && planned_all list)))
+  planned (Values rows) = all_even (rows_width rows) rows && planned_rows rows
+  planned (Ordered q keys) = planned q

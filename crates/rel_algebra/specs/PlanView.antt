@@ -1,0 +1,91 @@
+-- Which plain trees the scalars and plans of the code stand for: a chain of operators stands for nested words.
+use Rattle.std.specs.Prelude.{List, [], ◌∷◌, map}
+use Rattle.sql_values.specs.declared.operators.Operator.{Operator}
+use Rattle.rel_algebra.specs.declared.scalar.Scalar.{Scalar as ScalarCode, fold-Scalar}
+use Rattle.rel_algebra.specs.declared.scalar.Scalar.TheOpen.{Scalar-F, ScalarLink-F}
+use Rattle.rel_algebra.specs.declared.scalar.ScalarLink.{ScalarLink as LinkCode, fold-ScalarLink}
+use Rattle.rel_algebra.specs.declared.scalar.UnaryWord.{UnaryWord}
+use Rattle.rel_algebra.specs.declared.scalar.UnaryWord.TheVariants as unary
+use Rattle.rel_algebra.specs.declared.scalar.ListWord.{ListWord}
+use Rattle.rel_algebra.specs.declared.scalar.ListWord.TheVariants as listed
+use Rattle.rel_algebra.specs.declared.plan.ScalarRow.{ScalarRow}
+use Rattle.rel_algebra.specs.declared.plan.Leaf.{Leaf}
+use Rattle.rel_algebra.specs.declared.plan.Leaf.TheVariants as leaf
+use Rattle.rel_algebra.specs.declared.plan.Node.{Node}
+use Rattle.rel_algebra.specs.declared.plan.Node.TheVariants as node
+use Rattle.rel_algebra.specs.declared.plan.Plan.{Plan}
+use Rattle.rel_algebra.specs.Tree.{Operation, Negation, Arithmetic, Comparing, Opposite, NullTest, TrueTest, FalseTest, AnyOf}
+use Rattle.rel_algebra.specs.Plan.{Word, strict, and_word, or_word, case_word, coalesce_word, Scalar, constant, column, argument, word, Scalars, none, more, PlanTree, unit_row, scan, values, extend, filter, keep}
+
+-- an operator with the plain scalar right of it
+pub record Link : Type 0 where
+  pub operator : Operator
+  pub operand : Scalar
+
+abbrev pub scalars : List Scalar → Scalars
+scalars [] = none
+scalars (s ∷ ss) = more s (scalars ss)
+
+-- operators with what stands right of them, from the left
+abbrev pub chained : Scalar → List Link → Scalar
+chained first [] = first
+chained first (l ∷ ls) = chained (word (strict (Arithmetic l.operator)) (more first (more l.operand none))) ls
+
+abbrev pub unary_operation : UnaryWord → Operation
+unary_operation unary.Negation = Negation
+unary_operation unary.Opposite = Opposite
+unary_operation unary.NullTest = NullTest
+unary_operation unary.TrueTest = TrueTest
+unary_operation unary.FalseTest = FalseTest
+
+abbrev pub list_word : ListWord → Word
+list_word listed.AnyOf = strict AnyOf
+list_word listed.And = and_word
+list_word listed.Or = or_word
+list_word listed.Case = case_word
+list_word listed.Coalesce = coalesce_word
+
+-- one level, with what stands inside already seen as its plain scalar
+abbrev pub scalar_step : Scalar-F Scalar Link → Scalar
+scalar_step (Scalar-F.Constant v) = constant v
+scalar_step (Scalar-F.Column level i) = column level i
+scalar_step (Scalar-F.Argument i) = argument i
+scalar_step (Scalar-F.Unary w s) = word (strict (unary_operation w)) (more s none)
+scalar_step (Scalar-F.Compare comparison a b) = word (strict (Comparing comparison)) (more a (more b none))
+scalar_step (Scalar-F.Chain first rest) = chained first rest
+scalar_step (Scalar-F.Listed w operands) = word (list_word w) (scalars operands)
+
+abbrev pub link_step : ScalarLink-F Scalar Link → Link
+link_step l = record { operator = l.operator; operand = l.operand }
+
+abbrev pub scalar_of : ScalarCode → Scalar
+scalar_of = fold-Scalar Scalar Link scalar_step link_step
+
+abbrev pub link_of : LinkCode → Link
+link_of = fold-ScalarLink Scalar Link scalar_step link_step
+
+abbrev pub scalars_of : List ScalarCode → Scalars
+scalars_of ss = scalars (map scalar_of ss)
+
+-- the lists of Values
+abbrev pub lists_of : List ScalarRow → List Scalars
+lists_of rows = map (λ r. scalars_of r.scalars) rows
+
+abbrev pub leaf_of : Leaf → PlanTree
+leaf_of leaf.Unit = unit_row
+leaf_of (leaf.Scan name columns) = scan name columns
+leaf_of (leaf.Values rows) = values (lists_of rows)
+
+-- a node over its input
+abbrev pub with_node : Node → PlanTree → PlanTree
+with_node (node.Extend ss) input = extend (scalars_of ss) input
+with_node (node.Filter s) input = filter (scalar_of s) input
+with_node (node.Keep places) input = keep places input
+
+-- nodes over an input, the first of them lowest
+abbrev pub with_nodes : List Node → PlanTree → PlanTree
+with_nodes [] input = input
+with_nodes (n ∷ ns) input = with_nodes ns (with_node n input)
+
+abbrev pub tree_of : Plan → PlanTree
+tree_of p = with_nodes p.nodes (leaf_of p.leaf)

@@ -1,0 +1,154 @@
+-- Which queries are simple: each query nested in them, and in the bodies of the functions that they call, names nothing outside itself, or names it
+-- only in one unbroken run of conjuncts `column = name`, without GROUP BY and HAVING.
+use Rattle.std.specs.Prelude.{◌≡◌, ◌⊎◌, ℕ, zero, suc, Bool, true, false, List, ◌∷◌}
+use Rattle.sql_values.specs.declared.operators.Comparison.TheVariants.{Equals}
+use Rattle.rel_algebra.specs.Emit.{plan, routine_plan, top}
+use Rattle.rel_algebra.specs.Joins.{from_width, rows_width}
+use Rattle.rel_algebra.specs.Plain.{all_even}
+use Rattle.rel_algebra.specs.Removal.{all_removable, less, tree_within}
+use Rattle.rel_algebra.specs.Tree.{And, Call, CallSelf, Case, CaseOf, Chain, Coalesce, Column, Compare, Cross, Derived, Exists, Expr, Exprs, From, Function, Grouped, In, Inner, LeftOuter, Links, Literal, MoreExprs, MoreLinks, MoreRows, Negate, NoExpr, NoLink, NoRow, Operate, Or, Ordered, Query, Routine, Rows, Select, Single, Table, Values, Variable}
+
+-- names columns of the k innermost rows alone, and parameters only where p is true
+abbrev mutual
+  pub Names : Expr → ℕ → Bool → Type 0
+  Names (Literal v) k p = Unit {0}
+  Names (Column d i) k p = less d k ≡ true
+  Names (Variable i) k p = p ≡ true
+  Names (Negate x) k p = Names x k p
+  Names (Compare comparison x y) k p = Names x k p × Names y k p
+  Names (Chain x links) k p = Names x k p × NamesLinks links k p
+  Names (Operate op es) k p = NamesAll es k p
+  Names (And es) k p = NamesAll es k p
+  Names (Or es) k p = NamesAll es k p
+  Names (Case arms) k p = NamesAll arms k p
+  Names (CaseOf x test result arms) k p = Names x k p × Names test k p × Names result k p × NamesAll arms k p
+  Names (Coalesce es) k p = NamesAll es k p
+  Names (In x q) k p = Names x k p × NamesQuery q k p
+  Names (Exists q) k p = NamesQuery q k p
+  Names (Single q) k p = NamesQuery q k p
+  Names (Call name r es) k p = NamesBody r × NamesAll es k p
+  Names (CallSelf types es) k p = Unit {0}
+
+  pub NamesLinks : Links → ℕ → Bool → Type 0
+  NamesLinks NoLink k p = Unit {0}
+  NamesLinks (MoreLinks operator x links) k p = Names x k p × NamesLinks links k p
+
+  pub NamesAll : Exprs → ℕ → Bool → Type 0
+  NamesAll NoExpr k p = Unit {0}
+  NamesAll (MoreExprs x es) k p = Names x k p × NamesAll es k p
+
+  -- a body names its parameters and no row outside it
+  pub NamesBody : Routine → Type 0
+  NamesBody (Function calls_itself types returns x) = Names x 0 true
+
+  pub NamesQuery : Query → ℕ → Bool → Type 0
+  NamesQuery (Select items from tests) k p = NamesFrom from k p × NamesAll tests (suc k) p × NamesAll items (suc k) p
+  NamesQuery (Grouped from tests g items ags having list) k p =
+      NamesFrom from k p × NamesAll tests (suc k) p × NamesAll items (suc k) p × NamesAll having (suc k) p × NamesAll list (suc k) p
+  NamesQuery (Values rows) k p = NamesRows rows k p
+  NamesQuery (Ordered q keys) k p = NamesQuery q k p
+
+  pub NamesRows : Rows → ℕ → Bool → Type 0
+  NamesRows NoRow k p = Unit {0}
+  NamesRows (MoreRows es rows) k p = NamesAll es k p × NamesRows rows k p
+
+  pub NamesFrom : From → ℕ → Bool → Type 0
+  NamesFrom (Table t) k p = Unit {0}
+  NamesFrom (Derived q) k p = NamesQuery q k p
+  NamesFrom (Cross a b) k p = NamesFrom a k p × NamesFrom b k p
+  NamesFrom (Inner a b on) k p = NamesFrom a k p × NamesFrom b k p × NamesAll on (suc k) p
+  NamesFrom (LeftOuter a b on) k p = NamesFrom a k p × NamesFrom b k p × NamesAll on (suc k) p
+
+-- column = name or name = column, in a row of n columns
+abbrev pub IsKeyed : Expr → ℕ → Type 0
+IsKeyed (Compare Equals (Column zero i) (Column (suc d) j)) n = less i n ≡ true
+IsKeyed (Compare Equals (Column (suc d) j) (Column zero i)) n = less i n ≡ true
+IsKeyed (Compare Equals (Column zero i) (Variable j)) n = less i n ≡ true
+IsKeyed (Compare Equals (Variable j) (Column zero i)) n = less i n ≡ true
+IsKeyed _ n = ⊥
+
+-- The run, and behind it conjuncts that name nothing outside. Where p is true parameters are arguments of the whole query, which a plan may use
+-- anywhere.
+abbrev pub InRun : Exprs → ℕ → Bool → Type 0
+InRun NoExpr n p = Unit {0}
+InRun (MoreExprs x es) n p = (IsKeyed x n × InRun es n p) ⊎ (Names x 1 p × NamesAll es 1 p)
+
+abbrev pub BeforeRun : Exprs → ℕ → Bool → Type 0
+BeforeRun NoExpr n p = Unit {0}
+BeforeRun (MoreExprs x es) n p = (Names x 1 p × BeforeRun es n p) ⊎ (IsKeyed x n × InRun es n p)
+
+abbrev pub KeyedQuery : Query → (List ℕ → ℕ) → Bool → Type 0
+KeyedQuery (Select items from tests) S p = NamesFrom from 0 p × BeforeRun tests (from_width from S) p × NamesAll items 1 p
+KeyedQuery (Grouped from tests zero items (a ∷ ags) NoExpr list) S p =
+    NamesFrom from 0 p × BeforeRun tests (from_width from S) p × NamesAll items 1 p
+KeyedQuery _ S p = ⊥
+
+-- a nested query of one of the two forms
+abbrev pub Nested : Query → (List ℕ → ℕ) → Bool → Type 0
+Nested q S p = NamesQuery q 0 p ⊎ KeyedQuery q S p
+
+abbrev mutual
+  pub Simple : Expr → (List ℕ → ℕ) → Bool → Type 0
+  Simple (Literal v) S p = Unit {0}
+  Simple (Column d i) S p = Unit {0}
+  Simple (Variable i) S p = Unit {0}
+  Simple (Negate x) S p = Simple x S p
+  Simple (Compare comparison x y) S p = Simple x S p × Simple y S p
+  Simple (Chain x links) S p = Simple x S p × SimpleLinks links S p
+  Simple (Operate op es) S p = SimpleAll es S p
+  Simple (And es) S p = SimpleAll es S p
+  Simple (Or es) S p = SimpleAll es S p
+  Simple (Case arms) S p = SimpleAll arms S p
+  Simple (CaseOf x test result arms) S p = Simple x S p × Simple test S p × Simple result S p × SimpleAll arms S p
+  Simple (Coalesce es) S p = SimpleAll es S p
+  Simple (In x q) S p = Simple x S p × Nested q S p × SimpleQuery q S p
+  Simple (Exists q) S p = Nested q S p × SimpleQuery q S p
+  Simple (Single q) S p = Nested q S p × SimpleQuery q S p
+  Simple (Call name r es) S p = SimpleBody r S × SimpleAll es S p
+  Simple (CallSelf types es) S p = Unit {0}
+
+  pub SimpleLinks : Links → (List ℕ → ℕ) → Bool → Type 0
+  SimpleLinks NoLink S p = Unit {0}
+  SimpleLinks (MoreLinks operator x links) S p = Simple x S p × SimpleLinks links S p
+
+  pub SimpleAll : Exprs → (List ℕ → ℕ) → Bool → Type 0
+  SimpleAll NoExpr S p = Unit {0}
+  SimpleAll (MoreExprs x es) S p = Simple x S p × SimpleAll es S p
+
+  pub SimpleBody : Routine → (List ℕ → ℕ) → Type 0
+  SimpleBody (Function calls_itself types returns x) S = Simple x S false
+
+  pub SimpleQuery : Query → (List ℕ → ℕ) → Bool → Type 0
+  SimpleQuery (Select items from tests) S p =
+      SimpleFrom from S p × SimpleAll tests S p × SimpleAll items S p
+  SimpleQuery (Grouped from tests k items ags having list) S p =
+      SimpleFrom from S p × SimpleAll tests S p × SimpleAll items S p
+      × SimpleAll having S p × SimpleAll list S p
+  -- rows of VALUES have one length
+  SimpleQuery (Values rows) S p = (all_even (rows_width rows) rows ≡ true) × SimpleRows rows S p
+  SimpleQuery (Ordered q keys) S p = SimpleQuery q S p
+
+  pub SimpleRows : Rows → (List ℕ → ℕ) → Bool → Type 0
+  SimpleRows NoRow S p = Unit {0}
+  SimpleRows (MoreRows es rows) S p = SimpleAll es S p × SimpleRows rows S p
+
+  pub SimpleFrom : From → (List ℕ → ℕ) → Bool → Type 0
+  SimpleFrom (Table t) S p = Unit {0}
+  SimpleFrom (Derived q) S p = SimpleQuery q S p
+  SimpleFrom (Cross a b) S p = SimpleFrom a S p × SimpleFrom b S p
+  SimpleFrom (Inner a b on) S p = SimpleFrom a S p × SimpleFrom b S p × SimpleAll on S p
+  SimpleFrom (LeftOuter a b on) S p = SimpleFrom a S p × SimpleFrom b S p × SimpleAll on S p
+
+-- a whole query that names nothing outside itself but arguments uses no outer column; nor does the plan of a function
+pub record ClosedPlans : Type 0 where
+  pub queries : (q : Query) (S : List ℕ → ℕ) (n : ℕ) → NamesQuery q 0 true → tree_within (plan q S (top n)) 0 ≡ true
+  pub routines : (r : Routine) (S : List ℕ → ℕ) → NamesBody r → tree_within (routine_plan r S) 0 ≡ true
+
+-- the same of a function by itself, whose parameters are arguments of its plan
+abbrev pub SimpleRoutine : Routine → (List ℕ → ℕ) → Type 0
+SimpleRoutine (Function calls_itself types returns x) S = Simple x S true
+
+-- each Apply of a simple query's plan can be removed, and each of a function's
+pub record RemovablePlans : Type 0 where
+  pub queries : (q : Query) (S : List ℕ → ℕ) (n : ℕ) → SimpleQuery q S true → all_removable (plan q S (top n)) ≡ true
+  pub routines : (r : Routine) (S : List ℕ → ℕ) → SimpleRoutine r S → all_removable (routine_plan r S) ≡ true

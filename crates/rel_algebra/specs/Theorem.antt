@@ -1,0 +1,96 @@
+-- What the plan of a query is to be.
+use Rattle.std.specs.List.{All}
+use Rattle.std.specs.Prelude.{IsTrue, ◌≡◌, ℕ, zero, suc, true, List, [], ◌∷◌, length, map}
+use Rattle.rel_algebra.specs.Meaning.{answer as does, ask as asks, call as calls, carried}
+use Rattle.sql_values.specs.declared.value.Value.{Value}
+use Rattle.row_types.specs.Cells.{PlanRow, Whole}
+use Rattle.row_types.specs.Rows.{Row, well_kept}
+use Rattle.row_types.specs.Tables.{Tables, rows_named}
+use Rattle.row_types.specs.declared.cell.Cell.{Cell}
+use Rattle.row_types.specs.declared.cell.Cell.TheVariants.{Val}
+use Rattle.rel_algebra.specs.Emit.{Env, Place, at, below, given, nowhere, outward, plan, read, routine_plan, top}
+use Rattle.rel_algebra.specs.Endings.{Ending, cell_end, row_at, value_at}
+use Rattle.rel_algebra.specs.Joins.{table_width}
+use Rattle.rel_algebra.specs.Plain.{Inputs, Scope, answer, columns_in, planned, planned_routine}
+use Rattle.rel_algebra.specs.Plan.{Sight, cell_of, collected, den, shown}
+use Rattle.rel_algebra.specs.Tree.{Query, Routine, parameters_of}
+use Rattle.rel_algebra.specs.World.{Frame, World, frame_of, no_frame, no_self}
+
+-- each row has n values
+abbrev pub AllWide : ℕ → List Row → Type 0
+AllWide n [] = Unit {0}
+AllWide n (r ∷ rs) = (length r ≡ n) × AllWide n rs
+
+-- the rows of each table have its columns
+abbrev pub Fits : Inputs → Type 0
+Fits w = (name : List ℕ) → AllWide (columns_in w name) (rows_named name w.tables)
+
+-- what scalars read beside the row: the rows outside and the arguments
+abbrev pub outside : Inputs → List (List Cell) → Sight
+outside w o = record { rows = o; args = w.args }
+
+-- where an environment says that a column or a parameter is read, there is its value
+abbrev pub Agrees : Env → Sight → Scope → Type 0
+Agrees e s f =
+    ((d i : ℕ) → cell_of (read (e.columns d i)) s ≡ Val (value_at (row_at f.rows d) i))
+    × ((i : ℕ) → cell_of (read (e.params i)) s ≡ Val (value_at f.params i))
+
+-- For all tables, rows outside, arguments, and environments that read the scope from them: what is collected of the plan's rows is the meaning,
+-- the same rows in the same order, or the same first condition.
+abbrev pub Means : Type 0
+Means = (q : Query) (w : Inputs) (o : List (List Cell)) (f : Scope) (e : Env) → planned q ≡ true → Fits w → Agrees e (outside w o) f →
+    collected (den (plan q (columns_in w) e) w o) ≡ answer q w f
+
+-- an environment for rows outside of these widths, whose parameters are the n arguments
+abbrev pub under_columns : List ℕ → ℕ → ℕ → Place
+under_columns [] d i = nowhere
+under_columns (n ∷ ns) zero i = below n i (at 0 i)
+under_columns (n ∷ ns) (suc d) i = outward (under_columns ns d i)
+
+abbrev pub under : List ℕ → ℕ → Env
+under ns n = record { columns = under_columns ns; params = λ i. below n i (given i) }
+
+abbrev pub widths : List Row → List ℕ
+widths rows = map (λ (r : Row). length r) rows
+
+abbrev pub stack : List Row → List (List Cell)
+stack rows = map shown rows
+
+-- the same under any rows outside
+abbrev pub MeansUnder : Type 0
+MeansUnder = (q : Query) (w : Inputs) (rows : List Row) → planned q ≡ true → Fits w →
+    collected (den (plan q (columns_in w) (under (widths rows) (length w.args))) w (stack rows))
+    ≡ answer q w (record { rows = rows; params = w.args })
+
+-- the arguments are the values of the frame
+abbrev pub inputs_of : World → Frame → Inputs
+inputs_of w f = record { tables = w.tables; args = f.variables }
+
+-- a whole query in a frame ends as its plan does, in the world in which it began
+abbrev pub MeansPassing : Type 0
+MeansPassing = (q : Query) (f : Frame) (w : World) → planned q ≡ true → Fits (inputs_of w f) →
+    does q no_self [] f w ≡ carried (collected (den (plan q (table_width w.tables) (top (length f.variables))) (inputs_of w f) [])) w
+
+-- the same of a query that is a statement
+abbrev pub MeansAsked : Type 0
+MeansAsked = (q : Query) (w : World) → planned q ≡ true → Fits (inputs_of w no_frame) →
+    asks q w ≡ carried (collected (den (plan q (table_width w.tables) (top 0)) (inputs_of w no_frame) [])) w
+
+-- of one row of one cell
+abbrev pub one_cell : Cell → List PlanRow
+one_cell c = Whole (c ∷ []) ∷ []
+
+-- The plan of a function has one row of one cell, its value or its area, and a call ends so, in the world in which it began.
+pub record MeansCall (r : Routine) (values : List Value) (w : World) : Type 0 where
+  pub end : Ending Value
+  pub has : den (routine_plan r (table_width w.tables)) (inputs_of w (frame_of values)) [] ≡ one_cell (cell_end end)
+  pub ends : calls r values w ≡ carried end w
+
+abbrev pub FunctionPlans : Type 0
+FunctionPlans = (r : Routine) (values : List Value) (w : World) → planned_routine r ≡ true → length values ≡ length (parameters_of r) →
+    Fits (inputs_of w (frame_of values)) → MeansCall r values w
+
+-- tables whose rows fit have rows of as many values as columns
+abbrev pub KeptTablesFit : Type 0
+KeptTablesFit = (tables : Tables) (args : List Value) → All (λ s. IsTrue (well_kept s.table.columns s.table.key s.table.rows)) tables →
+    Fits (record { tables = tables; args = args })

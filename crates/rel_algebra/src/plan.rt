@@ -1,0 +1,41 @@
+//! Plans: a leaf, which has rows, and a list of nodes, each of which makes rows of the rows below it.
+
+use crate::scalar::Scalar;
+use sql_values::Name;
+use sqlite_items::Items;
+
+/// Scalars that are the cells of one row.
+#[derive(Drop)]
+pub struct ScalarRow {
+    pub scalars: Items<Scalar>,
+}
+
+/// Where a plan's rows come from.
+#[derive(Drop)]
+pub enum Leaf {
+    /// One row without cells.
+    Unit,
+    /// The rows of the table of a name, which has so many columns, in key order.
+    Scan(Name, usize),
+    /// A row for each list of scalars, which are read on a row without cells.
+    Values(Items<ScalarRow>),
+}
+
+/// A node of a plan. A poisoned row passes each of them as it is.
+#[derive(Drop)]
+pub enum Node {
+    /// Each row with the cells of the scalars behind its own. Each scalar is read on the row as it
+    /// came.
+    Extend(Items<Scalar>),
+    /// The rows of which the scalar is true. A row whose test raises stays, poisoned.
+    Filter(Scalar),
+    /// Of each row the cells at these places, in this order.
+    Keep(Items<usize>),
+}
+
+/// A plan: its leaf, and the nodes above it, the lowest first.
+#[derive(Drop)]
+pub struct Plan {
+    pub leaf: Leaf,
+    pub nodes: Items<Node>,
+}

@@ -1,0 +1,122 @@
+//! Rows where scalars read them.
+
+ghost use Rattle.std.specs.Prelude.{◌≡◌, ◌+◌, ◌++◌, [], length, map, IfOk, IfSome};
+ghost use Rattle.row_types.specs.declared.cell.Cell.TheVariants.{Val};
+ghost use Rattle.row_types.specs.Cells.{cell_at, row_of_level};
+ghost use Rattle.row_types.specs.OuterRows.{outer_rows};
+
+use crate::cell::{Cell, copied_cell};
+use crate::row::copied_value;
+use sql_values::{NoMemory, Value};
+use std::alloc::Global;
+use std::marker::Model;
+
+/// The cells of a row where they lie: values, as a table's row has them, and cells that stand after
+/// these. Nothing is copied to see them.
+#[derive(Drop)]
+pub struct RowInSight<'a> {
+    values: &'a [Value],
+    cells: &'a [Cell],
+}
+
+impl<'a> Model for RowInSight<'a> {
+    ghost use Rattle.std.specs.Prelude.{List, map, ◌++◌};
+    ghost use Rattle.row_types.specs.declared.cell.Cell.{Cell as Plain};
+    ghost use Rattle.row_types.specs.declared.cell.Cell.TheVariants.{Val};
+
+    ghost Value = { List Plain };
+
+    ghost view = { λ r. map Val r.values.now ++ r.cells.now };
+}
+
+impl<'a> RowInSight<'a> {
+    /// The row of these values, and of these cells after them.
+    pub fn of(values: &'a [Value], cells: &'a [Cell]) -> RowInSight<'a>
+        ensures { result ≡ map Val values.now ++ cells.now }
+    {
+        RowInSight { values, cells }
+    }
+
+    /// The number of cells.
+    pub fn len(&self) -> usize
+        ensures { result ≡ length self.now }
+    {
+        self.values.len() + self.cells.len()
+    }
+
+    /// The value at a place, where it lies. `None` says nothing of what stands there.
+    #[tactic(auto, using(crate::proofs::Sight::cell_value, crate::proofs::Sight::cell_later, std::proofs::lemmas::Grind::common_steps))]
+    pub fn value(&self, place: usize) -> Option<&'a Value>
+        ensures { IfSome result (λ v. cell_at self.now place ≡ Val v.now) }
+    {
+        let values = self.values;
+        if place < values.len() {
+            Some(&values[place])
+        } else {
+            later_value(self.cells, place - values.len())
+        }
+    }
+
+    /// The cell at a place, once more; NULL where the row has none.
+    #[tactic(auto, using(crate::proofs::Sight::cell_value, crate::proofs::Sight::cell_later, std::proofs::lemmas::Grind::common_steps))]
+    pub fn cell(&self, alloc: Global, place: usize) -> Result<Cell, NoMemory>
+        ensures { IfOk result (λ c. c ≡ cell_at self.now place) }
+    {
+        let values = self.values;
+        if place < values.len() {
+            Ok(Cell::Val(copied_value(&values[place])?))
+        } else {
+            later_cell(alloc, self.cells, place - values.len())
+        }
+    }
+}
+
+// The value at a place, where a value stands there.
+fn later_value(cells: &[Cell], place: usize) -> Option<&Value>
+    ensures { IfSome result (λ v. cell_at cells.now place ≡ Val v.now) }
+{
+    match cells.get(place)? {
+        Cell::Val(value) => Some(value),
+        Cell::Cond(_) => None,
+    }
+}
+
+// The cell at a place, once more; NULL where there is none.
+fn later_cell(alloc: Global, cells: &[Cell], place: usize) -> Result<Cell, NoMemory>
+    ensures { IfOk result (λ c. c ≡ cell_at cells.now place) }
+{
+    match cells.get(place) {
+        Some(cell) => copied_cell(alloc, cell),
+        None => Ok(Cell::Val(Value::Null)),
+    }
+}
+
+/// The rows outside a plan or a scalar, the innermost first.
+#[derive(Drop)]
+pub enum Outer<'a> {
+    /// No row.
+    Outermost,
+    /// A row, which is values and the cells after them, and the rows outside it.
+    Under(&'a [Value], &'a [Cell], &'a Outer<'a>),
+}
+
+/// The cell at a place of the row of a level, the innermost row at level 0; NULL where there is none.
+pub fn outer_cell(
+    alloc: Global,
+    outer: &Outer,
+    level: usize,
+    place: usize,
+) -> Result<Cell, NoMemory>
+    ensures { IfOk result (λ c. c ≡ cell_at (row_of_level (outer_rows outer.now) level) place) }
+{
+    match outer {
+        Outer::Outermost => Ok(Cell::Val(Value::Null)),
+        Outer::Under(values, cells, further) => {
+            if level == 0 {
+                RowInSight::of(values, cells).cell(alloc, place)
+            } else {
+                outer_cell(alloc, further, level - 1, place)
+            }
+        }
+    }
+}

@@ -1,0 +1,44 @@
+use Rattle.std.proofs.Common.{◌≡◌, ◌-◌, ◌≤◌, true, false, map, drop, length}
+use Rattle.sql_values.specs.declared.value.Value.TheVariants.{Bool as Truth}
+use Rattle.row_types.specs.OuterRows.{outer_rows}
+use Rattle.rel_algebra.specs.Plan.{cells_of, values_of, and_cell, or_cell, case_cell, coalesce_cell}
+use Rattle.rel_algebra.specs.PlanView.{scalars_of, link_of}
+use Rattle.scalar_eval.specs.Sights.{sight_of, chained_cell}
+use Rattle.scalar_eval.proofs.Ends.{with_values}
+use Rattle.scalar_eval.proofs.scalars.+eval.Given as goal
+
+abbrev pub invariant-and-loop-operand : goal.invariant-and-loop-operand
+invariant-and-loop-operand l =
+    let s = sight_of l.row (outer_rows l.outer) l.args in
+    and_cell l.so_far (cells_of (scalars_of (drop l.operand-index l.operands)) s) ≡ and_cell (Truth true) (cells_of (scalars_of l.operands) s)
+
+abbrev pub invariant-or-loop-operand : goal.invariant-or-loop-operand
+invariant-or-loop-operand l =
+    let s = sight_of l.row (outer_rows l.outer) l.args in
+    or_cell l.so_far (cells_of (scalars_of (drop l.operand-index l.operands)) s) ≡ or_cell (Truth false) (cells_of (scalars_of l.operands) s)
+
+abbrev pub invariant-case-loop-at : goal.invariant-case-loop-at
+invariant-case-loop-at l =
+    let s = sight_of l.row (outer_rows l.outer) l.args in
+    record {
+      cell : case_cell (cells_of (scalars_of (drop l.at l.operands)) s) ≡ case_cell (cells_of (scalars_of l.operands) s);
+      within : l.at ≤ length l.operands;
+    }
+
+abbrev pub decreases-case-loop-at : goal.decreases-case-loop-at
+decreases-case-loop-at l = length l.operands - l.at
+
+abbrev pub invariant-coalesce-loop-operand : goal.invariant-coalesce-loop-operand
+invariant-coalesce-loop-operand l =
+    let s = sight_of l.row (outer_rows l.outer) l.args in
+    coalesce_cell (cells_of (scalars_of (drop l.operand-index l.operands)) s) ≡ coalesce_cell (cells_of (scalars_of l.operands) s)
+
+abbrev pub invariant-eval_all-loop-operand : goal.invariant-eval_all-loop-operand
+invariant-eval_all-loop-operand l =
+    let s = sight_of l.row (outer_rows l.outer) l.args in
+    with_values l.values.items (values_of (cells_of (scalars_of (drop l.operand-index l.operands)) s)) ≡ values_of (cells_of (scalars_of l.operands) s)
+
+abbrev pub invariant-eval_links-loop-link : goal.invariant-eval_links-loop-link
+invariant-eval_links-loop-link l =
+    let s = sight_of l.row (outer_rows l.outer) l.args in
+    chained_cell l.cell (map link_of (drop l.link-index l.links)) s ≡ chained_cell l.fn.first (map link_of l.links) s

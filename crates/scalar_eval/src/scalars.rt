@@ -1,0 +1,304 @@
+//! Scalars, read on a row.
+
+ghost use Rattle.std.specs.Prelude.{◌≡◌, [], ◌∷◌, IfOk, true, false, map};
+ghost use Rattle.sql_values.specs.declared.value.Value.TheVariants.{Bool as Truth};
+ghost use Rattle.row_types.specs.Cells.{row_cells};
+ghost use Rattle.row_types.specs.OuterRows.{outer_rows};
+ghost use Rattle.rel_algebra.specs.Tree.{AnyOf, Arithmetic};
+ghost use Rattle.rel_algebra.specs.Endings.{op_value};
+ghost use Rattle.rel_algebra.specs.Plan.{cell_of, cells_of, strictly, values_of as values_by, and_cell, or_cell, case_cell, coalesce_cell};
+ghost use Rattle.rel_algebra.specs.PlanView.{scalar_of, scalars_of, chained, link_of};
+ghost use Rattle.scalar_eval.specs.Sights.{sight_of, chained_cell, is_null_cell as is_null_by};
+ghost use Rattle.scalar_eval.specs.Told.{told_of};
+
+use crate::cells::{
+    among, arithmetic_cell, compared_cell, is_false, is_null, is_true, outcome_cell, unary_cell,
+};
+use crate::places::{applied_in_place, argument, column, value_in_place};
+use rel_algebra::{ListWord, Scalar, ScalarLink};
+use row_types::{Cell, Outer, PlanRow, RowInSight, Steps, copied_value};
+use smallvec::SmallVec;
+use sql_conditions::Area;
+use sql_values::{NoMemory, Value};
+use sqlite_items::Boxed;
+use std::alloc::Global;
+use std::sync::ledger::Ledger;
+
+/// The cell of a scalar on a row, under the rows outside it, the innermost first, and the arguments:
+/// its value, or the area that it raises, which stands in the cell. Where a column, an outer column
+/// or an argument isn't there it is NULL, as is an operation on operands of another kind; a poisoned
+/// row has no cells. It takes no step.
+pub fn eval<L: Ledger>(
+    alloc: Global,
+    scalar: &Scalar,
+    row: &PlanRow,
+    outer: &Outer,
+    args: &[Value],
+    steps: &mut Steps<L>,
+) -> Result<Cell, NoMemory>
+    ensures cell { IfOk result (λ c. c ≡ cell_of (scalar_of scalar.now) (sight_of (row_cells row.now) (outer_rows outer.now) args.now)) }
+    ensures steps { steps.new ≡ steps.old }
+{
+    eval_on(alloc, scalar, &row.in_sight(), outer, args)
+}
+
+/// The same on cells where they lie.
+pub fn eval_on(
+    alloc: Global,
+    scalar: &Scalar,
+    row: &RowInSight,
+    outer: &Outer,
+    args: &[Value],
+) -> Result<Cell, NoMemory>
+    ensures { IfOk result (λ c. c ≡ cell_of (scalar_of scalar.now) (sight_of row.now (outer_rows outer.now) args.now)) }
+{
+    match value_in_place(scalar, row, args) {
+        Some(value) => Ok(Cell::Val(copied_value(value)?)),
+        None => eval_any(alloc, scalar, row, outer, args),
+    }
+}
+
+// The same, whatever the scalar is.
+#[cycle(eval)]
+fn eval_any(
+    alloc: Global,
+    scalar: &Scalar,
+    row: &RowInSight,
+    outer: &Outer,
+    args: &[Value],
+) -> Result<Cell, NoMemory>
+    ensures { IfOk result (λ c. c ≡ cell_of (scalar_of scalar.now) (sight_of row.now (outer_rows outer.now) args.now)) }
+{
+    match scalar {
+        Scalar::Constant(value) => Ok(Cell::Val(copied_value(value)?)),
+        Scalar::Column(level, place) => column(alloc, row, outer, *level, *place),
+        Scalar::Argument(place) => Ok(Cell::Val(argument(args, *place)?)),
+        Scalar::Unary(word, operand) => {
+            let cell = eval_any(alloc, operand.get(), row, outer, args)?;
+            unary_cell(alloc, *word, cell)
+        }
+        Scalar::Compare(comparison, left, right) => {
+            let a = eval_any(alloc, left.get(), row, outer, args)?;
+            let b = eval_any(alloc, right.get(), row, outer, args)?;
+            Ok(compared_cell(*comparison, a, b))
+        }
+        Scalar::Chain(first, links) => {
+            let cell = eval_any(alloc, first.get(), row, outer, args)?;
+            eval_links(links.as_slice(), cell, alloc, row, outer, args)
+        }
+        Scalar::Listed(word, operands) => {
+            let operands = operands.as_slice();
+            match word {
+                ListWord::AnyOf => any_of(operands, alloc, row, outer, args),
+                ListWord::And => and(operands, alloc, row, outer, args),
+                ListWord::Or => or(operands, alloc, row, outer, args),
+                ListWord::Case => case(operands, alloc, row, outer, args),
+                ListWord::Coalesce => coalesce(operands, alloc, row, outer, args),
+            }
+        }
+    }
+}
+
+// Goes on from the cell of what stands left.
+#[cycle(eval)]
+fn eval_links(
+    links: &[ScalarLink],
+    first: Cell,
+    alloc: Global,
+    row: &RowInSight,
+    outer: &Outer,
+    args: &[Value],
+) -> Result<Cell, NoMemory>
+    ensures { IfOk result (λ c. c ≡ chained_cell first (map link_of links.now) (sight_of row.now (outer_rows outer.now) args.now)) }
+{
+    let mut cell = first;
+    for link in links {
+        cell = eval_link(link, cell, alloc, row, outer, args)?;
+    }
+    Ok(cell)
+}
+
+// An operator between the cell of what stands left and its right operand, which is read where it
+// lies if it is a value there.
+#[cycle(eval)]
+fn eval_link(
+    link: &ScalarLink,
+    left: Cell,
+    alloc: Global,
+    row: &RowInSight,
+    outer: &Outer,
+    args: &[Value],
+) -> Result<Cell, NoMemory>
+    ensures { IfOk result (λ c. c ≡ strictly (op_value (Arithmetic link.now.operator)) (left ∷ cell_of (scalar_of link.now.operand) (sight_of row.now (outer_rows outer.now) args.now) ∷ [])) }
+{
+    if let Cell::Val(value) = &left {
+        if let Some(outcome) = applied_in_place(link, value, row, args) {
+            return outcome_cell(alloc, outcome);
+        }
+    }
+    let right = eval_any(alloc, &link.operand, row, outer, args)?;
+    arithmetic_cell(alloc, link.operator, left, right)
+}
+
+// The values of scalars, or the first area among their cells.
+#[derive(Drop)]
+enum Told {
+    Values(SmallVec<Value, 4>),
+    Raised(Boxed<Area>),
+}
+
+#[cycle(eval)]
+#[tactic(auto, using(crate::proofs::Ends::with_values_push, crate::proofs::Ends::with_values_ok, crate::proofs::Ends::with_values_err, std::proofs::lemmas::Grind::common_steps))]
+fn eval_all(
+    operands: &[Scalar],
+    alloc: Global,
+    row: &RowInSight,
+    outer: &Outer,
+    args: &[Value],
+) -> Result<Told, NoMemory>
+    ensures { IfOk result (λ t. told_of t ≡ (values_by (cells_of (scalars_of operands.now) (sight_of row.now (outer_rows outer.now) args.now)))) }
+{
+    let mut values = SmallVec::new(alloc);
+    for operand in operands {
+        match eval_any(alloc, operand, row, outer, args)? {
+            Cell::Val(value) => values.push(value)?,
+            Cell::Cond(area) => return Ok(Told::Raised(area)),
+        }
+    }
+    Ok(Told::Values(values))
+}
+
+// The first among the others.
+#[cycle(eval)]
+fn any_of(
+    operands: &[Scalar],
+    alloc: Global,
+    row: &RowInSight,
+    outer: &Outer,
+    args: &[Value],
+) -> Result<Cell, NoMemory>
+    ensures { IfOk result (λ c. c ≡ strictly (op_value AnyOf) (cells_of (scalars_of operands.now) (sight_of row.now (outer_rows outer.now) args.now))) }
+{
+    match eval_all(operands, alloc, row, outer, args)? {
+        Told::Values(values) => match values.as_slice() {
+            [value, list @ ..] => Ok(Cell::Val(among(value, list))),
+            [] => Ok(Cell::Val(Value::Null)),
+        },
+        Told::Raised(area) => Ok(Cell::Cond(area)),
+    }
+}
+
+// AND, up to the first operand that is false.
+#[cycle(eval)]
+fn and(
+    operands: &[Scalar],
+    alloc: Global,
+    row: &RowInSight,
+    outer: &Outer,
+    args: &[Value],
+) -> Result<Cell, NoMemory>
+    ensures { IfOk result (λ c. c ≡ and_cell (Truth true) (cells_of (scalars_of operands.now) (sight_of row.now (outer_rows outer.now) args.now))) }
+{
+    let mut so_far = Value::Bool(true);
+    for operand in operands {
+        match eval_any(alloc, operand, row, outer, args)? {
+            Cell::Val(value) => {
+                if is_false(&value) {
+                    return Ok(Cell::Val(Value::Bool(false)));
+                }
+                if !is_true(&value) {
+                    so_far = Value::Null;
+                }
+            }
+            Cell::Cond(area) => return Ok(Cell::Cond(area)),
+        }
+    }
+    Ok(Cell::Val(so_far))
+}
+
+// OR, up to the first operand that is true.
+#[cycle(eval)]
+fn or(
+    operands: &[Scalar],
+    alloc: Global,
+    row: &RowInSight,
+    outer: &Outer,
+    args: &[Value],
+) -> Result<Cell, NoMemory>
+    ensures { IfOk result (λ c. c ≡ or_cell (Truth false) (cells_of (scalars_of operands.now) (sight_of row.now (outer_rows outer.now) args.now))) }
+{
+    let mut so_far = Value::Bool(false);
+    for operand in operands {
+        match eval_any(alloc, operand, row, outer, args)? {
+            Cell::Val(value) => {
+                if is_true(&value) {
+                    return Ok(Cell::Val(Value::Bool(true)));
+                }
+                if !is_false(&value) {
+                    so_far = Value::Null;
+                }
+            }
+            Cell::Cond(area) => return Ok(Cell::Cond(area)),
+        }
+    }
+    Ok(Cell::Val(so_far))
+}
+
+// Tests and results in turn, up to the first test that is true or raises, and perhaps a last result.
+#[cycle(eval)]
+fn case(
+    operands: &[Scalar],
+    alloc: Global,
+    row: &RowInSight,
+    outer: &Outer,
+    args: &[Value],
+) -> Result<Cell, NoMemory>
+    ensures { IfOk result (λ c. c ≡ case_cell (cells_of (scalars_of operands.now) (sight_of row.now (outer_rows outer.now) args.now))) }
+{
+    let mut at = 0;
+    while operands.len() - at >= 2 {
+        match eval_any(alloc, &operands[at], row, outer, args)? {
+            Cell::Val(value) => {
+                if is_true(&value) {
+                    return eval_any(alloc, &operands[at + 1], row, outer, args);
+                }
+            }
+            Cell::Cond(area) => return Ok(Cell::Cond(area)),
+        }
+        at += 2;
+    }
+    match operands.get(at) {
+        Some(last) => eval_any(alloc, last, row, outer, args),
+        None => Ok(Cell::Val(Value::Null)),
+    }
+}
+
+// The first operand that isn't NULL.
+#[cycle(eval)]
+fn coalesce(
+    operands: &[Scalar],
+    alloc: Global,
+    row: &RowInSight,
+    outer: &Outer,
+    args: &[Value],
+) -> Result<Cell, NoMemory>
+    ensures { IfOk result (λ c. c ≡ coalesce_cell (cells_of (scalars_of operands.now) (sight_of row.now (outer_rows outer.now) args.now))) }
+{
+    for operand in operands {
+        let cell = eval_any(alloc, operand, row, outer, args)?;
+        if !is_null_cell(&cell) {
+            return Ok(cell);
+        }
+    }
+    Ok(Cell::Val(Value::Null))
+}
+
+// Whether a cell is the value NULL.
+fn is_null_cell(cell: &Cell) -> bool
+    ensures { result ≡ is_null_by cell.now }
+{
+    match cell {
+        Cell::Val(value) => is_null(value),
+        Cell::Cond(_) => false,
+    }
+}
