@@ -15,7 +15,8 @@ def timed(command, text, **options):
 
 
 class Sqlite:
-    """sqlite3 over a database in memory. It has no functions of its own making, so a call is written out."""
+    """sqlite3 over a database in memory. It has no functions of its own making, so a call is written out, and SUBSTRING takes places
+    after commas."""
 
     name = "sqlite3"
 
@@ -28,7 +29,7 @@ class Sqlite:
         pass
 
     def run(self, text):
-        script = b"".join(line for line in text.replace(b"f(a)", b"a * a + 1").splitlines(True) if not line.startswith(b"CREATE FUNCTION"))
+        script = b"".join(line for line in text.replace(b"f(a)", b"a * a + 1").replace(b" FROM 3 FOR 6)", b", 3, 6)").splitlines(True) if not line.startswith(b"CREATE FUNCTION"))
         return timed(["sqlite3", ":memory:"], script)
 
 

@@ -4,7 +4,7 @@ use Rattle.std.proofs.lemmas.List.{take_more, drop_more, take_all, append-nil}
 use Rattle.std.proofs.lemmas.List.Edits.{length-insert}
 use Rattle.std.specs.List.{list_all}
 use Rattle.std.specs.Cmp.{IsTotalOrder}
-use Rattle.row_types.specs.Ordered.{in_order, put, put_all, first_repeat, first_repeat_behind, stands, searched}
+use Rattle.row_types.specs.Ordered.{in_order, put, put_all, first_repeat, first_repeat_after, stands, searched}
 use Rattle.row_types.specs.Rows.{Row, by_key, fits}
 use Rattle.row_types.specs.Tables.{Table, Tables, table_at, with_rows, with_rows_at}
 use Rattle.table_store.specs.Kept.{IsKept, CanInsert}
@@ -99,10 +99,10 @@ module _ (m : Memory) (t : ℕ) (new : List Row) (before : List Edit) where
         back = rows_before-append es (Inserted at ∷ []) (so_far (i + 1)) ∙ ap (rows_before es) taken ∙ g.back;
         count = omega arith;
         room = (let r = g.room in omega arith);
-        judged = g.judged ∙ ap (first_repeat_behind (order_in m.tables t) (rows_in m.tables t ++ take i new)) (sym h)
+        judged = g.judged ∙ ap (first_repeat_after (order_in m.tables t) (rows_in m.tables t ++ take i new)) (sym h)
             ∙ repeat_none (order_in m.tables t) total (rows_in m.tables t ++ take i new) row (drop (i + 1) new)
             (sym (stands_so_far i row) ∙ none_stands (order_in m.tables t) total row (so_far i) at rises found)
-            ∙ ap (λ (xs : List Row). first_repeat_behind (order_in m.tables t) xs (drop (i + 1) new)) (append_assoc (rows_in m.tables t) (take i new) (row ∷ []) ∙ ap (λ (xs : List Row). rows_in m.tables t ++ xs) (sym (next i row h w)));
+            ∙ ap (λ (xs : List Row). first_repeat_after (order_in m.tables t) xs (drop (i + 1) new)) (append_assoc (rows_in m.tables t) (take i new) (row ∷ []) ∙ ap (λ (xs : List Row). rows_in m.tables t ++ xs) (sym (next i row h w)));
         capacities = no_less-trans m.capacities n.capacities n'.capacities g.capacities c;
       }
 
@@ -113,17 +113,17 @@ module _ (m : Memory) (t : ℕ) (new : List Row) (before : List Edit) where
 
   pub stands_there : (n : Memory) (i : ℕ) (es : List Edit) (row : Row) (at : ℕ) → t < length m.tables → Going m n t new i before es
       → Ok at ≡ searched (λ x. by_key (table_at n.tables t).key x row) (table_at n.tables t).rows → row ∷ drop (i + 1) new ≡ drop i new
-      → first_repeat_behind (order_in m.tables t) (rows_in m.tables t) new ≡ Some (length (rows_in m.tables t) + i)
+      → first_repeat_after (order_in m.tables t) (rows_in m.tables t) new ≡ Some (length (rows_in m.tables t) + i)
   stands_there n i es row at l g f h =
       let e = held n i es l g in
       let found = found_so n i row (Ok at) e f in
       let count = g.count in
-      g.judged ∙ ap (first_repeat_behind (order_in m.tables t) (rows_in m.tables t ++ take i new)) (sym h)
+      g.judged ∙ ap (first_repeat_after (order_in m.tables t) (rows_in m.tables t ++ take i new)) (sym h)
       ∙ repeat_here (order_in m.tables t) total (rows_in m.tables t ++ take i new) row (drop (i + 1) new) (sym (stands_so_far i row) ∙ one_stands (order_in m.tables t) total row (so_far i) at found)
       ∙ ap (λ k. Some k) (length-append (rows_in m.tables t) (take i new) ∙ ap (λ k. length (rows_in m.tables t) + k) (length-take_to i new count))
 
-  pub none_there : (n : Memory) (i : ℕ) (es : List Edit) → Going m n t new i before es → drop i new ≡ [] → first_repeat_behind (order_in m.tables t) (rows_in m.tables t) new ≡ None
-  none_there n i es g h = g.judged ∙ ap (first_repeat_behind (order_in m.tables t) (rows_in m.tables t ++ take i new)) h
+  pub none_there : (n : Memory) (i : ℕ) (es : List Edit) → Going m n t new i before es → drop i new ≡ [] → first_repeat_after (order_in m.tables t) (rows_in m.tables t) new ≡ None
+  none_there n i es g h = g.judged ∙ ap (first_repeat_after (order_in m.tables t) (rows_in m.tables t ++ take i new)) h
 
   pub none_yet : t < length m.tables → length (rows_in m.tables t) + length new ≤ slice_index m.capacities t → CanUndo (kept_at m t) before → Going m m t new 0 before before
   none_yet l r c = record {
@@ -132,7 +132,7 @@ module _ (m : Memory) (t : ℕ) (new : List Row) (before : List Edit) where
     back = refl;
     count = omega arith;
     room = omega arith;
-    judged = ap (λ (xs : List Row). first_repeat_behind (order_in m.tables t) xs new) (sym (append-nil (rows_in m.tables t)));
+    judged = ap (λ (xs : List Row). first_repeat_after (order_in m.tables t) xs new) (sym (append-nil (rows_in m.tables t)));
     capacities = λ at. omega arith;
   }
 
@@ -166,7 +166,7 @@ answer_before l m n t rows (Err (Constraint at)) e c a = (
 answer_before l m n t rows (Err NoMemory) e c a = record { tables = a.tables ∙ e; capacities = no_less-trans l.capacities m.capacities n.capacities c a.capacities }
 
 module _ (m n : Memory) (t : ℕ) (new : List Row) (es : List Edit) where
-  pub all_in : IsKept (kept_at m t) → Going m n t new (length new) [] es → first_repeat_behind (order_in m.tables t) (rows_in m.tables t) new ≡ None
+  pub all_in : IsKept (kept_at m t) → Going m n t new (length new) [] es → first_repeat_after (order_in m.tables t) (rows_in m.tables t) new ≡ None
       → IsAnswer m n t (rows_in m.tables t ++ new) (Ok es)
   all_in k g h =
       let o = by_key_total (table_at m.tables t).key in
@@ -194,7 +194,7 @@ module _ (m n : Memory) (t : ℕ) (new : List Row) (es : List Edit) where
       )
 
   pub refused_in : (i at : ℕ) (p : Memory) → t < length m.tables → IsKept (kept_at m t) → Going m n t new i [] es
-      → first_repeat_behind (order_in m.tables t) (rows_in m.tables t) new ≡ Some at
+      → first_repeat_after (order_in m.tables t) (rows_in m.tables t) new ≡ Some at
       → p.tables ≡ undo_entry record { table = t; edits = es } n.tables → NoLess n.capacities p.capacities
       → IsAnswer m p t (rows_in m.tables t ++ new) (Err (Constraint at))
   refused_in i at p l k g h e c =

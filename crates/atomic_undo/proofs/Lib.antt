@@ -9,6 +9,7 @@ pub mod Replacing
 pub mod Rekeying
 pub mod Rekeyed
 pub mod Sorting
+pub mod Abbreviated
 pub mod Placing
 pub mod Climbing
-pub mod Behind
+pub mod After

@@ -16,7 +16,7 @@ use Rattle.std.proofs.lemmas.List.Sorted.{All-permutation, IsPermutation-map, Is
 use Rattle.std.specs.Cmp.{IsTotalOrder}
 use Rattle.std.specs.List.{list_all}
 use Rattle.std.specs.List.Sorted.{IsPermutation}
-use Rattle.row_types.specs.Ordered.{is_below_first, rises, stands, searched, first_repeat, first_repeat_behind}
+use Rattle.row_types.specs.Ordered.{is_below_first, rises, stands, searched, first_repeat, first_repeat_after}
 use Rattle.row_types.specs.Rows.{Row, by_key}
 use Rattle.row_types.proofs.Laws.{is_less, err_at, none_stands, rises_before, by_key_total, first_repeat-append}
 use Rattle.table_store.specs.Kept.{Kept, IsKept}
@@ -32,7 +32,7 @@ use Rattle.atomic_undo.specs.Undo.{rows_before}
 use Rattle.atomic_undo.specs.Sorting.{abbreviated, abbreviated_key, numbered_from, have_one_place, row_at, rows_at, IsOrder, PutAlike}
 use Rattle.atomic_undo.proofs.Sorting.{alike, none_among}
 
--- ---- a place behind the last
+-- ---- a place after the last
 
 module _ {X : Type 0} (R : X → X → Ordering) (o : IsTotalOrder R) (xs : List X) (x y : X) (up : rises R xs ≡ true) (some : 0 < length xs) (last : y ≡ get_or xs (length xs - 1) y) (below : R y x ≡ Less) where
   all_below : (k : ℕ) (d : X) → k < length xs → R (get_or xs k d) x ≡ Less
@@ -42,14 +42,14 @@ module _ {X : Type 0} (R : X → X → Ordering) (o : IsTotalOrder R) (xs : List
       (ap (λ z. R z y) (get_or_default xs k d y l) ∙ ap (λ z. R (get_or xs k y) z) last ∙ rises_before R o xs k (length xs - 1) y up (omega arith) (omega arith)) below)
       (cases_eq k (length xs - 1))
 
-  pub behind_last : searched (λ z. R z x) xs ≡ Err (length xs)
-  behind_last = err_at (λ z. R z x) xs (length xs) (omega arith) all_below (λ k d h m. absurd (omega arith))
+  pub after_last : searched (λ z. R z x) xs ≡ Err (length xs)
+  after_last = err_at (λ z. R z x) xs (length xs) (omega arith) all_below (λ k d h m. absurd (omega arith))
 
 -- the same of a table
-pub behind_table : (k : Kept) (x y : Row) → IsKept k → 0 < length k.table.rows → y ≡ get_or k.table.rows (length k.table.rows - 1) y → is_lt (by_key k.table.key y x) ≡ true
+pub after_table : (k : Kept) (x y : Row) → IsKept k → 0 < length k.table.rows → y ≡ get_or k.table.rows (length k.table.rows - 1) y → is_lt (by_key k.table.key y x) ≡ true
     → searched (λ r. by_key k.table.key r x) k.table.rows ≡ Err (length k.table.rows)
-behind_table k x y h some last below =
-    behind_last (by_key k.table.key) (by_key_total k.table.key) k.table.rows x y (kept_rises k.table.columns k.table.key k.table.rows h.rows) some last (is_less (by_key k.table.key y x) below)
+after_table k x y h some last below =
+    after_last (by_key k.table.key) (by_key_total k.table.key) k.table.rows x y (kept_rises k.table.columns k.table.key k.table.rows h.rows) some last (is_less (by_key k.table.key y x) below)
 
 -- ---- whether a list rises, one after another
 
@@ -69,7 +69,7 @@ module _ {X : Type 0} (R : X → X → Ordering) where
   pub rises_end : (xs : List X) (i : ℕ) → length xs ≤ i → rises R (drop (i - 1) xs) ≡ true
   rises_end xs i l = one_rises (drop (i - 1) xs) (let h = length-drop (i - 1) xs in omega arith)
 
-  -- lists that rise, one behind the other
+  -- lists that rise, one after the other
   pub rises_joined : (xs : List X) (y : X) (ys : List X) (z : X) → rises R xs ≡ true → rises R (y ∷ ys) ≡ true → 0 < length xs → z ≡ get_or xs (length xs - 1) z → rises R (xs ++ y ∷ ys) ≡ is_lt (R z y)
   rises_joined [] y ys z h k l e = absurd (omega arith)
   rises_joined (x ∷ []) y ys z h k l e = ap (λ b. is_lt (R x y) && b) k ∙ and-true (is_lt (R x y)) ∙ ap (λ w. is_lt (R w y)) (sym e)
@@ -81,20 +81,20 @@ module _ {X : Type 0} (R : X → X → Ordering) where
       arith_last n = omega arith
 
 -- the rows of a table and others that rise
-pub behind_rows : (R : Row → Row → Ordering) (xs ys : List Row) (y z : Row) → rises R xs ≡ true → rises R ys ≡ true → 0 < length xs → 0 < length ys → z ≡ get_or xs (length xs - 1) z → y ≡ get_or ys 0 y
+pub after_rows : (R : Row → Row → Ordering) (xs ys : List Row) (y z : Row) → rises R xs ≡ true → rises R ys ≡ true → 0 < length xs → 0 < length ys → z ≡ get_or xs (length xs - 1) z → y ≡ get_or ys 0 y
     → rises R (xs ++ ys) ≡ is_lt (R z y)
-behind_rows R xs [] y z h k l m e f = absurd (omega arith)
-behind_rows R xs (v ∷ vs) y z h k l m e f = rises_joined R xs v vs z h k l e ∙ ap (λ w. is_lt (R z w)) (sym f)
+after_rows R xs [] y z h k l m e f = absurd (omega arith)
+after_rows R xs (v ∷ vs) y z h k l m e f = rises_joined R xs v vs z h k l e ∙ ap (λ w. is_lt (R z w)) (sym f)
 
-pub nothing_behind : (R : Row → Row → Ordering) (xs ys : List Row) → rises R xs ≡ true → length ys ≡ 0 → rises R (xs ++ ys) ≡ true
-nothing_behind R xs [] h l = ap (rises R) (append-nil xs) ∙ h
-nothing_behind R xs (y ∷ ys) h l = absurd (omega arith)
+pub nothing_after : (R : Row → Row → Ordering) (xs ys : List Row) → rises R xs ≡ true → length ys ≡ 0 → rises R (xs ++ ys) ≡ true
+nothing_after R xs [] h l = ap (rises R) (append-nil xs) ∙ h
+nothing_after R xs (y ∷ ys) h l = absurd (omega arith)
 
 pub nothing_before : (R : Row → Row → Ordering) (xs ys : List Row) → rises R ys ≡ true → length xs ≡ 0 → rises R (xs ++ ys) ≡ true
 nothing_before R [] ys h l = h
 nothing_before R (x ∷ xs) ys h l = absurd (omega arith)
 
--- ---- rows gone through from behind
+-- ---- rows gone through from the last
 
 rows_from : (rows : List Row) (ps : List Placed) (i : ℕ) (p : Placed) → i < length ps → rows_at rows (drop i ps) ≡ row_at rows (get_or ps i p) ∷ rows_at rows (drop (i + 1) ps)
 rows_from rows ps i p l = ap (rows_at rows) (drop_more ps i p l)
@@ -215,7 +215,7 @@ none_free k xs h up free =
     let R = by_key k.table.key in
     let o = by_key_total k.table.key in
     let r = kept_rises k.table.columns k.table.key k.table.rows h.rows in
-    first_repeat-append R o k.table.rows xs r ∙ ap (λ (ys : List Row). first_repeat_behind R ys xs) (sym (append-nil k.table.rows)) ∙ none_among R o k.table.rows r [] xs up free
+    first_repeat-append R o k.table.rows xs r ∙ ap (λ (ys : List Row). first_repeat_after R ys xs) (sym (append-nil k.table.rows)) ∙ none_among R o k.table.rows r [] xs up free
 
 -- the answer to rows in key order is that to the rows in their own
 pub answer_alike : (m n : Memory) (t : ℕ) (xs ys : List Row) (r : Result (List Edit) ApplyFault) → PutAlike (order_in m.tables t) (rows_in m.tables t) xs ys

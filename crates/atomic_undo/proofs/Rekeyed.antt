@@ -3,7 +3,7 @@ use Rattle.std.proofs.Common.{Bool, ℕ, suc, ◌≡◌, ◌<◌, ◌≤◌, ◌
 use Rattle.std.proofs.lemmas.List.{take_all}
 use Rattle.std.proofs.lemmas.List.Edits.{length-remove}
 use Rattle.std.specs.List.{list_all}
-use Rattle.row_types.specs.Ordered.{in_order, put_all, first_repeat, first_repeat_behind, rises}
+use Rattle.row_types.specs.Ordered.{in_order, put_all, first_repeat, first_repeat_after, rises}
 use Rattle.row_types.specs.declared.ColumnType.{ColumnType}
 use Rattle.row_types.specs.Rows.{Row, by_key, fits}
 use Rattle.row_types.specs.Tables.{Table, Tables, table_at, with_rows, with_rows_at}
@@ -103,9 +103,9 @@ refused_for m n q t l places new before out es i b g w c e h =
     let same_order : order_in n.tables t ≡ R = ap (λ (x : Table). by_key x.key) here in
     let up : rises R (in_order R result) ≡ true = rises_from_none R o [] result refl h in
     let into : rises R (put_all R (in_order R rest) new) ≡ true = ap (rises R) (sym (update_order_back R o places new (rows_in m.tables t) e c up)) ∙ up in
-    let none : first_repeat_behind R rest new ≡ None = repeat_none-rises R o rest new into in
-    let told : first_repeat_behind (order_in n.tables t) (rows_in n.tables t) new ≡ first_repeat_behind R rest new =
-    ap (λ r. first_repeat_behind r (rows_in n.tables t) new) same_order ∙ ap (λ (xs : List Row). first_repeat_behind R xs new) g.rows in
+    let none : first_repeat_after R rest new ≡ None = repeat_none-rises R o rest new into in
+    let told : first_repeat_after (order_in n.tables t) (rows_in n.tables t) new ≡ first_repeat_after R rest new =
+    ap (λ r. first_repeat_after r (rows_in n.tables t) new) same_order ∙ ap (λ (xs : List Row). first_repeat_after R xs new) g.rows in
     let some = w.1 in
     let both : Some (length (rows_in n.tables t) + i) ≡ None = sym some ∙ told ∙ none in
     cc
@@ -157,10 +157,10 @@ climb_back m p t k places ps u e a c =
 pub found_alone : (m n : Memory) (rows : List Row) (before es : List Edit) (key : List ℕ) (r : Option ℕ) → rows_in m.tables 0 ≡ [] → (table_at m.tables 0).key ≡ key → WentIn m n 0 rows before es r
     → r ≡ first_repeat (by_key key) rows
 found_alone m n rows before es key None e k w =
-    sym (ap (λ (x : List ℕ). first_repeat_behind (by_key x) [] rows) (sym k) ∙ ap (λ (xs : List Row). first_repeat_behind (order_in m.tables 0) xs rows) (sym e) ∙ w.1)
+    sym (ap (λ (x : List ℕ). first_repeat_after (by_key x) [] rows) (sym k) ∙ ap (λ (xs : List Row). first_repeat_after (order_in m.tables 0) xs rows) (sym e) ∙ w.1)
 found_alone m n rows before es key (Some i) e k w =
     let z : length (rows_in m.tables 0) + i ≡ i = (let h = ap (λ (xs : List Row). length xs) e in omega arith) in
-    sym (ap (λ (x : List ℕ). first_repeat_behind (by_key x) [] rows) (sym k) ∙ ap (λ (xs : List Row). first_repeat_behind (order_in m.tables 0) xs rows) (sym e) ∙ w.1 ∙ ap (λ j. Some j) z)
+    sym (ap (λ (x : List ℕ). first_repeat_after (by_key x) [] rows) (sym k) ∙ ap (λ (xs : List Row). first_repeat_after (order_in m.tables 0) xs rows) (sym e) ∙ w.1 ∙ ap (λ j. Some j) z)
 
 pub all_set_all : (p : Row → Bool) (ps : List ℕ) (rs rows : List Row) → list_all p rs ≡ true → list_all p rows ≡ true → list_all p (set_all ps rs rows) ≡ true
 all_set_all p [] rs rows h k = k

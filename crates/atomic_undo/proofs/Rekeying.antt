@@ -91,9 +91,9 @@ module _ (R : Row → Row → Ordering) (o : IsTotalOrder R) where
       ∙ placed n down rs cut (omega arith) (omega arith) climb (ap (λ (xs : List Row). rises R (put_all R (in_order R xs) rs)) same ∙ s.1)
       ∙ ap (λ (xs : List Row). put_all R (in_order R xs) rs) same in
       let far : stands R r (remove before p) ≡ false = sym (stands-put_all r [] (remove before p)) ∙ ap (stands R r) joined ∙ s.0 in
-      let behind : stands R r (drop (suc p) before) ≡ false =
+      let after : stands R r (drop (suc p) before) ≡ false =
       (or_parts (stands R r (take p before)) (stands R r (drop (suc p) before)) (sym (list_any-append (λ y. is_eq (R y r)) (take p before) (drop (suc p) before)) ∙ far)).1 in
-      ap (in_order R) (set_split before p r w) ∙ in_order-middle R o (take p before) r (drop (suc p) before) behind ∙ ap (put R r) joined ∙ sym turned
+      ap (in_order R) (set_split before p r w) ∙ in_order-middle R o (take p before) r (drop (suc p) before) after ∙ ap (put R r) joined ∙ sym turned
 
   pub update_order : (ps : List ℕ) (rs rows : List Row) → length ps ≡ length rs → Climb 0 ps (length rows)
       → rises R (put_all R (in_order R (removed_all ps rows)) rs) ≡ true → in_order R (set_all ps rs rows) ≡ put_all R (in_order R (removed_all ps rows)) rs
@@ -113,11 +113,11 @@ module _ (R : Row → Row → Ordering) (o : IsTotalOrder R) where
       let rest = removed_all (p ∷ ps) rows in
       let others = put_all R (in_order R rest) rs in
       let front = take p before in
-      let behind = drop (suc p) before in
-      let split : set before p r ≡ front ++ r ∷ behind = set_split before p r w in
-      let up : rises R (in_order R (front ++ r ∷ behind)) ≡ true = ap (λ (xs : List Row). rises R (in_order R xs)) (sym split) ∙ h in
-      let far : stands R r behind ≡ false = put_all-apart R o r (in_order R front) behind (ap (rises R) (sym (put_all-append R o [] front (r ∷ behind))) ∙ up) in
-      let mid : in_order R (front ++ r ∷ behind) ≡ put R r (in_order R (remove before p)) = in_order-middle R o front r behind far in
+      let after = drop (suc p) before in
+      let split : set before p r ≡ front ++ r ∷ after = set_split before p r w in
+      let up : rises R (in_order R (front ++ r ∷ after)) ≡ true = ap (λ (xs : List Row). rises R (in_order R xs)) (sym split) ∙ h in
+      let far : stands R r after ≡ false = put_all-apart R o r (in_order R front) after (ap (rises R) (sym (put_all-append R o [] front (r ∷ after))) ∙ up) in
+      let mid : in_order R (front ++ r ∷ after) ≡ put R r (in_order R (remove before p)) = in_order-middle R o front r after far in
       let s = stands_out R o r (in_order R (remove before p)) (ap (rises R) (sym mid) ∙ up) in
       let cut = remove rows p in
       let short : length cut + 1 ≡ length rows = length-remove rows p there in

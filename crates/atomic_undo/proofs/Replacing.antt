@@ -49,7 +49,7 @@ module _ (R : Row → Row → Ordering) where
   stay-last (q ∷ qs) (s ∷ ss) p r rows e h =
       stay-last qs ss p r rows (omega arith) ((and_parts (is_eq (R s (get_or rows q s))) (keys_stay R (qs ++ p ∷ []) (ss ++ r ∷ []) rows) h).1)
 
-  -- a row behind all the places doesn't matter
+  -- a row after all the places doesn't matter
   pub stay-set : (low : ℕ) (ps : List ℕ) (rs rows : List Row) (at : ℕ) (row : Row) → Climb low ps at → keys_stay R ps rs (set rows at row) ≡ keys_stay R ps rs rows
   stay-set low [] rs rows at row h = refl
   stay-set low (p ∷ ps) [] rows at row h = refl

@@ -9,7 +9,7 @@ use Rattle.std.specs.Cmp.{IsTotalOrder}
 use Rattle.std.specs.List.{Contains, list_all, sum_by}
 use Rattle.std.specs.List.Sorted.{IsPermutation}
 use Rattle.std.specs.Ordering.{ordering_reverse}
-use Rattle.row_types.specs.Ordered.{rises, put, put_all, in_order, stands, first_repeat_behind}
+use Rattle.row_types.specs.Ordered.{rises, put, put_all, in_order, stands, first_repeat_after}
 use Rattle.std.proofs.lemmas.Bool.{and_parts, and_from, or_from, or_parts}
 use Rattle.std.proofs.lemmas.List.Folds.{list_any-append, list_all-append}
 use Rattle.row_types.proofs.Laws.{is_less, first-below, tail-rises, not_tied_above, repeat_none, rises_from_none, in_order-rises, in_order-append, first_repeat-append}
@@ -93,7 +93,7 @@ module _ {X : Type 0} (R : X → X → Ordering) (o : IsTotalOrder R) where
       (λ f. let a : ties x y ≡ 0 = ap (λ b. cond b 1 0) f in let r = ties_once x ys (tail-rises R o y ys h) in omega arith)
 
   -- where one at most ties with each, none ties with an earlier one
-  pub none_from_ties : (seen xs : List X) → ((x : X) → sum_by (ties x) seen + sum_by (ties x) xs ≤ 1) → first_repeat_behind R seen xs ≡ None
+  pub none_from_ties : (seen xs : List X) → ((x : X) → sum_by (ties x) seen + sum_by (ties x) xs ≤ 1) → first_repeat_after R seen xs ≡ None
   none_from_ties seen [] f = refl
   none_from_ties seen (x ∷ xs) f = cases (stands R x seen)
       (λ t. absurd (let a = ties_some x seen t in let b = f x in let s = sum_by-cons (ties x) x xs in
@@ -130,10 +130,10 @@ module _ {X : Type 0} (R : X → X → Ordering) (o : IsTotalOrder R) where
   heads x y xs ys h k (inr i) (inr j) =
       absurd (one_way x y (all_in (λ z. is_lt (R x z)) xs y (first-below R o x xs h) j) (all_in (λ z. is_lt (R y z)) ys x (first-below R o y ys k) i))
 
-  behind : (x y : X) (xs ys : List X) → rises R (x ∷ xs) ≡ true → x ≡ y → (z : X) → In xs z → In (y ∷ ys) z → In ys z
-  behind x y xs ys h e z i (inl f) =
+  after : (x y : X) (xs ys : List X) → rises R (x ∷ xs) ≡ true → x ≡ y → (z : X) → In xs z → In (y ∷ ys) z → In ys z
+  after x y xs ys h e z i (inl f) =
       absurd (not_itself z (ap (λ w. is_lt (R w z)) (sym (e ∙ f)) ∙ all_in (λ w. is_lt (R x w)) xs z (first-below R o x xs h) i))
-  behind x y xs ys h e z i (inr j) = j
+  after x y xs ys h e z i (inr j) = j
 
   pub one_order : (xs ys : List X) → rises R xs ≡ true → rises R ys ≡ true → ((z : X) → In xs z → In ys z) → ((z : X) → In ys z → In xs z) → xs ≡ ys
   one_order [] [] h k f g = refl
@@ -142,7 +142,7 @@ module _ {X : Type 0} (R : X → X → Ordering) (o : IsTotalOrder R) where
   one_order (x ∷ xs) (y ∷ ys) h k f g =
       let e : x ≡ y = heads x y xs ys h k (f x (inl refl)) (g y (inl refl)) in
       ap (λ w. w ∷ xs) e
-      ∙ ap (λ (ws : List X). y ∷ ws) (one_order xs ys (tail-rises R o x xs h) (tail-rises R o y ys k) (λ z i. behind x y xs ys h e z i (f z (inr i))) (λ z i. behind y x ys xs k (sym e) z i (g z (inr i))))
+      ∙ ap (λ (ws : List X). y ∷ ws) (one_order xs ys (tail-rises R o x xs h) (tail-rises R o y ys k) (λ z i. after x y xs ys h e z i (f z (inr i))) (λ z i. after y x ys xs k (sym e) z i (g z (inr i))))
 
   pub risen_alike : (xs ys : List X) → rises R xs ≡ true → rises R ys ≡ true → IsPermutation xs ys → xs ≡ ys
   risen_alike xs ys h k p = one_order xs ys h k (in_permutation xs ys p) (in_permutation ys xs (IsPermutation-sym xs ys p))
@@ -150,12 +150,12 @@ module _ {X : Type 0} (R : X → X → Ordering) (o : IsTotalOrder R) where
   -- ---- new ones in two orders
 
   module _ (old : List X) (r : rises R old ≡ true) where
-    rises_put : (xs : List X) → first_repeat_behind R old xs ≡ None → rises R (put_all R old xs) ≡ true
+    rises_put : (xs : List X) → first_repeat_after R old xs ≡ None → rises R (put_all R old xs) ≡ true
     rises_put xs n =
         let i : in_order R old ≡ old = in_order-rises R o old r in
         ap (λ (zs : List X). rises R (put_all R zs xs)) (sym i) ∙ rises_from_none R o old xs (ap (rises R) i ∙ r) n
 
-    put_alike : (xs ys : List X) → IsPermutation xs ys → first_repeat_behind R old xs ≡ None → (first_repeat_behind R old ys ≡ None) × (put_all R old xs ≡ put_all R old ys)
+    put_alike : (xs ys : List X) → IsPermutation xs ys → first_repeat_after R old xs ≡ None → (first_repeat_after R old ys ≡ None) × (put_all R old xs ≡ put_all R old ys)
     put_alike xs ys p n =
         let up = rises_put xs n in
         let first = permutation-put_all old xs in
@@ -163,39 +163,39 @@ module _ {X : Type 0} (R : X → X → Ordering) (o : IsTotalOrder R) where
         let moved : IsPermutation (put_all R old xs) (put_all R old ys) =
         IsPermutation-trans (put_all R old xs) (old ++ ys) (put_all R old ys)
         (IsPermutation-trans (put_all R old xs) (old ++ xs) (old ++ ys) (IsPermutation-sym (old ++ xs) (put_all R old xs) first) (IsPermutation-append_right old xs ys p)) second in
-        let none : first_repeat_behind R old ys ≡ None = none_from_ties old ys
+        let none : first_repeat_after R old ys ≡ None = none_from_ties old ys
         (λ x. let a = ties_once x (put_all R old xs) up in
         let b = sum_by-IsPermutation (ties x) (put_all R old xs) (put_all R old ys) moved in
         let c = sum_by-IsPermutation (ties x) (old ++ ys) (put_all R old ys) second in
         let d = sum_by-append (ties x) old ys in omega arith) in
         (none, risen_alike (put_all R old xs) (put_all R old ys) up (rises_put ys none) moved)
 
-    pub alike : (xs ys : List X) → IsPermutation xs ys → first_repeat_behind R old xs ≡ None → PutAlike R old xs ys
+    pub alike : (xs ys : List X) → IsPermutation xs ys → first_repeat_after R old xs ≡ None → PutAlike R old xs ys
     alike xs ys p n =
         let a = put_alike xs ys p n in (
           first_repeat-append R o old xs r ∙ n ∙ sym (first_repeat-append R o old ys r ∙ a.0),
           λ _. in_order-append R o old xs r ∙ a.1 ∙ sym (in_order-append R o old ys r),
         )
 
-    -- in a list that rises, what stands behind is above all before
-    pub behind-above : (xs : List X) (x : X) (ys : List X) → rises R (xs ++ x ∷ ys) ≡ true → list_all (λ y. is_lt (R y x)) xs ≡ true
-    behind-above [] x ys h = refl
-    behind-above (z ∷ zs) x ys h =
+    -- in a list that rises, what stands after is above all before
+    pub after-above : (xs : List X) (x : X) (ys : List X) → rises R (xs ++ x ∷ ys) ≡ true → list_all (λ y. is_lt (R y x)) xs ≡ true
+    after-above [] x ys h = refl
+    after-above (z ∷ zs) x ys h =
         let below = λ (y : X). is_lt (R z y) in
         let b = sym (list_all-append below zs (x ∷ ys)) ∙ first-below R o z (zs ++ x ∷ ys) h in
         and_from (is_lt (R z x)) (list_all (λ y. is_lt (R y x)) zs)
         (and_parts (is_lt (R z x)) (list_all below ys) (and_parts (list_all below zs) (list_all below (x ∷ ys)) b).1).0
-        (behind-above zs x ys (tail-rises R o z (zs ++ x ∷ ys) h))
+        (after-above zs x ys (tail-rises R o z (zs ++ x ∷ ys) h))
 
     -- those that rise, none of which stands among the old ones
-    pub none_among : (front xs : List X) → rises R (front ++ xs) ≡ true → list_all (λ x. not (stands R x old)) xs ≡ true → first_repeat_behind R (old ++ front) xs ≡ None
+    pub none_among : (front xs : List X) → rises R (front ++ xs) ≡ true → list_all (λ x. not (stands R x old)) xs ≡ true → first_repeat_after R (old ++ front) xs ≡ None
     none_among front [] h k = refl
     none_among front (x ∷ xs) h k =
         let n : stands R x old ≡ false = not_false (stands R x old) ((and_parts (not (stands R x old)) (list_all (λ y. not (stands R y old)) xs) k).0) in
         let s : stands R x (old ++ front) ≡ false =
-        list_any-append (λ y. is_eq (R y x)) old front ∙ or_from (stands R x old) (stands R x front) n (not_tied_above R o x front (behind-above front x xs h)) in
+        list_any-append (λ y. is_eq (R y x)) old front ∙ or_from (stands R x old) (stands R x front) n (not_tied_above R o x front (after-above front x xs h)) in
         repeat_none R o (old ++ front) x xs s
-        ∙ ap (λ (zs : List X). first_repeat_behind R zs xs) (append_assoc old front (x ∷ []))
+        ∙ ap (λ (zs : List X). first_repeat_after R zs xs) (append_assoc old front (x ∷ []))
         ∙ none_among (front ++ x ∷ []) xs (ap (rises R) (append_assoc front (x ∷ []) xs) ∙ h) ((and_parts (not (stands R x old)) (list_all (λ y. not (stands R y old)) xs) k).1)
       where
         not_false : (b : Bool) → not b ≡ true → b ≡ false

@@ -82,6 +82,6 @@ drop-push zero xs x l = refl
 drop-push (suc m) [] x l = absurd (omega arith)
 drop-push (suc m) (y ∷ ys) x l = drop-push m ys x (omega arith)
 
--- an entry behind a mark is taken back first
+-- an entry after a mark is taken back first
 pub back_to-push : (m : ℕ) (es : List Entry) (e : Entry) (ts : Tables) → m ≤ length es → back_to m (es ++ e ∷ []) ts ≡ back_to m es (undo_entry e ts)
 back_to-push m es e ts l = ap (λ (xs : List Entry). undone xs ts) (drop-push m es e l) ∙ undone-append (drop m es) (e ∷ []) ts

@@ -4,7 +4,7 @@ use Rattle.std.specs.Prelude.{Bool, true, ◌&&◌, slice_index_or, ℕ, suc, �
 use Rattle.std.specs.List.{remove, list_all}
 use Rattle.std.specs.Ordering.{is_eq}
 use Rattle.std.specs.declared.cmp.Ordering.{Ordering}
-use Rattle.row_types.specs.Ordered.{in_order, put_all, first_repeat, first_repeat_behind}
+use Rattle.row_types.specs.Ordered.{in_order, put_all, first_repeat, first_repeat_after}
 use Rattle.row_types.specs.Rows.{Row, by_key, fits}
 use Rattle.row_types.specs.Tables.{Tables, table_at, with_rows_at}
 use Rattle.table_store.specs.Kept.{IsKept}
@@ -59,13 +59,13 @@ pub record Going (m n : Memory) (t : ℕ) (new : List Row) (i : ℕ) (before es 
   pub back : rows_before es (put_all (order_in m.tables t) (rows_in m.tables t) (take i new)) ≡ rows_before before (rows_in m.tables t)
   pub count : i ≤ length new
   pub room : length (put_all (order_in m.tables t) (rows_in m.tables t) (take i new)) + (length new - i) ≤ slice_index n.capacities t
-  pub judged : first_repeat_behind (order_in m.tables t) (rows_in m.tables t) new ≡ first_repeat_behind (order_in m.tables t) (rows_in m.tables t ++ take i new) (drop i new)
+  pub judged : first_repeat_after (order_in m.tables t) (rows_in m.tables t) new ≡ first_repeat_after (order_in m.tables t) (rows_in m.tables t ++ take i new) (drop i new)
   pub capacities : NoLess m.capacities n.capacities
 
 -- new rows went in one after another: all of them, or those before the first whose key stands there
 abbrev pub WentIn : Memory → Memory → ℕ → List Row → List Edit → List Edit → Option ℕ → Type 0
-WentIn m n t new before es None = Going m n t new (length new) before es × (first_repeat_behind (order_in m.tables t) (rows_in m.tables t) new ≡ None)
-WentIn m n t new before es (Some i) = Going m n t new i before es × (first_repeat_behind (order_in m.tables t) (rows_in m.tables t) new ≡ Some (length (rows_in m.tables t) + i))
+WentIn m n t new before es None = Going m n t new (length new) before es × (first_repeat_after (order_in m.tables t) (rows_in m.tables t) new ≡ None)
+WentIn m n t new before es (Some i) = Going m n t new i before es × (first_repeat_after (order_in m.tables t) (rows_in m.tables t) new ≡ Some (length (rows_in m.tables t) + i))
 
 -- places increase, from one number on and below another
 abbrev pub Climb : ℕ → List ℕ → ℕ → Type 0

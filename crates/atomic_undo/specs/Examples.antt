@@ -1,7 +1,10 @@
 -- Worked rows: what changes leave, where they are refused, and what taking them back gives.
-use Rattle.std.specs.Prelude.{◌≡◌, ℕ, pos, false, List, [], ◌∷◌, ◌++◌, Some, None, codes}
+use Rattle.std.specs.Prelude.{◌≡◌, ℕ, pos, true, false, List, [], ◌∷◌, ◌++◌, Some, None, codes}
 use Rattle.std.proofs.Common.{refl}
-use Rattle.sql_values.specs.declared.value.Value.TheVariants.{Int}
+use Rattle.sql_values.specs.declared.value.Value.TheVariants.{Int, Str}
+use Rattle.sql_values.specs.declared.value.SqlType.{SqlType}
+use Rattle.sql_values.specs.declared.value.SqlType.TheVariants.{Integer, Varchar}
+use Rattle.row_types.specs.declared.ColumnType.{ColumnType}
 use Rattle.row_types.specs.Ordered.{in_order, first_repeat}
 use Rattle.row_types.specs.Rows.{Row, by_key}
 use Rattle.row_types.specs.Tables.{Tables}
@@ -9,7 +12,7 @@ use Rattle.atomic_undo.specs.declared.log.Edit.TheVariants.{Inserted, Appended, 
 use Rattle.atomic_undo.specs.declared.log.Entry.{Entry}
 use Rattle.atomic_undo.specs.Undo.{rows_before, back_to}
 use Rattle.atomic_undo.specs.Changes.{removed_all, set_all, keys_stay}
-use Rattle.atomic_undo.specs.Sorting.{PutAlike}
+use Rattle.atomic_undo.specs.Sorting.{abbreviated, is_abbreviated_whole, PutAlike}
 
 -- a key and a value
 abbrev row : ℕ → ℕ → Row
@@ -43,18 +46,34 @@ inserted = refl
 alike : PutAlike (by_key (0 ∷ [])) three (row 2 0 ∷ row 4 0 ∷ []) (row 4 0 ∷ row 2 0 ∷ [])
 alike = (refl, λ _. refl)
 
+-- texts are abbreviated to their first characters, so that their keys aren't sorted by these alone
+abbreviated_text : abbreviated (Str (codes "ba")) ≡ pos 98
+abbreviated_text = refl
+
+abbrev column : SqlType → ColumnType
+column t = record { name = codes "K"; data_type = t; not_null = true }
+
+by_numbers_alone : is_abbreviated_whole (column Integer ∷ []) (0 ∷ []) ≡ true
+by_numbers_alone = refl
+
+not_by_texts_alone : is_abbreviated_whole (column (Varchar 3) ∷ []) (0 ∷ []) ≡ false
+not_by_texts_alone = refl
+
+not_by_the_first_alone : is_abbreviated_whole (column Integer ∷ column Integer ∷ []) (0 ∷ 1 ∷ []) ≡ false
+not_by_the_first_alone = refl
+
 -- that INSERT taken back: the row that went in last goes out first
 taken_back : rows_before (Inserted 2 ∷ Inserted 1 ∷ []) (row 1 10 ∷ row 2 0 ∷ row 3 30 ∷ row 4 0 ∷ row 5 50 ∷ []) ≡ three
 taken_back = refl
 
--- rows behind the others, taken back in one go
+-- rows after the others, taken back in one go
 cut_off : rows_before (Appended 1 ∷ []) (row 1 10 ∷ row 3 30 ∷ row 5 50 ∷ []) ≡ row 1 10 ∷ []
 cut_off = refl
 
 brought_back : rows_before (Removed 2 (row 5 50) ∷ Replaced 0 (row 1 10) ∷ []) (row 1 11 ∷ row 3 30 ∷ []) ≡ three
 brought_back = refl
 
--- two marks: behind the first entry, and before it
+-- two marks: after the first entry, and before it
 abbrev tables : List Row → Tables
 tables rows = record { name = codes "T"; table = record { columns = []; key = 0 ∷ []; rows = rows } } ∷ []
 

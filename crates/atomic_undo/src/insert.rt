@@ -11,7 +11,7 @@ ghost use Rattle.atomic_undo.specs.Changes.{order_in, rows_in, IsAnswer, WentIn}
 
 use crate::fault::ApplyFault;
 use crate::log::{Edit, Entry};
-use crate::sorted::{do_rise, in_key_order, place_in, rise_behind};
+use crate::sorted::{do_rise, in_key_order, place_in, rise_after};
 use crate::undo::undo_all;
 use row_types::Row;
 use sql_values::NoMemory;
@@ -50,8 +50,8 @@ pub fn insert_each(
     None
 }
 
-// Puts new rows behind those of a table, where all their keys rise. There is memory for all.
-fn insert_behind(tables: &mut Tables, table: usize, new: Vec<Row>, edits: &mut Vec<Edit>)
+// Puts new rows after those of a table, where all their keys rise. There is memory for all.
+fn insert_after(tables: &mut Tables, table: usize, new: Vec<Row>, edits: &mut Vec<Edit>)
     requires there { table < length tables.old.tables }
     requires fit { list_all (fits (table_at tables.old.tables table).columns (table_at tables.old.tables table).key) new.items ≡ true }
     requires room { length (rows_in tables.old.tables table) + vec_len new ≤ slice_index tables.old.capacities table }
@@ -85,8 +85,8 @@ fn insert_in_turn(
     let Ok(()) = tables.reserve(table, new.len()) else {
         return Err(ApplyFault::NoMemory);
     };
-    if rise && rise_behind(tables.table_at(table), &new) {
-        insert_behind(tables, table, new, &mut edits);
+    if rise && rise_after(tables.table_at(table), &new) {
+        insert_after(tables, table, new, &mut edits);
         return Ok(Items::from_vec(edits));
     }
     match insert_each(tables, table, new, &mut edits) {

@@ -13,7 +13,7 @@ use std::marker::Model;
 pub enum Edit {
     /// A row went in at this place.
     Inserted(usize),
-    /// Rows went in behind the others, from this place on.
+    /// Rows went in after the others, from this place on.
     Appended(usize),
     /// The row at this place went out.
     Removed(usize, Row),
@@ -84,7 +84,7 @@ impl Log {
         *self.list.allocator()
     }
 
-    // Whether there are entries behind a mark.
+    // Whether there are entries after a mark.
     pub fn goes_past(&self, mark: Mark) -> bool
         ensures { IsTrue result ↔ (mark < length self.now.entries) }
     {

@@ -1,16 +1,16 @@
-//! New rows in key order, so that each goes in behind the last where the table has no greater key.
+//! New rows in key order, so that each goes in after the last where the table has no greater key.
 
-ghost use Rattle.std.specs.Prelude.{◌≡◌, ◌<◌, ◌++◌, drop, length, IfOk, IsTrue, None, true};
+ghost use Rattle.std.specs.Prelude.{◌≡◌, ◌<◌, ◌++◌, drop, length, pos, slice_index_or, IfOk, IsTrue, None, true};
 ghost use Rattle.std.specs.List.{All, IsDistinct};
 ghost use Rattle.std.specs.List.Sorted.{IsPermutation};
 ghost use Rattle.std.specs.Ordering.{is_lt};
 ghost use Rattle.row_types.specs.Ordered.{searched, first_repeat, is_below_first, rises};
 ghost use Rattle.row_types.specs.Rows.{by_key};
 ghost use Rattle.table_store.specs.Kept.{IsKept};
-ghost use Rattle.atomic_undo.specs.Sorting.{abbreviated as abbreviated_by, abbreviated_key as abbreviated_key_by, numbered_from, by_abbreviated, rows_at as rows_at_by, have_one_place, IsOrder, PutAlike};
+ghost use Rattle.atomic_undo.specs.Sorting.{abbreviated as abbreviated_by, abbreviated_key as abbreviated_key_by, is_without_texts as is_without_texts_by, is_abbreviated_whole as is_abbreviated_whole_by, numbered_from, by_abbreviated, rows_at as rows_at_by, have_one_place, IsOrder, PutAlike};
 
 use row_types::{Row, order_by_key};
-use sql_values::{NoMemory, Value};
+use sql_values::{NoMemory, SqlType, Text, Value};
 use sqlite_items::Items;
 use std::alloc::Global;
 use std::cmp::Ordering;
@@ -57,8 +57,8 @@ pub fn do_rise(rows: &[Row], key: &[usize]) -> bool
     true
 }
 
-/// Whether rows whose keys rise go on rising behind those of a table.
-pub fn rise_behind(table: &Table, rows: &[Row]) -> bool
+/// Whether rows whose keys rise go on rising after those of a table.
+pub fn rise_after(table: &Table, rows: &[Row]) -> bool
     requires { rises (by_key table.now.table.key) rows.now ≡ true }
     ensures { result ≡ rises (by_key table.now.table.key) (table.now.table.rows ++ rows.now) }
 {
@@ -85,7 +85,18 @@ pub fn place_in(table: &Table, row: &Row) -> Result<usize, usize>
     table.place_of(row)
 }
 
-// A number that rises with a value, among the values of a column that takes no NULL.
+// The first character of a text as a number; 0 where it has none.
+fn first_character(text: &Text) -> i64
+    ensures { result ≡ pos (slice_index_or text.now 0 0) }
+{
+    match text.as_str().chars().next() {
+        Some(character) => character as i64,
+        None => 0,
+    }
+}
+
+// A number that rises with a value, among the values of a column that takes no NULL. Texts of one
+// first character have one number.
 fn abbreviated(value: &Value) -> i64
     ensures { result ≡ abbreviated_by value.now }
 {
@@ -93,6 +104,7 @@ fn abbreviated(value: &Value) -> i64
         Value::Null => 0,
         Value::Bool(truth) => *truth as i64,
         Value::Int(number) => *number,
+        Value::Str(text) => first_character(text),
     }
 }
 
@@ -136,12 +148,42 @@ fn order_placed(a: &Placed, b: &Placed, rows: &[Row], key: &[usize]) -> Ordering
     }
 }
 
-// The places of rows, sorted by the keys of the rows.
-fn sorted_places(alloc: Global, rows: &[Row], key: &[usize]) -> Result<Vec<Placed>, NoMemory>
+// Whether a type has no texts.
+fn is_without_texts(data_type: SqlType) -> bool
+    ensures { result ≡ is_without_texts_by data_type }
+{
+    match data_type {
+        SqlType::Varchar(_) => false,
+        _ => true,
+    }
+}
+
+// Whether abbreviated keys say all that the keys do: a key of one column, which has no texts.
+fn is_abbreviated_whole(table: &Table) -> bool
+    ensures { result ≡ is_abbreviated_whole_by table.now.table.columns table.now.table.key }
+{
+    let key = table.key();
+    if key.len() != 1 {
+        return false;
+    }
+    match table.columns().get(key[0]) {
+        Some(column) => is_without_texts(column.data_type),
+        None => false,
+    }
+}
+
+// The places of rows, sorted by the keys of the rows. Where the abbreviated keys say all, nothing
+// else is looked at.
+fn sorted_places(
+    alloc: Global,
+    rows: &[Row],
+    key: &[usize],
+    by_abbreviated_alone: bool,
+) -> Result<Vec<Placed>, NoMemory>
     ensures { IfOk result (λ v. IsOrder key.now rows.now v.items) }
 {
     let mut placed = numbered(alloc, rows, key)?;
-    if key.len() == 1 {
+    if by_abbreviated_alone {
         placed.sort_by_key(|one| one.abbreviated)?;
     } else {
         placed.sort_by(|a, b| order_placed(a, b, rows, key))?;
@@ -162,7 +204,7 @@ fn is_below_next(row: &Row, rows: &[Row], placed: &[Placed], next: usize, key: &
 }
 
 // Whether the keys of the rows at places rise and none of them stands in the table. The places are
-// gone through from behind.
+// gone through from the last.
 fn may_go_in(table: &Table, rows: &[Row], placed: &[Placed]) -> bool
     requires { All (λ p. p.place < length rows.now) placed.now }
     ensures once { IsTrue result → first_repeat (by_key table.now.table.key) (table.now.table.rows ++ rows_at_by rows.now placed.now) ≡ None }
@@ -205,7 +247,7 @@ pub fn in_key_order(alloc: Global, table: &Table, new: Vec<Row>) -> Result<InOrd
     ensures rise { IfOk result (λ v. IsTrue v.rise → rises (by_key table.now.table.key) v.rows.items ≡ true) }
 {
     let _rows = table.len();
-    let placed = sorted_places(alloc, &new, table.key())?;
+    let placed = sorted_places(alloc, &new, table.key(), is_abbreviated_whole(table))?;
     if may_go_in(table, &new, &placed) {
         let rows = rows_at(alloc, new, &placed)?;
         Ok(InOrder { rows, rise: true })

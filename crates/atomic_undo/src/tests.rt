@@ -9,7 +9,7 @@ ghost use Rattle.atomic_undo.specs.Applying.{IsFor};
 
 use crate::{ApplyFault, Changes, Log, Mark, apply, roll_back};
 use row_types::{ColumnType, Row, RowType, fits};
-use sql_values::{Name, NoMemory, SqlType, Value};
+use sql_values::{MOST_TEXT, Name, NoMemory, SqlType, Text, Value};
 use sqlite_items::Items;
 use std::alloc::Global;
 use table_store::{Table, Tables};
@@ -195,4 +195,88 @@ fn all(alloc: Global) -> Result<bool, NoMemory> {
 #[test]
 fn changes_are_made_and_taken_back(rt: HostRuntime) {
     assert!(rt; all(rt.alloc()) == Ok(true));
+}
+
+fn text(alloc: Global, characters: &str) -> Result<Value, NoMemory> {
+    let owned = characters.to_string(alloc)?;
+    if owned.as_str().chars().count() > MOST_TEXT {
+        return Err(NoMemory);
+    }
+    Ok(Value::Str(Text::of(alloc, owned)?))
+}
+
+fn text_rows(alloc: Global, keys: &[&str]) -> Result<Vec<Row>, NoMemory> {
+    let mut rows = Vec::new(alloc);
+    for key in keys {
+        let mut row = Items::new(alloc);
+        row.push(text(alloc, key)?)?;
+        rows.push(row)?;
+    }
+    Ok(rows)
+}
+
+// The only table: texts of at most three characters, which are the key.
+fn text_table(alloc: Global) -> Result<Tables, NoMemory> {
+    let mut columns = Items::new(alloc);
+    columns.push(ColumnType {
+        name: Name::folded(alloc, b"k")?,
+        data_type: SqlType::Varchar(3),
+        not_null: true,
+    })?;
+    let key = Items::from_slice(alloc, &[0])?;
+    let mut tables = Tables::new(alloc);
+    let table = Table::new(alloc, RowType { columns, key });
+    tables.add_table(Name::folded(alloc, b"t")?, table)?;
+    Ok(tables)
+}
+
+fn holds_texts(tables: &Tables, keys: &[&str]) -> bool {
+    if tables.len() == 0 {
+        return false;
+    }
+    let table = tables.table_at(0);
+    if table.len() != keys.len() {
+        return false;
+    }
+    for i in 0..table.len() {
+        match table.row_at(i).get(0) {
+            Some(Value::Str(text)) if text.as_str() == keys[i] => {}
+            _ => return false,
+        }
+    }
+    true
+}
+
+// Texts go in out of order and in order, take new keys, are refused, and go out again.
+fn all_texts(alloc: Global) -> Result<bool, NoMemory> {
+    let mut tables = text_table(alloc)?;
+    let mut log = Log::new(alloc);
+    let start = log.mark();
+    let new = Changes::Insert(text_rows(alloc, &["b", "ab", "é", "a", "aaa"])?);
+    if change(&mut tables, &mut log, new) != Ok(5)
+        || !holds_texts(&tables, &["a", "aaa", "ab", "b", "é"])
+    {
+        return Ok(false);
+    }
+    let moved = Changes::Update(places(alloc, &[0])?, text_rows(alloc, &["c"])?);
+    if change(&mut tables, &mut log, moved) != Ok(1)
+        || !holds_texts(&tables, &["aaa", "ab", "b", "c", "é"])
+    {
+        return Ok(false);
+    }
+    let twice = Changes::Insert(text_rows(alloc, &["zz", "ab"])?);
+    if change(&mut tables, &mut log, twice) != Err(ApplyFault::Constraint(6)) {
+        return Ok(false);
+    }
+    let long = Changes::Insert(text_rows(alloc, &["long"])?);
+    if change(&mut tables, &mut log, long) != Err(ApplyFault::NoMemory) {
+        return Ok(false);
+    }
+    roll_back(&mut tables, &mut log, start);
+    Ok(holds_texts(&tables, &[]))
+}
+
+#[test]
+fn texts_are_keys(rt: HostRuntime) {
+    assert!(rt; all_texts(rt.alloc()) == Ok(true));
 }

@@ -40,7 +40,7 @@ pub fn undo_all(tables: &mut Tables, entry: Entry)
     }
 }
 
-/// Takes all changes behind a mark back. For each earlier mark, what a roll back to it would give
+/// Takes all changes after a mark back. For each earlier mark, what a roll back to it would give
 /// stays.
 pub fn roll_back(tables: &mut Tables, log: &mut Log, mark: Mark)
     requires mark { mark ≤ length log.old.entries }

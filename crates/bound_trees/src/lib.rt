@@ -4,5 +4,5 @@
 mod expr;
 mod statement;
 
-pub use expr::{BoundExpr, BoundLink};
+pub use expr::{BoundExpr, BoundLink, BoundOperation};
 pub use statement::{BoundFrom, BoundInsert, BoundQuery, BoundRow, BoundSelect};

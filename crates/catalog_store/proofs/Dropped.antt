@@ -8,11 +8,12 @@ use Rattle.catalog_store.specs.declared.entry.Object.{Object as HeldObject}
 use Rattle.catalog_store.specs.declared.entry.Object.TheVariants.{Table, Function as FunctionRecord}
 use Rattle.catalog_store.specs.Catalog.{Object, Catalog, object_named}
 use Rattle.catalog_store.specs.Calls.{CallPlace, names_called, calls_in}
-use Rattle.catalog_store.specs.Entries.{object_of, entry_of, with_all, ObjectFits, AreSound}
+use Rattle.catalog_store.specs.Entries.{object_of, entry_of, with_all, ObjectFits, Stands, AreSound}
 use Rattle.catalog_store.specs.Users.{mentions, is_user, users_of, without}
 use Rattle.catalog_store.proofs.Named.{bytes_self, bytes_swap, other_bytes, named_kept, named_after, named_more, named_less, without_none, without_front, without_last}
 use Rattle.catalog_store.proofs.Sound.{Held, grown, SameCalls, same_object, same_fits}
 use Rattle.catalog_store.proofs.Trees.{Same}
+use Rattle.catalog_store.proofs.Lasting.{AllLasting, lasting_more, same_planned}
 
 -- an entry in memory that uses a name
 abbrev pub held_user : List ℕ → Held → Bool
@@ -86,27 +87,33 @@ same_without name known (FunctionRecord r) fits h =
 mentions_not : (name : List ℕ) (e : Held) → bytes_eq e.0 name ≡ false → held_user name e ≡ false → mentions name (object_of [] e.1) ≡ false
 mentions_not name e apart h = ap (λ b. not b && mentions name (object_of [] e.1)) (sym apart) ∙ h
 
+stands_without : (name : List ℕ) (known : Catalog) (o : HeldObject) → AllLasting known → SameCalls known (without name known) o → Stands known o → Stands (without name known) o
+stands_without name known o all same stands = record {
+  fits = same_fits known (without name known) o same stands.fits;
+  planned = same_planned known (without name known) o all same stands.planned;
+}
+
 -- entries behind one that goes stand for what they stood for
-behind : (name : List ℕ) (known : Catalog) (es : List Held) (o : Object) → object_named name known ≡ Some o → length (filter (held_user name) es) ≡ 0 → AreSound known es →
+behind : (name : List ℕ) (known : Catalog) (es : List Held) (o : Object) → AllLasting known → object_named name known ≡ Some o → length (filter (held_user name) es) ≡ 0 → AreSound known es →
     AreSound (without name known) es × (with_all (without name known) es ≡ without name (with_all known es))
-behind name known [] o stands unused sound = (tt, refl)
-behind name known (e ∷ es) o stands unused sound =
+behind name known [] o all stands unused sound = (tt, refl)
+behind name known (e ∷ es) o all stands unused sound =
     let differ : ¬ (e.0 ≡ name) = λ q. let t : object_named name known ≡ None = subst (λ (n : List ℕ). object_named n known ≡ None) q sound.0 in cc in
     let apart : bytes_eq e.0 name ≡ false = other_bytes e.0 name differ in
-    let same = same_without name known e.1 sound.1 (mentions_not name e apart (first_unused name e es unused)) in
+    let same = same_without name known e.1 sound.1.fits (mentions_not name e apart (first_unused name e es unused)) in
     let less : without name (grown known e) ≡ grown (without name known) e =
     without_front name known (entry_of known e.0 e.1 ∷ []) o stands
     ∙ ap (λ (x : Object). without name known ++ record { name = e.0; object = x } ∷ []) (sym (same_object known (without name known) e.1 same)) in
-    let rest = behind name (grown known e) es o (named_kept name known (entry_of known e.0 e.1 ∷ []) o stands) (others_unused name e es unused) sound.2 in (
-      (named_less name e.0 known differ ∙ sound.0, same_fits known (without name known) e.1 same sound.1, subst (λ (k : Catalog). AreSound k es) less rest.0),
+    let rest = behind name (grown known e) es o (lasting_more known e all) (named_kept name known (entry_of known e.0 e.1 ∷ []) o stands) (others_unused name e es unused) sound.2 in (
+      (named_less name e.0 known differ ∙ sound.0, stands_without name known e.1 all same sound.1, subst (λ (k : Catalog). AreSound k es) less rest.0),
       ap (λ (k : Catalog). with_all k es) (sym less) ∙ rest.1,
     )
 
 -- the entries without that of a name are sound, and stand for the catalog without it
-pub dropped : (name : List ℕ) (known : Catalog) (es : List Held) → object_named name known ≡ None → length (filter (held_user name) es) ≡ 0 → AreSound known es →
+pub dropped : (name : List ℕ) (known : Catalog) (es : List Held) → AllLasting known → object_named name known ≡ None → length (filter (held_user name) es) ≡ 0 → AreSound known es →
     AreSound known (remove_entry (bytes_eq name) es) × (with_all known (remove_entry (bytes_eq name) es) ≡ without name (with_all known es))
-dropped name known [] none unused sound = (tt, sym (without_none name known none))
-dropped name known (e ∷ es) none unused sound = by (bytes_eq name e.0) refl (λ h. dropped name (grown known e) es h (others_unused name e es unused) sound.2)
+dropped name known [] all none unused sound = (tt, sym (without_none name known none))
+dropped name known (e ∷ es) all none unused sound = by (bytes_eq name e.0) refl (λ h. dropped name (grown known e) es (lasting_more known e all) h (others_unused name e es unused) sound.2)
   where
     by : (b : Bool) → bytes_eq name e.0 ≡ b →
         (object_named name (grown known e) ≡ None → AreSound (grown known e) (remove_entry (bytes_eq name) es) × (with_all (grown known e) (remove_entry (bytes_eq name) es) ≡ without name (with_all (grown known e) es))) →
@@ -116,7 +123,7 @@ dropped name known (e ∷ es) none unused sound = by (bytes_eq name e.0) refl (�
         let stands : object_named name (grown known e) ≡ Some (object_of known e.1) =
         named_after name known (entry_of known e.0 e.1 ∷ []) none ∙ ap (λ (b : Bool). cond b (Some (object_of known e.1)) None) here in
         let gone = without_last name known (entry_of known e.0 e.1) none here in
-        let after = behind name (grown known e) es (object_of known e.1) stands (others_unused name e es unused) sound.2 in
+        let after = behind name (grown known e) es (object_of known e.1) (lasting_more known e all) stands (others_unused name e es unused) sound.2 in
         (subst (λ (k : Catalog). AreSound k es) gone after.0, ap (λ (k : Catalog). with_all k es) (sym gone) ∙ after.1)
     by false q rest =
         let r = rest (named_more name known (entry_of known e.0 e.1) (bytes_swap e.0 name ∙ q) ∙ none) in

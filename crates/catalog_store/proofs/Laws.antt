@@ -5,6 +5,7 @@ pub use Rattle.catalog_store.proofs.Named.{named_kept, named_after}
 pub use Rattle.catalog_store.proofs.Trees.{Same, same_tree, fit_in_both}
 pub use Rattle.catalog_store.proofs.Planned.{planned_trees}
 pub use Rattle.catalog_store.proofs.Sound.{named_in_all, fits_in_all}
+pub use Rattle.catalog_store.proofs.Lasting.{AllLasting, lasting_tree, lasting_more}
 use Rattle.catalog_store.proofs.Named.{named_more, named_less, other_bytes}
 
 pub adding_leaves_others : AddingLeavesOthers

@@ -1,25 +1,49 @@
 -- Each function of a catalog has a plan, since it stands behind those that it calls; and names differ.
-use Rattle.std.proofs.Common.{◌≡◌, ℕ, Bool, true, false, cond, ◌&&◌, List, [], ◌∷◌, ◌++◌, map, Option, None, Some, refl, sym, ap, ◌∙◌, subst}
+use Rattle.std.proofs.Common.{◌≡◌, ℕ, Bool, true, false, cond, if◌then◌else◌, ◌&&◌, List, [], ◌∷◌, ◌++◌, map, length, Option, None, Some, refl, sym, ap, ◌∙◌, subst}
 use Rattle.std.specs.List.{AllByRecursion, IsDistinct}
 use Rattle.std.specs.Str.{bytes_eq}
 use Rattle.bound_trees.specs.declared.expr.BoundExpr.{BoundExpr, roll-BoundExpr}
 use Rattle.bound_trees.specs.declared.expr.BoundLink.{BoundLink, roll-BoundLink}
 use Rattle.bound_trees.specs.declared.expr.BoundExpr.TheOpen.{BoundExpr-F, BoundLink-F}
 use Rattle.bound_trees.specs.declared.expr.BoundExpr.TheFolds.{map-BoundExpr, map-BoundLink, fold-roll-BoundExpr, fold-roll-BoundLink, ind-BoundExpr}
-use Rattle.rel_algebra.specs.Tree.{Expr}
+use Rattle.bound_trees.specs.Operands.{takes}
+use Rattle.bound_trees.specs.declared.expr.BoundOperation.{BoundOperation}
+use Rattle.sql_values.specs.declared.value.Value.TheVariants.{Null}
+use Rattle.rel_algebra.specs.Tree.{Expr, Literal}
 use Rattle.rel_algebra.specs.Plain.{planned_expr, planned_links, planned_all, planned_routine}
 use Rattle.catalog_store.specs.declared.entry.Object.{Object as HeldObject}
 use Rattle.catalog_store.specs.declared.entry.Object.TheVariants.{Table, Function as FunctionRecord}
 use Rattle.catalog_store.specs.Catalog.{Object, Entry, Catalog, names_of, object_named, routine_named, routine_in}
 use Rattle.catalog_store.specs.Entries.{object_of, entry_of, with_all, AreSound}
 use Rattle.catalog_store.specs.Planning.{AllPlanned}
-use Rattle.catalog_store.specs.View.{Link, links, exprs, expr_step, link_step, tree_of, link_of}
+use Rattle.catalog_store.specs.View.{Standing, over_all, as_and, as_or, as_coalesce, as_case, as_case_of, standing, case_of, stood, operated, Link, links, exprs, expr_step, link_step, tree_of, link_of}
 use Rattle.catalog_store.proofs.Named.{named_kept, named_after}
 use Rattle.catalog_store.proofs.Sound.{Held, grown}
 
 both_true : (a b : Bool) → a ≡ true → b ≡ true → (a && b) ≡ true
 both_true true b h k = k
 both_true false b h k = cc
+
+-- ---- words
+
+planned_case_of : (es : List Expr) → planned_all (exprs es) ≡ true → planned_expr (case_of es) ≡ true
+planned_case_of (e ∷ test ∷ result ∷ arms) h = h
+planned_case_of _ h = refl
+
+planned_stood : (w : Standing) (es : List Expr) → planned_all (exprs es) ≡ true → planned_expr (stood w es) ≡ true
+planned_stood (over_all operation) es h = h
+planned_stood as_and es h = h
+planned_stood as_or es h = h
+planned_stood as_coalesce es h = h
+planned_stood as_case es h = h
+planned_stood as_case_of es h = planned_case_of es h
+
+planned_operated : (w : BoundOperation) (es : List Expr) → planned_all (exprs es) ≡ true → planned_expr (operated w es) ≡ true
+planned_operated w es h = by (takes w (length es))
+  where
+    by : (b : Bool) → planned_expr (if b then stood (standing w) es else Literal Null) ≡ true
+    by true = planned_stood (standing w) es h
+    by false = refl
 
 -- ---- trees
 
@@ -52,8 +76,7 @@ module _ (known : Catalog) (all : AllPlanned known) where
   at_layer (BoundExpr-F.Literal v) = refl
   at_layer (BoundExpr-F.Column level i) = refl
   at_layer (BoundExpr-F.Variable i) = refl
-  at_layer (BoundExpr-F.Negate e) = e.1
-  at_layer (BoundExpr-F.Compare comparison a b) = both_true (planned_expr (tree_of known a.0)) (planned_expr (tree_of known b.0)) a.1 b.1
+  at_layer (BoundExpr-F.Operation word operands) = planned_operated word (map (tree_of known) (map (λ e. e.0) operands)) (shown_exprs operands)
   at_layer (BoundExpr-F.Chain first rest) =
       both_true (planned_expr (tree_of known first.0)) (planned_links (links (map (link_of known) (map (λ l. l.0) rest)))) first.1 (shown_links rest)
   at_layer (BoundExpr-F.Call name args) =

@@ -8,7 +8,7 @@ use Rattle.catalog_store.specs.declared.entry.Object.TheVariants.{Table, Functio
 use Rattle.rel_algebra.specs.Tree.{Expr, Function as FunctionTree}
 use Rattle.catalog_store.specs.Catalog.{Object, FunctionObject, Catalog, object_named}
 use Rattle.catalog_store.specs.Calls.{CallPlace, AllFit, calls_in}
-use Rattle.catalog_store.specs.Entries.{object_of, entry_of, with_all, ObjectFits, AreSound}
+use Rattle.catalog_store.specs.Entries.{object_of, entry_of, with_all, ObjectFits, Stands, AreSound}
 use Rattle.catalog_store.proofs.Named.{bytes_swap, named_kept, named_after, named_more}
 use Rattle.catalog_store.proofs.Trees.{Same, same_tree, fit_in_both}
 
@@ -77,7 +77,7 @@ named_in_all name known (e ∷ es) sound none = by (bytes_eq name e.0) refl (nam
     by true q rest =
         let stands : object_named name (grown known e) ≡ Some (object_of known e.1) =
         named_after name known (entry_of known e.0 e.1 ∷ []) none ∙ ap (λ (b : Bool). cond b (Some (object_of known e.1)) None) (bytes_swap e.0 name ∙ q) in
-        kept_in_all name (grown known e) es (object_of known e.1) stands ∙ ap (λ (o : Object). Some o) (sym (same_object known (with_all (grown known e) es) e.1 (same_in_all known (e ∷ es) e.1 sound.1)))
+        kept_in_all name (grown known e) es (object_of known e.1) stands ∙ ap (λ (o : Object). Some o) (sym (same_object known (with_all (grown known e) es) e.1 (same_in_all known (e ∷ es) e.1 sound.1.fits)))
     by false q rest = rest (named_more name known (entry_of known e.0 e.1) (bytes_swap e.0 name ∙ q) ∙ none)
 
 -- and it fits the whole
@@ -88,7 +88,7 @@ fits_in_all test known (e ∷ es) o sound h = by (test e.0) h (fits_in_all test 
     by : (b : Bool) → cond b (Some e.1) (lookup test es) ≡ Some o → (lookup test es ≡ Some o → ObjectFits (with_all known (e ∷ es)) o) → ObjectFits (with_all known (e ∷ es)) o
     by true q rest =
         let same : e.1 ≡ o = cc in
-        subst (ObjectFits (with_all known (e ∷ es))) same (same_fits known (with_all known (e ∷ es)) e.1 (same_in_all known (e ∷ es) e.1 sound.1) sound.1)
+        subst (ObjectFits (with_all known (e ∷ es))) same (same_fits known (with_all known (e ∷ es)) e.1 (same_in_all known (e ∷ es) e.1 sound.1.fits) sound.1.fits)
     by false q rest = rest q
 
 -- a name that stands for nothing has no entry
@@ -100,6 +100,6 @@ none_held name es sound none = by (lookup (bytes_eq name) es) (sym (named_in_all
     by (Some o) h = cc
 
 -- one more entry that fits
-pub sound_more : (name : List ℕ) (object : HeldObject) (es : List Held) → AreSound [] es → object_named name (with_all [] es) ≡ None → ObjectFits (with_all [] es) object →
+pub sound_more : (name : List ℕ) (object : HeldObject) (es : List Held) → AreSound [] es → object_named name (with_all [] es) ≡ None → Stands (with_all [] es) object →
     AreSound [] (es ++ (name, object) ∷ [])
-sound_more name object es sound free fits = sound-append [] es ((name, object) ∷ []) sound (free, fits, tt)
+sound_more name object es sound free stands = sound-append [] es ((name, object) ∷ []) sound (free, stands, tt)

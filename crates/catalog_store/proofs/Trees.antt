@@ -5,10 +5,10 @@ use Rattle.bound_trees.specs.declared.expr.BoundExpr.{BoundExpr, roll-BoundExpr}
 use Rattle.bound_trees.specs.declared.expr.BoundLink.{BoundLink, roll-BoundLink}
 use Rattle.bound_trees.specs.declared.expr.BoundExpr.TheOpen.{BoundExpr-F, BoundLink-F}
 use Rattle.bound_trees.specs.declared.expr.BoundExpr.TheFolds.{map-BoundExpr, map-BoundLink, fold-BoundLink, fold-roll-BoundExpr, fold-roll-BoundLink, ind-BoundExpr}
-use Rattle.rel_algebra.specs.Tree.{Expr, Negate, Compare, Chain, Call, MoreLinks, MoreExprs}
+use Rattle.rel_algebra.specs.Tree.{Expr, Chain, Call, MoreLinks}
 use Rattle.catalog_store.specs.Catalog.{Catalog, object_named, routine_in}
 use Rattle.catalog_store.specs.Calls.{CallPlace, AllFit, joined, calls_step, link_calls, calls_in}
-use Rattle.catalog_store.specs.View.{Link, links, exprs, expr_step, link_step, tree_of, link_of}
+use Rattle.catalog_store.specs.View.{Link, links, exprs, operated, expr_step, link_step, tree_of, link_of}
 
 -- the calls in what stands right of an operator
 abbrev pub calls_of_link : BoundLink → List CallPlace
@@ -45,10 +45,10 @@ module _ (known more : Catalog) where
   back [] ys s = s
   back (x ∷ xs) ys s = back xs ys s.1
 
-  same_exprs : (es : List Shown) → Same known more (joined (map calls_in (map (λ e. e.0) es))) → exprs (map (tree_of more) (map (λ e. e.0) es)) ≡ exprs (map (tree_of known) (map (λ e. e.0) es))
-  same_exprs [] s = refl
-  same_exprs (e ∷ es) s =
-      λ i. MoreExprs (e.1 (front (calls_in e.0) (joined (map calls_in (map (λ x. x.0) es))) s) i) (same_exprs es (back (calls_in e.0) (joined (map calls_in (map (λ x. x.0) es))) s) i)
+  same_list : (es : List Shown) → Same known more (joined (map calls_in (map (λ e. e.0) es))) → map (tree_of more) (map (λ e. e.0) es) ≡ map (tree_of known) (map (λ e. e.0) es)
+  same_list [] s = refl
+  same_list (e ∷ es) s =
+      λ i. e.1 (front (calls_in e.0) (joined (map calls_in (map (λ x. x.0) es))) s) i ∷ same_list es (back (calls_in e.0) (joined (map calls_in (map (λ x. x.0) es))) s) i
 
   same_links : (ls : List ShownLink) → Same known more (joined (map calls_of_link (map (λ l. l.0) ls))) → links (map (link_of more) (map (λ l. l.0) ls)) ≡ links (map (link_of known) (map (λ l. l.0) ls))
   same_links [] s = refl
@@ -71,11 +71,10 @@ module _ (known more : Catalog) where
   at_layer (BoundExpr-F.Literal v) s = refl
   at_layer (BoundExpr-F.Column level i) s = refl
   at_layer (BoundExpr-F.Variable i) s = refl
-  at_layer (BoundExpr-F.Negate e) s = ap Negate (e.1 s)
-  at_layer (BoundExpr-F.Compare comparison a b) s = λ i. Compare comparison (a.1 (front (calls_in a.0) (calls_in b.0) s) i) (b.1 (back (calls_in a.0) (calls_in b.0) s) i)
+  at_layer (BoundExpr-F.Operation word operands) s = ap (operated word) (same_list operands s)
   at_layer (BoundExpr-F.Chain first rest) s =
       λ i. Chain (first.1 (front (calls_in first.0) (joined (map calls_of_link (map (λ l. l.0) rest))) s) i) (same_links rest (back (calls_in first.0) (joined (map calls_of_link (map (λ l. l.0) rest))) s) i)
-  at_layer (BoundExpr-F.Call name args) s = λ i. Call name (routine_in (s.0 i)) (same_exprs args s.1 i)
+  at_layer (BoundExpr-F.Call name args) s = λ i. Call name (routine_in (s.0 i)) (exprs (same_list args s.1 i))
 
   of_layer : (y : BoundExpr-F Shown ShownLink) → SameTree (roll-BoundExpr (layer y))
   of_layer y s = tree_at more (layer y) ∙ at_layer y (subst (Same known more) (calls_at (layer y)) s) ∙ sym (tree_at known (layer y))

@@ -18,8 +18,7 @@ abbrev pub calls_step : BoundExpr-F (List CallPlace) (List CallPlace) → List C
 calls_step (BoundExpr-F.Literal v) = []
 calls_step (BoundExpr-F.Column level i) = []
 calls_step (BoundExpr-F.Variable i) = []
-calls_step (BoundExpr-F.Negate e) = e
-calls_step (BoundExpr-F.Compare comparison a b) = a ++ b
+calls_step (BoundExpr-F.Operation word operands) = joined operands
 calls_step (BoundExpr-F.Chain first rest) = first ++ joined rest
 calls_step (BoundExpr-F.Call name args) = record { name = name; arguments = length args } ∷ joined args
 

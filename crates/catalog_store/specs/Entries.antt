@@ -8,6 +8,7 @@ use Rattle.catalog_store.specs.declared.entry.Object.TheVariants.{Table, Functio
 use Rattle.catalog_store.specs.declared.entry.RoutineRecord.{RoutineRecord}
 use Rattle.catalog_store.specs.Catalog.{Function, Object, TableObject, FunctionObject, Entry, Catalog, object_named}
 use Rattle.catalog_store.specs.Calls.{AllFit, calls_in, names_called}
+use Rattle.catalog_store.specs.Kept.{IsKept}
 use Rattle.catalog_store.specs.View.{tree_of}
 
 -- a function, with its body seen by this catalog
@@ -47,12 +48,23 @@ abbrev pub ObjectFits : Catalog → HeldObject → Type 0
 ObjectFits known (Table row_type) = IsTrue (has_key_columns row_type.columns row_type.key)
 ObjectFits known (FunctionRecord r) = FunctionFits known r
 
--- each entry has a name that none before it has, and fits those before it
+-- a function has its plan
+abbrev pub IsPlanned : Catalog → HeldObject → Type 0
+IsPlanned known (Table row_type) = Unit {0}
+IsPlanned known (FunctionRecord r) = IsKept known r
+
+-- an object as it stands in a catalog
+pub record Stands (known : Catalog) (o : HeldObject) : Type 0 where
+  pub fits : ObjectFits known o
+  pub planned : IsPlanned known o
+
+-- each entry has a name that none before it has, and stands in the catalog of those before it
 abbrev pub AreSound : Catalog → List (List ℕ × HeldObject) → Type 0
 AreSound known [] = Unit {0}
-AreSound known (e ∷ es) = (object_named e.0 known ≡ None) × ObjectFits known e.1 × AreSound (known ++ entry_of known e.0 e.1 ∷ []) es
+AreSound known (e ∷ es) = (object_named e.0 known ≡ None) × Stands known e.1 × AreSound (known ++ entry_of known e.0 e.1 ∷ []) es
 
--- a name stands for the function of this record, and the record fits
+-- a name stands for the function of this record, and the record fits and has its plan
 pub record IsNamed (name : List ℕ) (known : Catalog) (r : RoutineRecord) : Type 0 where
   pub stands : object_named name known ≡ Some (FunctionObject (function_of known r))
   pub fits : FunctionFits known r
+  pub planned : IsKept known r

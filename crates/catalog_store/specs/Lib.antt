@@ -1,6 +1,8 @@
 pub mod Catalog
 pub mod View
 pub mod Calls
+pub mod Widths
+pub mod Kept
 pub mod Entries
 pub mod Users
 pub mod Planning

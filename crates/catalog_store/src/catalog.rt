@@ -7,7 +7,7 @@ ghost use Rattle.std.specs.List.{IsDistinct};
 ghost use Rattle.std.specs.Str.{bytes_eq};
 ghost use Rattle.catalog_store.specs.Catalog.{names_of, object_named, routine_named, missing};
 ghost use Rattle.catalog_store.specs.Planning.{AllPlanned};
-ghost use Rattle.catalog_store.specs.Entries.{object_of, entry_of, ObjectFits, IsNamed};
+ghost use Rattle.catalog_store.specs.Entries.{object_of, entry_of, ObjectFits, IsPlanned, IsNamed};
 ghost use Rattle.catalog_store.specs.Users.{mentions, is_user, users_of, without};
 ghost use Rattle.catalog_store.specs.View.{tree_of};
 
@@ -19,7 +19,8 @@ use std::marker::Model;
 
 /// Tables and functions by their names, which differ, in the order of their making. Each call in a
 /// function's body names a function that stands before it, is lower, and has as many parameters as
-/// the call has arguments.
+/// the call has arguments; and the plan of each function is kept, which is what the emitter makes of
+/// its body.
 #[derive(Drop)]
 pub struct Catalog {
     objects: IndexMap<Name, Object>,
@@ -85,6 +86,7 @@ impl Catalog {
     pub fn get(&self, name: &Name) -> Option<&Object>
         ensures value { object_named name.now self.now ≡ option_map (object_of self.now) (option_copied result) }
         ensures fits { IfSome result (λ o. ObjectFits self.now o.now) }
+        ensures planned { IfSome result (λ o. IsPlanned self.now o.now) }
     {
         self.objects.get(name)
     }
@@ -107,6 +109,7 @@ impl Catalog {
     pub fn add(&mut self, name: Name, object: Object) -> Result<(), AllocFailed<(Name, Object)>>
         requires free { object_named name self.old ≡ None }
         requires fits { ObjectFits self.old object }
+        requires planned { IsPlanned self.old object }
         ensures ok { OnOk result (self.new ≡ self.old ++ entry_of self.old name object ∷ []) }
         ensures err { OnErr result (self.new ≡ self.old) }
         ensures returned { IfErr result (λ f. f.value ≡ (name, object)) }

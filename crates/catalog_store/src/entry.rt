@@ -4,6 +4,7 @@ ghost use Rattle.std.specs.Prelude.{◌≡◌, Some};
 ghost use Rattle.std.specs.Option.{option_copied};
 
 use bound_trees::BoundExpr;
+use rel_algebra::{Node, Scalar};
 use row_types::RowType;
 use sql_values::{Name, SqlType};
 use sqlite_items::Items;
@@ -27,11 +28,21 @@ pub enum Object {
     Function(RoutineRecord),
 }
 
-/// A function: its head, and what it returns.
+/// A function: its head, what it returns, and its plan. A function that isn't in a catalog yet may be
+/// without it.
 #[derive(Drop)]
 pub struct RoutineRecord {
     pub head: Head,
     pub body: Body,
+    pub plan: Option<FunctionPlan>,
+}
+
+/// The plan of a function by itself: its parameters are the arguments. Nodes that add columns to one
+/// row without cells, and the scalar over these that is the function's value.
+#[derive(Drop)]
+pub struct FunctionPlan {
+    pub nodes: Items<Node>,
+    pub scalar: Scalar,
 }
 
 /// What a function returns. Contracts see its tree; a program sees it by `tree` alone.

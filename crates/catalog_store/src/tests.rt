@@ -2,10 +2,11 @@
 
 ghost use Rattle.std.specs.Prelude.{◌≤◌, IfOk};
 ghost use Rattle.catalog_store.specs.Catalog.{Catalog as PlainCatalog};
-ghost use Rattle.catalog_store.specs.Entries.{ObjectFits};
+ghost use Rattle.catalog_store.specs.Entries.{ObjectFits, IsPlanned};
 
-use crate::{Body, Catalog, Head, Object, RoutineRecord};
+use crate::{Body, Catalog, FunctionPlan, Head, Object, RoutineRecord};
 use bound_trees::BoundExpr;
+use rel_algebra::Scalar;
 use row_types::{ColumnType, RowType};
 use sql_values::{Name, NoMemory, SqlType, Value};
 use sqlite_items::Items;
@@ -13,7 +14,8 @@ use std::alloc::Global;
 
 // RETURN NULL.
 fn returning(alloc: Global) -> Object
-    ensures { (known : PlainCatalog) → ObjectFits known result }
+    ensures fits { (known : PlainCatalog) → ObjectFits known result }
+    ensures planned { (known : PlainCatalog) → IsPlanned known result }
 {
     Object::Function(RoutineRecord {
         head: Head {
@@ -23,12 +25,17 @@ fn returning(alloc: Global) -> Object
             uses: Items::new(alloc),
         },
         body: Body::shown(BoundExpr::Literal(Value::Null)),
+        plan: Some(FunctionPlan {
+            nodes: Items::new(alloc),
+            scalar: Scalar::Constant(Value::Null),
+        }),
     })
 }
 
 // A table with one column, which is its key.
 fn table(alloc: Global, column: Name) -> Result<Object, NoMemory>
-    ensures { IfOk result (λ o. (known : PlainCatalog) → ObjectFits known o) }
+    ensures fits { IfOk result (λ o. (known : PlainCatalog) → ObjectFits known o) }
+    ensures planned { IfOk result (λ o. (known : PlainCatalog) → IsPlanned known o) }
 {
     let mut columns = Items::new(alloc);
     columns.push(ColumnType {
@@ -50,7 +57,8 @@ fn name(alloc: Global, letter: u8) -> Option<Name>
 
 // Adds an object whose name is free.
 fn add(catalog: &mut Catalog, name: Name, object: Object) -> Option<()>
-    requires { (known : PlainCatalog) → ObjectFits known object }
+    requires fits { (known : PlainCatalog) → ObjectFits known object }
+    requires planned { (known : PlainCatalog) → IsPlanned known object }
 {
     match catalog.get(&name) {
         Some(_) => None,

@@ -20,8 +20,7 @@ fn end_of_stop(stop: &Stop) -> End {
 fn end_of_value(value: &Value) -> End {
     match value {
         Value::Int(number) => End::Number(*number),
-        Value::Bool(_) => End::Other,
-        Value::Null => End::Other,
+        _ => End::Other,
     }
 }
 

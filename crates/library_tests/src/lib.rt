@@ -12,3 +12,5 @@ mod plans;
 mod scalars;
 #[cfg(test)]
 mod small_table;
+#[cfg(test)]
+mod words;

@@ -33,7 +33,7 @@ fn end(part: Part, alloc: Global, read: &Tokens, open: u32) -> Result<usize, Par
     }
 }
 
-static ROWS: [(&str, Part, u32, Result<usize, ParseFault>); 14] = [
+static ROWS: [(&str, Part, u32, Result<usize, ParseFault>); 35] = [
     ("VALUES ((1)))", Part::Query, 22, Ok(6)),
     (
         "VALUES ((1)))",
@@ -47,11 +47,12 @@ static ROWS: [(&str, Part, u32, Result<usize, ParseFault>); 14] = [
         24,
         Err(ParseFault::TooDeep(1)),
     ),
+    ("SELECT k FROM t WHERE k;", Part::Query, 24, Ok(6)),
     (
-        "SELECT k FROM t WHERE k;",
+        "SELECT k FROM t WHERE;",
         Part::Query,
         0,
-        Err(ParseFault::NoStatement(6)),
+        Err(ParseFault::NoStatement(5)),
     ),
     ("SELECT k FROM t WHERE k = 1;", Part::Query, 24, Ok(8)),
     ("INSERT INTO t VALUES (1);", Part::Change, 23, Ok(7)),
@@ -79,6 +80,81 @@ static ROWS: [(&str, Part, u32, Result<usize, ParseFault>); 14] = [
         Part::Definition,
         0,
         Err(ParseFault::NoStatement(1)),
+    ),
+    ("VALUES (a OR b AND NOT c = d)", Part::Query, 23, Ok(11)),
+    ("VALUES (a - 'x' || b)", Part::Query, 23, Ok(8)),
+    (
+        "VALUES (TRUE, FALSE, UNKNOWN, NULL)",
+        Part::Query,
+        23,
+        Ok(10),
+    ),
+    ("VALUES (a IS NOT UNKNOWN)", Part::Query, 23, Ok(7)),
+    ("VALUES (a NOT IN (1, 2))", Part::Query, 22, Ok(11)),
+    (
+        "VALUES (a NOT IN (1, 2))",
+        Part::Query,
+        23,
+        Err(ParseFault::TooDeep(5)),
+    ),
+    ("VALUES (COALESCE(a, b, 1))", Part::Query, 22, Ok(11)),
+    ("VALUES (MOD(7, 2))", Part::Query, 22, Ok(9)),
+    (
+        "VALUES (MOD(7))",
+        Part::Query,
+        22,
+        Err(ParseFault::NoStatement(5)),
+    ),
+    ("VALUES (CHAR_LENGTH('x'))", Part::Query, 22, Ok(7)),
+    ("VALUES (SUBSTRING(a FROM 1))", Part::Query, 22, Ok(9)),
+    (
+        "VALUES (SUBSTRING(a FROM 1 FOR 2))",
+        Part::Query,
+        22,
+        Ok(11),
+    ),
+    (
+        "VALUES (SUBSTRING(a FOR 2 FROM 1))",
+        Part::Query,
+        22,
+        Err(ParseFault::NoStatement(5)),
+    ),
+    ("VALUES (CAST(a AS VARCHAR(3)))", Part::Query, 21, Ok(12)),
+    (
+        "VALUES (CASE WHEN a THEN 1 WHEN b THEN 2 END)",
+        Part::Query,
+        22,
+        Ok(13),
+    ),
+    (
+        "VALUES (CASE a WHEN 1 THEN 2 ELSE 3 END)",
+        Part::Query,
+        22,
+        Ok(12),
+    ),
+    (
+        "VALUES (CASE a WHEN 1 THEN 2 ELSE 3 END)",
+        Part::Query,
+        23,
+        Err(ParseFault::TooDeep(2)),
+    ),
+    (
+        "VALUES (CASE a END)",
+        Part::Query,
+        0,
+        Err(ParseFault::NoStatement(4)),
+    ),
+    (
+        "CREATE TABLE t (k VARCHAR(3), b BOOLEAN)",
+        Part::Definition,
+        22,
+        Ok(13),
+    ),
+    (
+        "CREATE FUNCTION f (x VARCHAR(3)) RETURNS BOOLEAN RETURN x = 'a'",
+        Part::Definition,
+        22,
+        Ok(16),
     ),
     ("VALUES (1); VALUES", Part::Statement, 0, Ok(5)),
     (

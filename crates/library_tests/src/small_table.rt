@@ -6,9 +6,12 @@ ghost use Rattle.row_types.specs.Rows.{has_key_columns};
 ghost use Rattle.catalog_store.specs.Catalog.{Catalog as PlainCatalog};
 ghost use Rattle.catalog_store.specs.Entries.{ObjectFits};
 
-use bound_trees::{BoundExpr, BoundFrom, BoundLink, BoundQuery, BoundRow, BoundSelect};
+use bound_trees::{
+    BoundExpr, BoundFrom, BoundLink, BoundOperation, BoundQuery, BoundRow, BoundSelect,
+};
 use catalog_store::{Body, Catalog, Head, Object, RoutineRecord};
 use psm_interp::World;
+use query_plan::with_plan;
 use row_types::{ColumnType, Row, RowType};
 use sql_conditions::Area;
 use sql_values::{Comparison, Name, Operator, SqlType, Value};
@@ -118,9 +121,9 @@ fn values(
 
 // left <> skipped
 fn differs(alloc: Global, left: Option<BoundExpr>, skipped: i64) -> Option<BoundExpr> {
-    let left = Boxed::new(alloc, left?).ok()?;
-    let right = Boxed::new(alloc, literal(skipped)).ok()?;
-    Some(BoundExpr::Compare(Comparison::NotEquals, left, right))
+    let sides = two(alloc, left?, literal(skipped))?;
+    let word = BoundOperation::Comparing(Comparison::NotEquals);
+    Some(BoundExpr::Operation(word, sides))
 }
 
 // SELECT items FROM T WHERE conjuncts
@@ -252,13 +255,20 @@ fn function(alloc: Global) -> Option<Object>
         uses: Items::new(alloc),
     };
     let body = Body::shown(BoundExpr::Variable(0));
-    Some(Object::Function(RoutineRecord { head, body }))
+    Some(Object::Function(RoutineRecord {
+        head,
+        body,
+        plan: None,
+    }))
 }
 
 // Adds an object whose name is free.
-fn add(catalog: &mut Catalog, name: Name, object: Object) -> Option<()>
+fn add(catalog: &mut Catalog, alloc: Global, name: Name, object: Object) -> Option<()>
     requires { (known : PlainCatalog) → ObjectFits known object }
 {
+    let Ok(object) = with_plan(alloc, object, catalog) else {
+        return None;
+    };
     match catalog.get(&name) {
         Some(_) => None,
         None => catalog.add(name, object).ok(),
@@ -268,13 +278,13 @@ fn add(catalog: &mut Catalog, name: Name, object: Object) -> Option<()>
 fn add_table(catalog: &mut Catalog, alloc: Global) -> Option<()> {
     let name = Name::folded(alloc, b"T").ok()?;
     let row_type = row_type(alloc)?;
-    add(catalog, name, Object::Table(row_type))
+    add(catalog, alloc, name, Object::Table(row_type))
 }
 
 fn add_function(catalog: &mut Catalog, alloc: Global) -> Option<()> {
     let name = Name::folded(alloc, b"F").ok()?;
     let function = function(alloc)?;
-    add(catalog, name, function)
+    add(catalog, alloc, name, function)
 }
 
 // T and F.

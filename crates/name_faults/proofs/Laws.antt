@@ -3,6 +3,7 @@ use Rattle.std.proofs.Common.{◌≡◌, refl, sym, List, [], ◌∷◌, ◌++�
 use Rattle.name_faults.specs.declared.fault.Fault.{Fault}
 use Rattle.name_faults.specs.declared.notes.Notes.{Notes}
 use Rattle.name_faults.specs.Faults.{Noted, noted, least, lesser, taken, behind}
+pub use Rattle.name_faults.proofs.Apart.{none_noted, merged_least}
 use Rattle.name_faults.proofs.Sooner.{is_free as free}
 
 -- faults in turn

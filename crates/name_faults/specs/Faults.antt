@@ -31,6 +31,15 @@ noted least (f ∷ fs) = noted (lesser least f) fs
 abbrev pub least : List Fault → Option Fault
 least fs = noted None fs
 
+-- what was noted before, with the least of what was noted apart from it
+abbrev pub merged : Option Fault → Option Fault → Option Fault
+merged before None = before
+merged before (Some f) = lesser before f
+
+abbrev pub is_faultless : List Fault → Bool
+is_faultless [] = true
+is_faultless (f ∷ fs) = false
+
 -- a value, the faults that were found on the way to it, and the names of the functions that are
 -- called on the way
 pub record Noted (A : Type 0) : Type 0 where

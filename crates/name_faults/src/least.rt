@@ -47,3 +47,17 @@ pub fn note_if(test: bool, kind: FaultKind, at: Anchor, least: &mut Option<Fault
         note(Fault { at, kind }, least);
     }
 }
+
+/// The least of what was noted apart, with what was noted before.
+pub fn merge(before: Option<Fault>, least: &mut Option<Fault>)
+    ensures { least.new ≡ spec.merged before least.old }
+{
+    match *least {
+        None => *least = before,
+        Some(fault) => {
+            let mut all = before;
+            note(fault, &mut all);
+            *least = all;
+        }
+    }
+}

@@ -9,7 +9,7 @@ mod least;
 mod notes;
 
 pub use fault::{Fault, FaultKind};
-pub use least::{note, note_if};
+pub use least::{merge, note, note_if};
 pub use notes::Notes;
 
 /// The least fault is one of the faults, and none stands before it, by place and then kind.

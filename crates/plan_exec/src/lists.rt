@@ -9,7 +9,7 @@ ghost use Rattle.rel_algebra.specs.PlanView.{lists_of, scalars_of};
 ghost use Rattle.scalar_eval.specs.Sights.{sight_of};
 
 use rel_algebra::{Scalar, ScalarRow};
-use row_types::{Cell, Outer, PlanRow, Row, RowInSight, RowList, copied_value};
+use row_types::{Cell, Outer, PlanRow, Row, RowInSight, RowList};
 use scalar_eval::{eval_on, value_in_place};
 use sql_values::{NoMemory, Value};
 use sqlite_items::Items;
@@ -59,7 +59,7 @@ fn listed_values(
     let mut values = Items::from_vec(Vec::with_capacity(alloc, scalars.len())?);
     for scalar in scalars {
         match value_in_place(scalar, &row, args) {
-            Some(value) => values.push(copied_value(value)?)?,
+            Some(value) => values.push(value.copied()?)?,
             None => match eval_on(alloc, scalar, &row, outer, args)? {
                 Cell::Val(value) => values.push(value)?,
                 Cell::Cond(_) => return Ok(None),

@@ -29,7 +29,7 @@ fn run(alloc: Global, script: &[u8]) -> Result<Outcome, AllocError> {
 #[test]
 fn name_faults(rt: HostRuntime) -> Result<(), Fail> {
     let alloc = rt.alloc();
-    let rows: [(&str, &str); 28] = [
+    let rows: [(&str, &str); 66] = [
         // no table, column, parameter or function of the name
         (
             "SELECT b FROM nosuch WHERE c < 1;",
@@ -119,6 +119,121 @@ fn name_faults(rt: HostRuntime) -> Result<(), Fail> {
             "CREATE TABLE u (k INTEGER, k INT);",
             "not permitted at line 2 column 14",
         ),
+        // an operand of another kind, or a test that isn't Boolean
+        ("VALUES (1 + 'a');", "type mismatch at line 2 column 13"),
+        ("VALUES ('a' - 1);", "type mismatch at line 2 column 9"),
+        ("VALUES (1 * TRUE);", "type mismatch at line 2 column 13"),
+        ("VALUES (-'a');", "type mismatch at line 2 column 10"),
+        ("VALUES (+TRUE);", "type mismatch at line 2 column 10"),
+        ("VALUES (MOD(1, 'a'));", "type mismatch at line 2 column 16"),
+        (
+            "VALUES ('a' || 1 + 1);",
+            "type mismatch at line 2 column 16",
+        ),
+        (
+            "VALUES (CHAR_LENGTH(1));",
+            "type mismatch at line 2 column 21",
+        ),
+        (
+            "VALUES (SUBSTRING(1 FROM 1));",
+            "type mismatch at line 2 column 19",
+        ),
+        (
+            "VALUES (SUBSTRING('a' FROM 'b'));",
+            "type mismatch at line 2 column 28",
+        ),
+        (
+            "VALUES (SUBSTRING('a' FROM 1 FOR TRUE));",
+            "type mismatch at line 2 column 34",
+        ),
+        ("VALUES (TRUE AND 1);", "type mismatch at line 2 column 18"),
+        ("VALUES ('a' OR TRUE);", "type mismatch at line 2 column 9"),
+        ("VALUES (NOT f(1));", "type mismatch at line 2 column 13"),
+        ("VALUES (1 IS TRUE);", "type mismatch at line 2 column 9"),
+        (
+            "VALUES ('a' IS NOT UNKNOWN);",
+            "type mismatch at line 2 column 9",
+        ),
+        (
+            "VALUES (CASE WHEN TRUE THEN 1 WHEN 2 THEN 3 END);",
+            "type mismatch at line 2 column 36",
+        ),
+        (
+            "SELECT k FROM t WHERE a;",
+            "type mismatch at line 2 column 23",
+        ),
+        (
+            "SELECT k FROM t WHERE k = 1 AND a + 1;",
+            "type mismatch at line 2 column 35",
+        ),
+        (
+            "VALUES (CAST(1 AS BOOLEAN));",
+            "type mismatch at line 2 column 14",
+        ),
+        (
+            "VALUES (CAST(1 = 1 AS INTEGER));",
+            "type mismatch at line 2 column 16",
+        ),
+        // two that are to be of one kind
+        ("VALUES (1 = 'a');", "type mismatch at line 2 column 13"),
+        ("VALUES ('a' < TRUE);", "type mismatch at line 2 column 15"),
+        (
+            "VALUES (1 IN (2, NULL, 'a'));",
+            "type mismatch at line 2 column 24",
+        ),
+        (
+            "VALUES (CASE 1 WHEN 2 THEN 3 WHEN 'a' THEN 5 END);",
+            "type mismatch at line 2 column 35",
+        ),
+        (
+            "VALUES (CASE WHEN TRUE THEN 1 ELSE 'a' END);",
+            "type mismatch at line 2 column 36",
+        ),
+        (
+            "VALUES (COALESCE(NULL, 1, 'a'));",
+            "type mismatch at line 2 column 27",
+        ),
+        (
+            "VALUES (1, NULL), (2, 3), (4, 'a');",
+            "type mismatch at line 2 column 31",
+        ),
+        // a value for a target of another kind
+        (
+            "INSERT INTO t VALUES (1, 'a');",
+            "type mismatch at line 2 column 26",
+        ),
+        ("VALUES (f(TRUE));", "type mismatch at line 2 column 11"),
+        (
+            "CREATE FUNCTION g (x INTEGER) RETURNS BOOLEAN RETURN x + 1;",
+            "type mismatch at line 2 column 56",
+        ),
+        // no fault above a fault
+        ("VALUES (1 + b || 'a');", "unknown name at line 2 column 13"),
+        (
+            "VALUES (CAST('a' + 1 AS BOOLEAN) AND 1);",
+            "type mismatch at line 2 column 14",
+        ),
+        // a length of VARCHAR out of range
+        (
+            "CREATE TABLE u (k VARCHAR(0) PRIMARY KEY);",
+            "not permitted at line 2 column 27",
+        ),
+        (
+            "CREATE TABLE u (k INTEGER PRIMARY KEY, v VARCHAR(4097));",
+            "not permitted at line 2 column 50",
+        ),
+        (
+            "CREATE FUNCTION g (x VARCHAR(0)) RETURNS INTEGER RETURN 1;",
+            "not permitted at line 2 column 30",
+        ),
+        (
+            "CREATE FUNCTION g (x INTEGER) RETURNS VARCHAR(9223372036854775807) RETURN NULL;",
+            "not permitted at line 2 column 47",
+        ),
+        (
+            "VALUES (CAST(1 AS VARCHAR(4097)));",
+            "not permitted at line 2 column 27",
+        ),
     ];
     for (statement, fault) in rows {
         let script = format!(in alloc;
@@ -154,31 +269,58 @@ fn greatest_height(rt: HostRuntime) -> Result<(), Fail> {
     Ok(())
 }
 
-// `VALUES` with so many brackets.
-fn nested(alloc: Global, count: usize) -> Result<Vec<u8>, AllocError> {
-    let mut script = b"VALUES ".to_vec(alloc)?;
+// `VALUES` of a 1 in so many constructs, one inside another, and the brackets of its row.
+fn nested(
+    alloc: Global,
+    opening: &[u8],
+    count: usize,
+    closing: &[u8],
+) -> Result<Vec<u8>, AllocError> {
+    let mut script = b"VALUES (".to_vec(alloc)?;
     for _ in 0..count {
-        script.push(b'(')?;
+        script.extend_from_slice(opening)?;
     }
     script.push(b'1')?;
     for _ in 0..count {
-        script.push(b')')?;
+        script.extend_from_slice(closing)?;
     }
-    script.push(b';')?;
+    script.extend_from_slice(b");")?;
     Ok(script)
+}
+
+// Twenty-four constructs may be open, and the twenty-fifth is shown where it opens.
+#[test]
+fn nested_constructs(rt: HostRuntime) -> Result<(), Fail> {
+    let alloc = rt.alloc();
+    let rows: [(&str, &str, u32); 3] = [
+        ("(", ")", 32),
+        ("CASE WHEN TRUE THEN ", " END", 469),
+        ("COALESCE(", ")", 224),
+    ];
+    for (opening, closing, column) in rows {
+        let most = run(
+            alloc,
+            &nested(alloc, opening.as_bytes(), 23, closing.as_bytes())?,
+        )?;
+        assert_eq!(rt;
+            most.out.bytes(),
+            b"1\n00000 rows 1\n".as_slice(),
+            "{opening}"
+        );
+        let fault = format!(in alloc; "! 42000 nesting too deep at line 1 column {column}\n")?;
+        let more = run(
+            alloc,
+            &nested(alloc, opening.as_bytes(), 24, closing.as_bytes())?,
+        )?;
+        assert_eq!(rt; more.out.bytes(), fault.as_bytes(), "{opening}");
+    }
+    Ok(())
 }
 
 // A script ends where a statement is not read.
 #[test]
 fn unread_statements(rt: HostRuntime) -> Result<(), Fail> {
     let alloc = rt.alloc();
-    let most = run(alloc, &nested(alloc, 24)?)?;
-    assert_eq!(rt; most.out.bytes(), b"1\n00000 rows 1\n".as_slice());
-    let more = run(alloc, &nested(alloc, 25)?)?;
-    assert_eq!(rt;
-        more.out.bytes(),
-        b"! 42000 nesting too deep at line 1 column 32\n".as_slice()
-    );
     let rows: [(&str, &str); 5] = [
         ("VALUES ('a", "1 column 9"),
         ("VALUES (9223372036854775808); VALUES (1);", "1 column 9"),

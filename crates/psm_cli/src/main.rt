@@ -20,6 +20,8 @@ mod run;
 mod status;
 #[cfg(test)]
 mod tests;
+#[cfg(test)]
+mod value_tests;
 mod write;
 
 pub use command::Command;

@@ -60,7 +60,7 @@ pub(crate) fn sink(alloc: Global, per_call: usize) -> MemSink
 #[test]
 fn scripts(rt: HostRuntime) -> Result<(), Fail> {
     let alloc = rt.alloc();
-    let rows: [(&[u8], Status, &[u8]); 4] = [
+    let rows: [(&[u8], Status, &[u8]); 10] = [
         (b"", Status::Done, b""),
         (INVERSES, Status::DoneWithExceptions, INVERSES_REPLIES),
         (
@@ -72,6 +72,36 @@ fn scripts(rt: HostRuntime) -> Result<(), Fail> {
             b"VALUES ((-9223372036854775807 - 1) / -1);",
             Status::DoneWithExceptions,
             b"! 22003 number out of range\n",
+        ),
+        (
+            b"VALUES (MOD(-9223372036854775807 - 1, -1));",
+            Status::Done,
+            b"0\n00000 rows 1\n",
+        ),
+        (
+            b"VALUES (CAST('12x' AS INTEGER)); VALUES (SUBSTRING('abc' FROM 2 FOR -1)); VALUES (SUBSTRING('abc' FROM 0 FOR 2)); VALUES (CAST(' 12 ' AS INTEGER) + 1, CHAR_LENGTH('a''b'), 'a''b'); VALUES ('a,' || 'b');",
+            Status::DoneWithExceptions,
+            b"! 22018 invalid text for cast\n! 22011 substring error\n'a'\n00000 rows 1\n13,3,'a''b'\n00000 rows 1\n\"'a,b'\"\n00000 rows 1\n",
+        ),
+        (
+            b"CREATE TABLE s (k INTEGER PRIMARY KEY, v VARCHAR(2)); INSERT INTO s VALUES (1, 'ab  '); INSERT INTO s VALUES (2, 'abc'); SELECT k, v, CHAR_LENGTH(v) FROM s;",
+            Status::DoneWithExceptions,
+            b"00000\n00000 rows 1\n! 22001 string too long\n1,'ab',2\n00000 rows 1\n",
+        ),
+        (
+            b"VALUES (NULL AND FALSE, NULL OR TRUE, NOT NULL, 1 = NULL);",
+            Status::Done,
+            b"FALSE,TRUE,NULL,NULL\n00000 rows 1\n",
+        ),
+        (
+            b"VALUES (FALSE AND 1 / 0 = 1, CASE 2 WHEN 1 THEN 1 / 0 ELSE 5 END, COALESCE(3, 1 / 0));",
+            Status::Done,
+            b"FALSE,5,3\n00000 rows 1\n",
+        ),
+        (
+            b"CREATE TABLE w (v VARCHAR(3) PRIMARY KEY, p BOOLEAN NOT NULL); INSERT INTO w VALUES ('b', TRUE), ('a ', FALSE), ('', TRUE), ('a', FALSE); INSERT INTO w VALUES ('abc', TRUE), ('abc ', TRUE); INSERT INTO w VALUES ('c', 1 = NULL); SELECT v, p FROM w WHERE p OR v = 'a'; SELECT v FROM w WHERE v < 'b' AND 10 / CHAR_LENGTH(v) = 10 AND NOT p;",
+            Status::DoneWithExceptions,
+            b"00000\n00000 rows 4\n! 23000 constraint violated\n! 23000 constraint violated\n'',TRUE\n'a',FALSE\n'b',TRUE\n00000 rows 3\n! 22012 division by zero\n",
         ),
     ];
     for (script, status, replies) in rows {

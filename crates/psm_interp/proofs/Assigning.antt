@@ -1,20 +1,20 @@
 -- The rows of an INSERT, assigned in the places where they stand.
-use Rattle.std.proofs.Common.{ℕ, ◌≡◌, ◌<◌, ◌≤◌, ◌+◌, ◌++◌, ◌∷◌, [], List, None, Some, Ok, length, drop, take, set, get_or, slice_get, refl, sym, ap, ◌∙◌, arith, rules}
+use Rattle.std.proofs.Common.{ℕ, ◌≡◌, ◌<◌, ◌≤◌, ◌+◌, ◌++◌, ◌∷◌, [], List, None, Some, Result, Ok, Err, length, drop, take, set, get_or, slice_get, refl, sym, ap, ◌∙◌, subst, arith, rules}
 use Rattle.std.proofs.lemmas.List.{append-nil, drop-set-lt, take_more_set, take_all, drop_all}
 use Rattle.std.proofs.lemmas.Option.{slice_get_within, get_or_from_slice_get, slice_get_cases}
 use Rattle.sql_values.specs.declared.value.Value.{Value}
-use Rattle.sql_values.specs.Values.{assigned}
+use Rattle.sql_values.specs.declared.value.ValueFault.{ValueFault}
+use Rattle.sql_values.specs.Casts.{assigned}
+use Rattle.sql_values.specs.Values.{UnlessNoMemory}
 use Rattle.row_types.specs.declared.ColumnType.{ColumnType}
 use Rattle.row_types.specs.Rows.{Row}
-use Rattle.rel_algebra.specs.World.{World, Ends, Gives, Raises, RunsOut, after, give, outcome}
+use Rattle.rel_algebra.specs.World.{World, Ends, Gives, after, give, outcome}
 use Rattle.rel_algebra.specs.Writing.{assigned_row}
-use Rattle.psm_interp.proofs.Going.{regrouped, outcome_gives}
+use Rattle.psm_interp.specs.declared.stop.Stop.{Stop}
+use Rattle.psm_interp.specs.Ending.{Tells}
+use Rattle.psm_interp.specs.Faults.{stopped_by}
+use Rattle.psm_interp.proofs.Going.{after_give, regrouped, outcome_gives, stops_too, fault_tells}
 use Rattle.psm_interp.proofs.Trees.{rest}
-
-after_give : {A : Type 0} (e : Ends A) → after e give ≡ e
-after_give (Gives a w) = refl
-after_give (Raises area w) = refl
-after_give (RunsOut w) = refl
 
 -- values without a column are left out
 cut_short : (cs : List ColumnType) (vs : Row) (w : World) → assigned_row cs (take (length cs) vs) w ≡ assigned_row cs vs w
@@ -45,6 +45,19 @@ one_assigned cs row new i c v x w h is some assigns set_is =
     ∙ regrouped (take i row) (Some x) left
     ∙ ap (λ e. after e (λ more. give (take i row ++ more)))
     (sym (at_place cs row i c v w h is some ∙ ap (λ e. after e (λ x u. after (assigned_row (drop (i + 1) cs) (drop (i + 1) row) u) (λ xs. give (x ∷ xs)))) (outcome_gives (assigned c.data_type v) x w assigns)))
+
+-- a column doesn't take its value
+pub one_refused : (cs : List ColumnType) (row : Row) (i : ℕ) (c : ColumnType) (v : Value) (fault : ValueFault) (r : Result Row Stop) (whole : Ends Row) (w : World) → i < length cs → c ≡ get_or cs i c →
+    slice_get row i ≡ Some v → UnlessNoMemory {A = Value} (Err fault) (Err fault ≡ assigned c.data_type v) → r ≡ Err (stopped_by fault) →
+    after (assigned_row (drop i cs) (drop i row) w) (λ more. give (take i row ++ more)) ≡ whole → Tells w r whole
+one_refused cs row i c v fault r whole w h is some refuses answer same =
+    let o = assigned c.data_type v in
+    let go : Value → World → Ends Row = λ x u. after (assigned_row (drop (i + 1) cs) (drop (i + 1) row) u) (λ xs. give (x ∷ xs)) in
+    let more : Row → World → Ends Row = λ more. give (take i row ++ more) in
+    let part = stops_too {A = Value} {B = Row} w (stopped_by fault) (outcome o w) go (fault_tells fault o w refuses) in
+    let all = stops_too {A = Row} {B = Row} w (stopped_by fault) (after (outcome o w) go) more part in
+    subst (λ (q : Result Row Stop). Tells w q whole) (sym answer)
+    (subst (λ (e : Ends Row). Tells {A = Row} w (Err (stopped_by fault)) e) (ap (λ e. after e more) (sym (at_place cs row i c v w h is some)) ∙ same) all)
 
 no_value : (cs : List ColumnType) (w : World) → assigned_row cs [] w ≡ Gives [] w
 no_value [] w = refl

@@ -1,8 +1,10 @@
 -- The steps of loops over arguments, expressions and rows, and the end of a function's body.
-use Rattle.std.proofs.Common.{ℕ, ◌≡◌, ◌<◌, ◌+◌, ◌++◌, ◌∷◌, [], List, length, drop, get_or, Some, false, refl, sym, ap, ◌∙◌, Ok}
+use Rattle.std.proofs.Common.{ℕ, ◌≡◌, ◌<◌, ◌+◌, ◌++◌, ◌∷◌, [], List, length, drop, get_or, Some, false, refl, sym, ap, ◌∙◌, Result, Ok, Err}
 use Rattle.sql_values.specs.declared.value.SqlType.{SqlType}
 use Rattle.sql_values.specs.declared.value.Value.{Value}
-use Rattle.sql_values.specs.Values.{assigned}
+use Rattle.sql_values.specs.declared.value.ValueFault.{ValueFault}
+use Rattle.sql_values.specs.Values.{UnlessNoMemory}
+use Rattle.sql_values.specs.Casts.{assigned}
 use Rattle.bound_trees.specs.declared.expr.BoundExpr.{BoundExpr}
 use Rattle.bound_trees.specs.declared.statement.BoundRow.{BoundRow}
 use Rattle.row_types.specs.Rows.{Row}
@@ -12,8 +14,11 @@ use Rattle.rel_algebra.specs.Meaning.{ev, ev_args, ev_all, ev_rows, assigned_fir
 use Rattle.catalog_store.specs.Catalog.{Catalog}
 use Rattle.catalog_store.specs.View.{tree_of, exprs_of, rows_of}
 use Rattle.psm_interp.specs.Content.{Content, world_of}
+use Rattle.psm_interp.specs.declared.stop.Stop.{Stop}
 use Rattle.psm_interp.specs.Ending.{Ended}
-use Rattle.psm_interp.proofs.Going.{Going, going, goes_on, gives, one_more, outcome_gives}
+use Rattle.psm_interp.specs.Faults.{stopped_by}
+use Rattle.psm_interp.proofs.Stays.{stays_same}
+use Rattle.psm_interp.proofs.Going.{Going, going, goes_on, goes_within, stops_within, gives, one_more, outcome_gives, fault_tells}
 use Rattle.psm_interp.proofs.Trees.{rest, args_at}
 
 -- one argument more: its value v was assigned to its parameter as y
@@ -28,6 +33,31 @@ args_step k es types i x rows f old now new v y vs us whole h is g d assigns fro
     (more (world_of new)) (ev_args (exprs_of k (drop i es)) (drop i types) no_self rows f (world_of now)) whole
     (args_at k es types i x rows f (world_of now) h is) g d
     (ap (λ e. after e (λ y w. after (more w) (λ ys. give (y ∷ ys)))) (outcome_gives (assigned_first (drop i types) v) y (world_of new) assigns)) front
+
+-- an argument stops
+pub args_stop : (k : Catalog) (es : List BoundExpr) (types : List SqlType) (i : ℕ) (x : BoundExpr) (rows : List Row) (f : Frame) (old now new : Content) (s : Stop) (vs : List Value)
+    (whole : Ends (List Value)) (r : Result (List Value) Stop) → i < length es → x ≡ get_or es i x →
+    Going old now (after (ev_args (exprs_of k (drop i es)) (drop i types) no_self rows f (world_of now)) (λ ts. give (vs ++ ts))) whole →
+    Ended {A = Value} now new (Err s) (ev (tree_of k x) no_self rows f (world_of now)) → r ≡ Err s → Ended old new r whole
+args_stop k es types i x rows f old now new s vs whole r h is g d answer =
+    stops_within old now new s (ev (tree_of k x) no_self rows f (world_of now)) (λ v w. after (outcome (assigned_first (drop i types) v) w) (λ y w. after (ev_args (exprs_of k (drop (i + 1) es)) (drop (i + 1) types) no_self rows f w) (λ ys. give (y ∷ ys))))
+    (ev_args (exprs_of k (drop i es)) (drop i types) no_self rows f (world_of now)) (λ ts. give (vs ++ ts)) whole r
+    (args_at k es types i x rows f (world_of now) h is) g d answer
+
+-- an argument can't be assigned to its parameter
+pub args_refuse : (k : Catalog) (es : List BoundExpr) (types : List SqlType) (i : ℕ) (x : BoundExpr) (rows : List Row) (f : Frame) (old now new : Content) (v : Value) (fault : ValueFault) (vs : List Value)
+    (whole : Ends (List Value)) (r : Result (List Value) Stop) → i < length es → x ≡ get_or es i x →
+    Going old now (after (ev_args (exprs_of k (drop i es)) (drop i types) no_self rows f (world_of now)) (λ ts. give (vs ++ ts))) whole →
+    Ended now new (Ok v) (ev (tree_of k x) no_self rows f (world_of now)) → UnlessNoMemory {A = Value} (Err fault) (Err fault ≡ assigned_first (drop i types) v) → r ≡ Err (stopped_by fault) →
+    Ended old new r whole
+args_refuse k es types i x rows f old now new v fault vs whole r h is g d refuses answer =
+    let o = assigned_first (drop i types) v in
+    let go : Value → World → Ends (List Value) = λ y w. after (ev_args (exprs_of k (drop (i + 1) es)) (drop (i + 1) types) no_self rows f w) (λ ys. give (y ∷ ys)) in
+    let part = after (outcome o (world_of new)) go in
+    stops_within old new new (stopped_by fault) (outcome o (world_of new)) go part (λ ts. give (vs ++ ts)) whole r refl
+    (goes_within old now new v (ev (tree_of k x) no_self rows f (world_of now)) (λ v w. after (outcome (assigned_first (drop i types) v) w) go)
+    (ev_args (exprs_of k (drop i es)) (drop i types) no_self rows f (world_of now)) (λ ts. give (vs ++ ts)) whole (args_at k es types i x rows f (world_of now) h is) g d)
+    record { tells = fault_tells fault o (world_of new) refuses; stays = stays_same new } answer
 
 -- one expression more: its value is v
 pub all_step : (k : Catalog) (es : List BoundExpr) (i : ℕ) (x : BoundExpr) (rows : List Row) (f : Frame) (old now new : Content) (v : Value) (vs us : List Value) (whole : Ends (List Value)) →

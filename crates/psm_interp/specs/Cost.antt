@@ -1,20 +1,18 @@
 -- How deep an evaluation can nest: what falls at each call of the interpreter.
 use Rattle.std.specs.Prelude.{ℕ, ◌+◌}
-use Rattle.rel_algebra.specs.Tree.{Expr, Literal, Column, Variable, Negate, Compare, Chain, Operate, And, Or, Case, CaseOf, Coalesce, In, Exists, Single, Call, CallSelf, Links, NoLink, MoreLinks, Exprs, NoExpr, MoreExprs, Routine, Function, Rows, NoRow, MoreRows, From, Table, Derived, Cross, Inner, LeftOuter, Query, Select, Grouped, Values, Ordered}
+use Rattle.rel_algebra.specs.Tree.{Expr, Literal, Column, Variable, Chain, Operate, And, Or, Case, CaseOf, Coalesce, In, Exists, Single, Call, CallSelf, Links, NoLink, MoreLinks, Exprs, NoExpr, MoreExprs, Routine, Function, Rows, NoRow, MoreRows, From, Table, Derived, Cross, Inner, LeftOuter, Query, Select, Grouped, Values, Ordered}
 
 abbrev mutual
   pub cost : Expr → ℕ
   cost (Literal v) = 1
   cost (Column level i) = 1
   cost (Variable i) = 1
-  cost (Negate e) = cost e + 1
-  cost (Compare comparison a b) = cost a + cost b + 1
   cost (Chain e links) = cost e + links_cost links + 1
   cost (Operate operation es) = costs es + 1
   cost (And es) = costs es + 1
   cost (Or es) = costs es + 1
   cost (Case arms) = costs arms + 1
-  cost (CaseOf e test result arms) = cost e + cost test + cost result + costs arms + 1
+  cost (CaseOf e test result arms) = cost e + cost test + cost result + costs arms + 3
   cost (Coalesce es) = costs es + 1
   cost (In e query) = cost e + query_cost query + 1
   cost (Exists query) = query_cost query + 1

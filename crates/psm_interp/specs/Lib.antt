@@ -6,3 +6,5 @@ pub mod Units
 pub mod Queries
 pub mod Inserts
 pub mod Flat
+pub mod Words
+pub mod Faults

@@ -3,7 +3,6 @@
 ghost use Rattle.std.specs.Prelude.{◌≡◌, ◌≤◌, ◌<◌, ◌*◌, [], ◌++◌, IfOk, OnOk, length, slice_index_or};
 ghost use Rattle.psm_interp.specs.Flat.{rows_in, values_of};
 
-use row_types::copied_value;
 use sql_values::{NoMemory, Value};
 use sqlite_items::Items;
 use std::alloc::Global;
@@ -90,7 +89,7 @@ fn push_copies(values: &mut Items<Value>, more: &[Value]) -> Result<(), NoMemory
     ensures { OnOk result (values.new ≡ values.old ++ more.now) }
 {
     for value in more {
-        values.push(copied_value(value)?)?;
+        values.push(value.copied()?)?;
     }
     Ok(())
 }

@@ -18,7 +18,7 @@ use crate::{Frame, Stop, World};
 use atomic_undo::Changes;
 use bound_trees::BoundQuery;
 use catalog_store::Catalog;
-use row_types::{ColumnType, PlanRow, Row, RowEnd, RowList, Steps, copied_value, fits};
+use row_types::{ColumnType, PlanRow, Row, RowEnd, RowList, Steps, fits};
 use sql_conditions::EngineCondition;
 use sql_values::{Name, NoMemory, assign};
 use sqlite_items::Items;
@@ -156,17 +156,17 @@ fn rows_for(alloc: Global, table: &Table, new: Vec<Row>) -> Result<Vec<Row>, Sto
     waiting.reverse();
     let mut rows = Vec::with_capacity(alloc, waiting.len())?;
     while let Some(values) = waiting.pop() {
-        rows.push(row_for(table, values)?)?;
+        rows.push(row_for(alloc, table, values)?)?;
     }
     Ok(rows)
 }
 
 // A row that a table can hold: its columns are assigned, and then NOT NULL is judged.
-fn row_for(table: &Table, values: Row) -> Result<Row, Stop>
+fn row_for(alloc: Global, table: &Table, values: Row) -> Result<Row, Stop>
     ensures tells { TellsAnywhere result (row_by table.now.table values) }
     ensures fit { IfOk result (λ row. fits table.now.table.columns table.now.table.key row ≡ true) }
 {
-    let row = assigned_row(table.columns(), values)?;
+    let row = assigned_row(alloc, table.columns(), values)?;
     if fits(table.columns(), table.key(), &row) {
         Ok(row)
     } else {
@@ -175,7 +175,7 @@ fn row_for(table: &Table, values: Row) -> Result<Row, Stop>
 }
 
 // The values that the columns take, in the table's order, each in the place where it stood.
-fn assigned_row(columns: &[ColumnType], values: Row) -> Result<Row, Stop>
+fn assigned_row(alloc: Global, columns: &[ColumnType], values: Row) -> Result<Row, Stop>
     ensures { TellsAnywhere result (assigned_by columns.now values) }
 {
     let mut row = values;
@@ -184,7 +184,7 @@ fn assigned_row(columns: &[ColumnType], values: Row) -> Result<Row, Stop>
         let Some(value) = row.get(place) else {
             return Ok(row);
         };
-        let assigned = assign(copied_value(value)?, column.data_type)?;
+        let assigned = assign(alloc, value.copied()?, column.data_type)?;
         row.set(place, assigned);
     }
     Ok(row)

@@ -1,7 +1,6 @@
 //! Why a run gives nothing.
 
 ghost use Rattle.std.specs.Prelude.{◌≡◌};
-ghost use Rattle.rel_algebra.specs.World.{condition_of as condition_by};
 
 use atomic_undo::ApplyFault;
 use sql_conditions::{Area, Condition, EngineCondition};
@@ -32,26 +31,22 @@ impl Stop {
     }
 }
 
-// The condition that a fault raises.
-fn condition_of(fault: ValueFault) -> EngineCondition
-    ensures { result ≡ condition_by fault }
-{
-    match fault {
-        ValueFault::OutOfRange => EngineCondition::NumberOutOfRange,
-        ValueFault::DivZero => EngineCondition::DivisionByZero,
-    }
-}
-
+/// A fault of values raises its condition; want of memory stops the run.
 impl From<ValueFault> for Stop {
     ghost use Rattle.std.specs.Prelude.{◌≡◌};
-    ghost use Rattle.sql_conditions.specs.Conditions.{area_of};
-    ghost use Rattle.rel_algebra.specs.World.{condition_of};
-    ghost use Rattle.psm_interp.specs.declared.stop.Stop.TheVariants.{Raised};
+    ghost use Rattle.psm_interp.specs.Faults.{stopped_by};
 
-    ghost from_gives = { λ fault s. s ≡ Raised (area_of (condition_of fault)) };
+    ghost from_gives = { λ fault s. s ≡ stopped_by fault };
 
     fn from(fault: ValueFault) -> Stop {
-        Stop::of(condition_of(fault))
+        match fault {
+            ValueFault::TooLong => Stop::of(EngineCondition::StringTooLong),
+            ValueFault::OutOfRange => Stop::of(EngineCondition::NumberOutOfRange),
+            ValueFault::DivZero => Stop::of(EngineCondition::DivisionByZero),
+            ValueFault::BadCast => Stop::of(EngineCondition::InvalidTextForCast),
+            ValueFault::BadSubstring => Stop::of(EngineCondition::SubstringError),
+            ValueFault::NoMemory => Stop::NoMemory,
+        }
     }
 }
 

@@ -1,10 +1,10 @@
 -- The answer of a query's plan is how the query ends; and what an INSERT makes of it.
-use Rattle.std.proofs.Common.{◌≡◌, ℕ, suc, true, List, [], ◌∷◌, ◌++◌, length, Ok, Err, refl, sym, ap, ◌∙◌, subst}
+use Rattle.std.proofs.Common.{◌≡◌, ℕ, suc, true, List, [], ◌∷◌, length, Ok, Err, refl, sym, ap, ◌∙◌, subst}
 use Rattle.std.specs.List.{IsDistinct}
 use Rattle.std.specs.Str.{bytes_eq}
 use Rattle.row_types.specs.Rows.{Row}
 use Rattle.row_types.specs.Tables.{Tables}
-use Rattle.row_types.specs.Cells.{PlanRow, Whole, value_rows, row_end, cells_end, with_value, with_values}
+use Rattle.row_types.specs.Cells.{PlanRow, value_rows, cells_end, with_value, with_values}
 use Rattle.table_store.specs.Memory.{Memory, AllWellKept}
 use Rattle.rel_algebra.specs.Tree.{Query}
 use Rattle.rel_algebra.specs.World.{World, Ends, Gives, Raises, after, unit_of, unit, no_self, no_frame}
@@ -16,9 +16,9 @@ use Rattle.rel_algebra.specs.Plain.{planned}
 use Rattle.rel_algebra.specs.Theorem.{Fits}
 use Rattle.rel_algebra.specs.Plan.{PlanTree, den, collected, shown, shown_rows}
 use Rattle.rel_algebra.specs.Emit.{plan, top}
-use Rattle.rel_algebra.proofs.Passing.{means_passing}
+use Rattle.rel_algebra.proofs.Laws.{means_passing}
 use Rattle.catalog_store.specs.Catalog.{Catalog, names_of}
-use Rattle.query_plan.specs.Widths.{width_in}
+use Rattle.catalog_store.specs.Widths.{width_in}
 use Rattle.plan_exec.specs.Passing.{inputs_of}
 use Rattle.plan_exec.specs.Answers.{answer_end, shown_end}
 use Rattle.plan_exec.specs.declared.collecting.Answer.{Answer}
@@ -31,7 +31,7 @@ use Rattle.psm_interp.specs.declared.stop.Stop.{Stop}
 use Rattle.psm_interp.specs.declared.stop.Stop.TheVariants as stop
 use Rattle.psm_interp.specs.Content.{Content, world_of}
 use Rattle.psm_interp.specs.Ending.{Ended}
-use Rattle.psm_interp.proofs.Stays.{stays_same}
+use Rattle.psm_interp.proofs.Laws.{stays_same}
 use Rattle.psm_session.specs.Effects.{Effect, replied}
 use Rattle.psm_session.specs.Answering.{ends_with, HasValues}
 use Rattle.psm_session.specs.Conclusions.{database, IsEffect}
@@ -55,15 +55,6 @@ value_rows-shown (r ∷ rs) = ap (λ e. with_values e (value_rows (shown_rows rs
 length-shown : (rows : List Row) → length (shown_rows rows) ≡ length rows
 length-shown [] = refl
 length-shown (r ∷ rs) = ap (λ (n : ℕ). suc n) (length-shown rs)
-
-in_front-push : (e : Result Row Area) (more rows : List Row) (r : Row) → more ≡ rows ++ r ∷ [] → with_values e more ≡ with_values e rows ++ r ∷ []
-in_front-push (Ok v) more rows r h = ap (λ (xs : List Row). v ∷ xs) h
-in_front-push (Err area) more rows r h = h
-
--- one more row of values
-pub value_rows-push : (rows : List PlanRow) (r : Row) → value_rows (rows ++ Whole (shown r) ∷ []) ≡ value_rows rows ++ r ∷ []
-value_rows-push [] r = ap (λ e. with_values e []) (cells_end-shown r)
-value_rows-push (x ∷ xs) r = in_front-push (row_end x) (value_rows (xs ++ Whole (shown r) ∷ [])) (value_rows xs) r (value_rows-push xs r)
 
 -- ---- answers
 

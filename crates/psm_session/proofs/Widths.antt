@@ -17,7 +17,7 @@ use Rattle.table_store.proofs.Laws.{kept_fits}
 use Rattle.rel_algebra.specs.Joins.{columns_of, table_width}
 use Rattle.rel_algebra.specs.Theorem.{AllWide, Fits}
 use Rattle.catalog_store.specs.Catalog.{Object, TableObject, FunctionObject, Catalog, names_of, object_named}
-use Rattle.query_plan.specs.Widths.{object_width, width_in}
+use Rattle.catalog_store.specs.Widths.{object_width, width_in}
 use Rattle.psm_session.specs.Database.{Plain}
 use Rattle.psm_session.specs.Shapes.{Shape, shapes_of, shapes_in, with_shape_of, IsWhole}
 

@@ -1,15 +1,16 @@
-//! A new entry of the catalog, with its table. The reply is made first, and a table is taken back
-//! where there is no memory for its entry.
+//! A new entry of the catalog, with its plan or its table. The reply and the plan are made first, and
+//! a table is taken back where there is no memory for its entry.
 
 ghost use Rattle.std.specs.Prelude.{◌≡◌, ◌++◌, ◌∷◌, [], None, IfOk, OnOk, OnErr};
 ghost use Rattle.row_types.specs.Tables.{table_named, without_table_named};
 ghost use Rattle.catalog_store.specs.Catalog.{object_named};
-ghost use Rattle.catalog_store.specs.Entries.{entry_of, object_of, ObjectFits};
+ghost use Rattle.catalog_store.specs.Entries.{entry_of, object_of, ObjectFits, IsPlanned};
 ghost use Rattle.psm_session.specs.Effects.{created, with_table_of};
 ghost use Rattle.psm_session.specs.Conclusions.{database, IsEffect};
 ghost use Rattle.psm_session.specs.Shapes.{IsWhole};
 
 use catalog_store::{Catalog, Object};
+use query_plan::with_plan;
 use reply_text::{Reply, done_reply};
 use sql_values::{Name, NoMemory};
 use std::alloc::Global;
@@ -46,6 +47,7 @@ fn add_entry(
 ) -> Result<(), NoMemory>
     requires free { object_named name catalog.old ≡ None }
     requires fits { ObjectFits catalog.old object }
+    requires planned { IsPlanned catalog.old object }
     ensures added { OnOk result (catalog.new ≡ catalog.old ++ entry_of catalog.old name object ∷ []) }
     ensures stays { OnOk result (tables.new ≡ tables.old) }
     ensures err { OnErr result ((catalog.new ≡ catalog.old) × (tables.new.tables ≡ without_table_named name tables.old.tables)) }
@@ -60,7 +62,8 @@ fn add_entry(
     }
 }
 
-/// Makes an entry of the catalog, with its table where it has one. Without memory nothing changes.
+/// Makes an entry of the catalog: a function with its plan, or a table, which has no rows yet. Without
+/// memory nothing changes.
 pub(crate) fn create(
     alloc: Global,
     name: Name,
@@ -76,6 +79,7 @@ pub(crate) fn create(
     ensures whole { IsWhole (database catalog.new tables.new) }
 {
     let reply = done_reply(alloc, &[], None)?;
+    let object = with_plan(alloc, object, catalog)?;
     add_table(alloc, &name, &object, catalog, tables)?;
     add_entry(name, object, catalog, tables)?;
     Ok(reply)

@@ -1,7 +1,7 @@
 //! What a bound statement does.
 
 ghost use Rattle.std.specs.Prelude.{◌≡◌, IfOk, OnErr};
-ghost use Rattle.sql_names.specs.Binds.{CreateFits};
+ghost use Rattle.sql_names.specs.Binds.{StatementFits};
 ghost use Rattle.psm_session.specs.Effects.{effect};
 ghost use Rattle.psm_session.specs.Conclusions.{database, IsEffect};
 ghost use Rattle.psm_session.specs.Shapes.{IsWhole};
@@ -23,7 +23,7 @@ pub(crate) fn run_bound(
     catalog: &mut Catalog,
     tables: &mut Tables,
 ) -> Result<Reply, NoMemory>
-    requires fits { CreateFits catalog.old stmt }
+    requires fits { StatementFits catalog.old stmt }
     requires whole { IsWhole (database catalog.old tables.old) }
     ensures ok { IfOk result (λ r. IsEffect (effect stmt (database catalog.old tables.old)) r (database catalog.new tables.new)) }
     ensures err { OnErr result (database catalog.new tables.new ≡ database catalog.old tables.old) }

@@ -1,16 +1,17 @@
 //! Statements that run in a world of the tables. The reply is made before the log is given up, so
 //! that the changes are taken back where there is no memory for it.
 
-ghost use Rattle.std.specs.Prelude.{◌≡◌, ◌≤◌, length, IfOk, OnOk, OnErr};
+ghost use Rattle.std.specs.Prelude.{◌≡◌, ◌≤◌, true, length, IfOk, OnOk, OnErr};
 ghost use Rattle.rel_algebra.specs.Meaning.{ask};
 ghost use Rattle.rel_algebra.specs.Writing.{insert as insert_by};
+ghost use Rattle.rel_algebra.specs.Plain.{planned};
 ghost use Rattle.catalog_store.specs.View.{query_of};
 ghost use Rattle.reply_text.specs.Texts.{rows_text};
 ghost use Rattle.psm_interp.specs.Content.{world_of as plain_world, IsBackAt};
 ghost use Rattle.psm_interp.specs.Ending.{Ended};
 ghost use Rattle.psm_session.specs.Effects.{replied, stored_text};
 ghost use Rattle.psm_session.specs.Shapes.{IsWhole};
-ghost use Rattle.psm_session.specs.Tasks.{task_effect};
+ghost use Rattle.psm_session.specs.Tasks.{task_query, task_effect};
 ghost use Rattle.psm_session.specs.Conclusions.{database, IsEffect, IsStopped, KeepsShapes};
 
 use crate::DEFAULT_BUDGET;
@@ -19,12 +20,10 @@ use atomic_undo::Mark;
 use bound_trees::{BoundInsert, BoundQuery};
 use catalog_store::Catalog;
 use plan_exec::Answer;
-use psm_interp::{Stop, World, run_insert, run_query, store_rows};
-use query_plan::is_planned;
+use psm_interp::{Stop, World, store_rows};
 use reply_text::{Reply, area_reply, done_reply, rows_reply, spent_reply};
-use row_types::{PlanRow, Row, RowList, Steps, copied_row};
+use row_types::Steps;
 use sql_values::NoMemory;
-use sqlite_items::Items;
 use std::alloc::Global;
 use std::marker::Brand;
 use std::mem::replace;
@@ -74,12 +73,10 @@ fn insert_in<L: Ledger>(
     catalog: &Catalog,
     steps: &mut Steps<L>,
 ) -> Result<u64, Stop>
-    requires { IsWhole (database catalog.now world.old.memory) }
+    requires whole { IsWhole (database catalog.now world.old.memory) }
+    requires planned { planned (query_of catalog.now insert.now.source) ≡ true }
     ensures { Ended world.old world.new result (insert_by insert.now.table (query_of catalog.now insert.now.source) (plain_world world.old)) }
 {
-    if !is_planned(&insert.source, catalog) {
-        return run_insert(&insert.table, &insert.source, world, catalog);
-    }
     let alloc = world.allocator();
     match planned_answer(alloc, &insert.source, catalog, world.tables(), steps)? {
         Answer::Rows(rows) => store_rows(&insert.table, rows, world, steps),
@@ -94,7 +91,8 @@ fn store_in<L: Ledger>(
     catalog: &Catalog,
     steps: &mut Steps<L>,
 ) -> Result<Reply, NoMemory>
-    requires { IsWhole (database catalog.now world.old.memory) }
+    requires whole { IsWhole (database catalog.now world.old.memory) }
+    requires planned { planned (query_of catalog.now insert.now.source) ≡ true }
     ensures ok { IfOk result (λ r. IsEffect (replied stored_text (database catalog.now world.old.memory)
         (insert_by insert.now.table (query_of catalog.now insert.now.source) (plain_world world.old))) r (database catalog.now world.new.memory)) }
     ensures err { OnErr result (world.new.memory.tables ≡ world.old.memory.tables) }
@@ -107,56 +105,20 @@ fn store_in<L: Ledger>(
     }
 }
 
-// Answers a query, some function of which has no plan, row by row.
-fn answer_by_rows<L: Ledger>(
-    query: &BoundQuery,
-    world: &mut World,
-    catalog: &Catalog,
-    steps: &mut Steps<L>,
-) -> Result<Reply, NoMemory>
-    ensures ok { IfOk result (λ r. IsEffect (replied rows_text (database catalog.now world.old.memory)
-        (ask (query_of catalog.now query.now) (plain_world world.old))) r (database catalog.now world.new.memory)) }
-    ensures err { OnErr result (world.new.memory.tables ≡ world.old.memory.tables) }
-    ensures shapes { KeepsShapes world.old.memory world.new.memory }
-{
-    let mark = world.mark();
-    match run_query(query, world, catalog) {
-        Ok(rows) => conclude(listed_reply(world.allocator(), &rows, steps), mark, world),
-        Err(stop) => stop_reply(stop, mark, world),
-    }
-}
-
-// The reply of a query with these rows.
-fn listed_reply<L: Ledger>(
-    alloc: Global,
-    rows: &Items<Row>,
-    steps: &mut Steps<L>,
-) -> Result<Reply, NoMemory>
-    ensures { IfOk result (λ r. r ≡ rows_text rows.now) }
-{
-    let mut list = RowList::with_capacity(alloc, rows.len())?;
-    for row in rows.as_slice() {
-        list.push(PlanRow::of_values(copied_row(alloc, row)?))?;
-    }
-    rows_reply(alloc, list, steps)
-}
-
-// Answers a query in a world: where its functions all have plans, by its own plan.
+// Answers a query in a world by its plan.
 fn answer_in<L: Ledger>(
     query: &BoundQuery,
     world: &mut World,
     catalog: &Catalog,
     steps: &mut Steps<L>,
 ) -> Result<Reply, NoMemory>
-    requires { IsWhole (database catalog.now world.old.memory) }
+    requires whole { IsWhole (database catalog.now world.old.memory) }
+    requires planned { planned (query_of catalog.now query.now) ≡ true }
     ensures ok { IfOk result (λ r. IsEffect (replied rows_text (database catalog.now world.old.memory)
         (ask (query_of catalog.now query.now) (plain_world world.old))) r (database catalog.now world.new.memory)) }
     ensures err { OnErr result (world.new.memory.tables ≡ world.old.memory.tables) }
     ensures shapes { KeepsShapes world.old.memory world.new.memory }
 {
-    if !is_planned(query, catalog) {
-        return answer_by_rows(query, world, catalog, steps);
-    }
     let alloc = world.allocator();
     match planned_answer(alloc, query, catalog, world.tables(), steps)? {
         Answer::Rows(rows) => rows_reply(alloc, rows, steps),
@@ -185,6 +147,7 @@ fn in_world<L: Ledger>(
     requires parts { blank.parts ≡ L.parts }
     requires some { blank.parts ≡ 1 }
     requires whole { IsWhole (database catalog.now tables.old) }
+    requires planned { planned (query_of catalog.now (task_query task)) ≡ true }
     ensures ok { IfOk result (λ r. IsEffect (task_effect task.entry (database catalog.now tables.old)) r (database catalog.now tables.new)) }
     ensures err { OnErr result (tables.new.tables ≡ tables.old.tables) }
     ensures shapes { KeepsShapes tables.old tables.new }
@@ -208,6 +171,7 @@ pub(crate) fn do_task(
     tables: &mut Tables,
 ) -> Result<Reply, NoMemory>
     requires whole { IsWhole (database catalog.now tables.old) }
+    requires planned { planned (query_of catalog.now (task_query task)) ≡ true }
     ensures ok { IfOk result (λ r. IsEffect (task_effect task.entry (database catalog.now tables.old)) r (database catalog.now tables.new)) }
     ensures err { OnErr result (tables.new.tables ≡ tables.old.tables) }
     ensures shapes { KeepsShapes tables.old tables.new }

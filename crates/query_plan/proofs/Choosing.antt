@@ -1,6 +1,5 @@
 -- VALUES of several rows as one list over their numbers.
 use Rattle.std.proofs.Common.{ℕ, ◌≡◌, zero, suc, ◌<◌, ◌≤◌, ◌+◌, ◌-◌, ◌∷◌, [], ◌++◌, List, map, replicate, length, reverse, pos, refl, sym, ap, ◌∙◌, arith}
-use Rattle.std.proofs.lemmas.List.{reverse-append}
 use Rattle.sql_values.specs.declared.value.Value.TheVariants.{Null, Int}
 use Rattle.rel_algebra.specs.declared.plan.ScalarRow.{ScalarRow}
 use Rattle.rel_algebra.specs.declared.scalar.Scalar.{Scalar as ScalarCode}
@@ -10,7 +9,7 @@ use Rattle.rel_algebra.specs.PlanView.{scalar_of, scalars_of}
 use Rattle.rel_algebra.specs.Emit.{EmittedAll, numbers, nulls, else_arms, either_of, either_all, chosen, scalar_count}
 use Rattle.query_plan.specs.Choosing.{number_test, prepend, column_from, columns_from, with_row, closed, arms_of, all_arms_of}
 use Rattle.query_plan.specs.Emission.{put}
-use Rattle.query_plan.proofs.Lists.{put-none, put-append}
+use Rattle.query_plan.proofs.Lists.{put-none, put-append, turned_last}
 use Rattle.query_plan.proofs.Views.{scalar_of-Constant}
 
 pub numbers-next : (p end : ℕ) → p < end → numbers p (end - p) ≡ more (constant (Int (pos p))) none ∷ numbers (p + 1) (end - (p + 1))
@@ -88,9 +87,6 @@ column_closed (s ∷ c) h =
     ap (word case_word) (scalars-prepend (s ∷ c) (Constant Null ∷ [])) ∙ ap (λ x. word case_word (prepend (scalar_of s ∷ map scalar_of c) (more x none))) (scalar_of-Constant Null)
 
 -- ---- the loop that closes columns
-
-turned_last : (cs : List ScalarRow) (c : ScalarRow) → reverse (cs ++ c ∷ []) ≡ c ∷ reverse cs
-turned_last cs c = reverse-append cs (c ∷ [])
 
 pub closing_next : (front longer : List ScalarCode) (left others : List ScalarRow) (c : ScalarRow) (s : ScalarCode) (whole : Scalars) → left ≡ others ++ c ∷ [] →
     scalar_of s ≡ column_from (arms_of c) (constant Null) → longer ≡ front ++ s ∷ [] → put front (closed (all_arms_of (reverse left))) ≡ whole →

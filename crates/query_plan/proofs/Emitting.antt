@@ -1,28 +1,34 @@
 -- Emissions one behind the other.
-use Rattle.std.proofs.Common.{ℕ, ◌≡◌, ◌<◌, ◌≤◌, ◌+◌, ◌∷◌, [], ◌++◌, List, map, length, drop, get_or, refl, sym, ap, ◌∙◌, subst, arith}
+use Rattle.std.proofs.Common.{ℕ, ◌≡◌, true, false, slice_index_or, take, take_all, ◌-◌, suc, ◌<◌, ◌≤◌, ◌+◌, ◌∷◌, [], ◌++◌, List, map, length, drop, get_or, refl, sym, ap, ◌∙◌, subst, arith}
 use Rattle.std.proofs.lemmas.List.{drop_all}
+use Rattle.std.proofs.lemmas.Bool.{leb-true}
 use Rattle.bound_trees.specs.declared.expr.BoundExpr.{BoundExpr}
-use Rattle.bound_trees.specs.declared.expr.BoundExpr.TheVariants.{Compare as BoundCompare, Chain as BoundChain}
+use Rattle.bound_trees.specs.declared.expr.BoundExpr.TheVariants.{Chain as BoundChain, Operation}
+use Rattle.bound_trees.specs.declared.expr.BoundOperation.{BoundOperation}
+use Rattle.bound_trees.specs.declared.expr.BoundOperation.TheVariants.{CaseOf}
+use Rattle.bound_trees.specs.Operands.{takes}
 use Rattle.bound_trees.specs.declared.expr.BoundLink.{BoundLink}
 use Rattle.catalog_store.specs.Catalog.{Catalog}
-use Rattle.catalog_store.specs.View.{tree_of, exprs_of, links_of}
+use Rattle.catalog_store.specs.View.{Standing, over_all, as_and, as_or, as_coalesce, as_case, as_case_of, standing, stood, case_of, exprs, tree_of, exprs_of, links_of}
 use Rattle.rel_algebra.specs.declared.scalar.Scalar.{Scalar as ScalarCode}
 use Rattle.rel_algebra.specs.declared.scalar.ScalarLink.{ScalarLink as LinkCode}
-use Rattle.sql_values.specs.declared.operators.Comparison.{Comparison}
-use Rattle.rel_algebra.specs.Tree.{Arithmetic, Comparing, Expr, Compare, Chain, Call, Exprs, Routine, Links, NoLink, MoreLinks}
-use Rattle.rel_algebra.specs.Plan.{strict, Scalar, word, none, more, PlanTree, extend_by, extend, on_each}
+use Rattle.sql_values.specs.declared.value.SqlType.{SqlType}
+use Rattle.sql_values.specs.declared.value.Value.TheVariants.{Null}
+use Rattle.rel_algebra.specs.Tree.{Arithmetic, Expr, Literal, Chain, Call, Exprs, Routine, Links, NoLink, MoreLinks, parameters_of}
+use Rattle.rel_algebra.specs.Plan.{strict, case_word, Scalar, word, Scalars, none, more, PlanTree, extend_by, extend, on_each}
 use Rattle.rel_algebra.specs.PlanView.{Link, chained, scalar_of, scalars_of, link_of}
-use Rattle.rel_algebra.specs.Emit.{Env, Emitted, EmittedAll, plain, first_and, word_on, singly, joined_nodes, width, emit, emit_links, emit_all, emit_body, passed, raising, checks, scalar_count}
+use Rattle.rel_algebra.specs.Emit.{Env, Emitted, EmittedAll, plain, first_and, word_on, singly, joined_nodes, width, emit, emit_links, emit_all, emit_args, emit_body, passed, raising, checks, scalar_count, against, assigning, assigning_first, assigning_in}
 use Rattle.query_plan.specs.declared.draft.Draft.{Draft}
 use Rattle.query_plan.specs.Drafts.{drafted}
 use Rattle.query_plan.specs.Emission.{Emits, EmitsAll, put, guarded}
+use Rattle.query_plan.specs.Words.{word_by, word_of}
 use Rattle.query_plan.specs.Cost.{cost, costs, links_cost}
-use Rattle.query_plan.specs.Widths.{width_in}
+use Rattle.catalog_store.specs.Widths.{width_in}
 use Rattle.query_plan.proofs.Joins.{on_each-joined, width-joined, joined-joined, joined-nothing}
-use Rattle.query_plan.proofs.Lists.{rest, put-none, put-append, scalars-counted, map-last}
+use Rattle.query_plan.proofs.Lists.{rest, drop-next, put-none, put-append, scalars-counted, map-last}
 use Rattle.query_plan.proofs.Checks.{guarded-values}
-use Rattle.query_plan.proofs.Views.{scalar_of-Chain, link_of-parts, bound_link-parts, tree_of-Compare, tree_of-Chain}
-use Rattle.rel_algebra.specs.declared.scalar.Scalar.TheVariants.{Chain as ChainCode}
+use Rattle.query_plan.proofs.Views.{scalar_of-Chain, link_of-parts, bound_link-parts, length-map, scalar_of-Constant, tree_of-taken, tree_of-refused, tree_of-Chain}
+use Rattle.rel_algebra.specs.declared.scalar.Scalar.TheVariants.{Chain as ChainCode, Constant}
 
 -- ---- the second on the row that the first leaves
 
@@ -192,33 +198,111 @@ chain_done k e ls i start now first held front h c same =
           ∙ ap (λ (xs : List BoundLink). (emit_links (links_of k xs) so_far (width_in k) e (drafted now).width).scalar) (sym none_left) ∙ c.scalar;
     }
 
--- ---- comparisons and calls
+-- ---- words
 
--- the sides of a comparison
-pub compare_emits : (comparison : Comparison) (x y : Expr) (S : List ℕ → ℕ) (e : Env) (start now new : Draft) (p q r : Scalar) →
-    Emits start now p (emit x S e (drafted start).width) → Emits now new q (emit y S e (drafted now).width) → r ≡ word (strict (Comparing comparison)) (more p (more q none)) →
-    Emits start new r (emit (Compare comparison x y) S e (drafted start).width)
-compare_emits comparison x y S e start now new p q r first second is =
+-- a word that is no CASE with an operand takes its operands in turn
+emit-stood : (w : Standing) (es : List Expr) (S : List ℕ → ℕ) (e : Env) (n : ℕ) → ¬ (w ≡ as_case_of) → emit (stood w es) S e n ≡ word_on (word_by w) (emit_all (exprs es) S e n)
+emit-stood (over_all operation) es S e n h = refl
+emit-stood as_and es S e n h = refl
+emit-stood as_or es S e n h = refl
+emit-stood as_coalesce es S e n h = refl
+emit-stood as_case es S e n h = refl
+emit-stood as_case_of es S e n h = absurd (h refl)
+
+pub word_emits : (w : Standing) (es : List Expr) (S : List ℕ → ℕ) (e : Env) (start new : Draft) (ss : Scalars) (s : Scalar) → ¬ (w ≡ as_case_of) →
+    EmitsAll start new ss (emit_all (exprs es) S e (drafted start).width) → s ≡ word (word_by w) ss → Emits start new s (emit (stood w es) S e (drafted start).width)
+word_emits w es S e start new ss s h d is =
+    subst (λ a. Emits start new s a) (sym (emit-stood w es S e (drafted start).width h)) (record { tree = d.tree; columns = d.columns; scalar = is ∙ ap (word (word_by w)) d.scalars })
+
+-- CASE with an operand: the operand is a column more, and the arms are read on the row that has it
+pub case_emits : (x : Expr) (es : List Expr) (S : List ℕ → ℕ) (e : Env) (start compared wide new : Draft) (first : Scalar) (ss : Scalars) (s : Scalar) (m : ℕ) → 2 ≤ length es →
+    Emits start compared first (emit x S e (drafted start).width) → m ≡ (drafted compared).width → (drafted wide).tree ≡ extend (more first none) (drafted compared).tree →
+    (drafted wide).width ≡ (drafted compared).width + 1 → EmitsAll wide new ss (emit_all (exprs es) S e (drafted wide).width) → s ≡ word case_word (against m ss) →
+    Emits start new s (emit (case_of (x ∷ es)) S e (drafted start).width)
+case_emits x [] S e start compared wide new first ss s m many one at tree columns others is = absurd (omega (arith, many))
+case_emits x (y ∷ []) S e start compared wide new first ss s m many one at tree columns others is = absurd (omega (arith, many))
+case_emits x (test ∷ result ∷ arms) S e start compared wide new first ss s m many one at tree columns others is =
     let n = (drafted start).width in
     let a = emit x S e n in
-    let b : ℕ → EmittedAll = λ m. singly (emit y S e m) in
+    let p = width a.nodes n in
+    let b = emit_all (exprs (test ∷ result ∷ arms)) S e (suc p) in
+    let place : m ≡ p = at ∙ one.columns in
+    let behind : (drafted wide).width ≡ suc p = omega (arith, columns, one.columns) in
+    let same : emit_all (exprs (test ∷ result ∷ arms)) S e (drafted wide).width ≡ b = ap (emit_all (exprs (test ∷ result ∷ arms)) S e) behind in
+    let next : p + 1 ≡ suc p = omega arith in
     record {
-      tree = second.tree ∙ then_tree a b n (drafted now).width (drafted start).tree (drafted now).tree first.columns first.tree;
-      columns = second.columns ∙ then_width a b n (drafted now).width first.columns;
-      scalar =
-          is ∙ (λ j. word (strict (Comparing comparison)) (more (first.scalar j) (more (second.scalar j) none)))
-          ∙ ap (λ m. word (strict (Comparing comparison)) (more a.scalar (more (emit y S e m).scalar none))) first.columns;
+      tree =
+          others.tree ∙ ap (λ y. on_each y.nodes (drafted wide).tree) same ∙ ap (on_each b.nodes) (tree ∙ (λ j. extend (more (one.scalar j) none) (one.tree j)))
+          ∙ sym (on_each-joined a.nodes (extend_by (more a.scalar none) b.nodes) (drafted start).tree);
+      columns =
+          others.columns ∙ ap (λ y. width y.nodes (drafted wide).width) same ∙ ap (width b.nodes) (behind ∙ sym next)
+          ∙ sym (width-joined a.nodes (extend_by (more a.scalar none) b.nodes) n);
+      scalar = is ∙ (λ j. word case_word (against (place j) ((others.scalars ∙ ap (λ y. y.scalars) same) j)));
     }
+
+-- ---- arguments
+
+-- of the emission of arguments this much is done
+pub record Passing (k : Catalog) (e : Env) (es : List BoundExpr) (types : List SqlType) (i : ℕ) (start now : Draft) (front : List ScalarCode) : Type 0 where
+  pub tree : on_each (emit_args (exprs_of k (drop i es)) (drop i types) (width_in k) e (drafted now).width).nodes (drafted now).tree
+      ≡ on_each (emit_args (exprs_of k es) types (width_in k) e (drafted start).width).nodes (drafted start).tree
+  pub columns : width (emit_args (exprs_of k (drop i es)) (drop i types) (width_in k) e (drafted now).width).nodes (drafted now).width
+      ≡ width (emit_args (exprs_of k es) types (width_in k) e (drafted start).width).nodes (drafted start).width
+  pub scalars : put front (emit_args (exprs_of k (drop i es)) (drop i types) (width_in k) e (drafted now).width).scalars
+      ≡ (emit_args (exprs_of k es) types (width_in k) e (drafted start).width).scalars
+  pub small : costs (exprs_of k (drop i es)) ≤ costs (exprs_of k es)
+
+pub passing_first : (k : Catalog) (e : Env) (es : List BoundExpr) (types : List SqlType) (start : Draft) → Passing k e es types 0 start start []
+passing_first k e es types start = record { tree = refl; columns = refl; scalars = refl; small = omega arith }
+
+pub passing_next : (k : Catalog) (e : Env) (es : List BoundExpr) (types : List SqlType) (i : ℕ) (x : BoundExpr) (start old new : Draft) (front longer : List ScalarCode) (s t : ScalarCode) →
+    i < length es → x ≡ get_or es i x → Passing k e es types i start old front → Emits old new (scalar_of s) (emit (tree_of k x) (width_in k) e (drafted old).width) →
+    scalar_of t ≡ assigning_first (drop i types) (scalar_of s) → longer ≡ front ++ t ∷ [] → Passing k e es types (i + 1) start new longer
+passing_next k e es types i x start old new front longer s t h is l d assigned f =
+    let n = (drafted old).width in
+    let S = width_in k in
+    let ts = drop i types in
+    let a = assigning_in ts (emit (tree_of k x) S e n) in
+    let left = exprs_of k (drop (i + 1) es) in
+    let b = emit_args left (drop (i + 1) types) S e in
+    let at : emit_args (exprs_of k (drop i es)) ts S e n ≡ first_and a b n =
+    ap (λ (xs : List BoundExpr). emit_args (exprs_of k xs) ts S e n) (rest es i x h is) ∙ ap (λ (us : List SqlType). first_and a (emit_args left us S e) n) (drop-next i types) in
+    record {
+      tree = then_tree a b n (drafted new).width (drafted old).tree (drafted new).tree d.columns d.tree ∙ ap (λ y. on_each y.nodes (drafted old).tree) (sym at) ∙ l.tree;
+      columns = then_width a b n (drafted new).width d.columns ∙ ap (λ y. width y.nodes n) (sym at) ∙ l.columns;
+      scalars =
+          ap (λ (ss : List ScalarCode). put ss (b (drafted new).width).scalars) f ∙ put-append front (t ∷ []) (b (drafted new).width).scalars
+          ∙ ap (λ y. put front (more y (b (drafted new).width).scalars)) (assigned ∙ ap (assigning_first ts) d.scalar)
+          ∙ ap (λ y. put front (more a.scalar (b y).scalars)) d.columns ∙ ap (λ y. put front y.scalars) (sym at) ∙ l.scalars;
+      small = omega (arith, costs-rest k es i x h is, l.small);
+    }
+
+pub passing_done : (k : Catalog) (e : Env) (es : List BoundExpr) (types : List SqlType) (i : ℕ) (start now : Draft) (front : List ScalarCode) → length es ≤ i →
+    Passing k e es types i start now front → EmitsAll start now (scalars_of front) (emit_args (exprs_of k es) types (width_in k) e (drafted start).width)
+passing_done k e es types i start now front h l =
+    let none_left = drop_all i es h in
+    let ts = drop i types in
+    record {
+      tree = ap (λ (xs : List BoundExpr). on_each (emit_args (exprs_of k xs) ts (width_in k) e (drafted now).width).nodes (drafted now).tree) (sym none_left) ∙ l.tree;
+      columns = ap (λ (xs : List BoundExpr). width (emit_args (exprs_of k xs) ts (width_in k) e (drafted now).width).nodes (drafted now).width) (sym none_left) ∙ l.columns;
+      scalars = sym (put-none front) ∙ ap (λ (xs : List BoundExpr). put front (emit_args (exprs_of k xs) ts (width_in k) e (drafted now).width).scalars) (sym none_left) ∙ l.scalars;
+    }
+
+-- ---- calls
+
+-- a result, assigned to its type
+pub result_emits : (t : SqlType) (start new : Draft) (p q : Scalar) (a : Emitted) → Emits start new p a → q ≡ assigning t p → Emits start new q (assigning_in (t ∷ []) a)
+result_emits t start new p q a d is = record { tree = d.tree; columns = d.columns; scalar = is ∙ ap (assigning t) d.scalar }
 
 -- a call: its arguments, an Extend of them, and the body over the columns
 pub call_emits : (name : List ℕ) (routine : Routine) (args : Exprs) (S : List ℕ → ℕ) (e : Env) (start listed extended new : Draft) (ss guards : List ScalarCode) (body result : Scalar)
-    (m k : ℕ) → EmitsAll start listed (scalars_of ss) (emit_all args S e (drafted start).width) → m ≡ (drafted listed).width → k ≡ length ss →
+    (m k : ℕ) → EmitsAll start listed (scalars_of ss) (emit_args args (parameters_of routine) S e (drafted start).width) → m ≡ (drafted listed).width → k ≡ length ss →
     (drafted extended).tree ≡ extend (scalars_of ss) (drafted listed).tree → (drafted extended).width ≡ (drafted listed).width + length ss →
-    scalars_of guards ≡ checks (raising args m) → Emits extended new body (emit_body routine S (passed m k) (drafted extended).width) →
+    scalars_of guards ≡ checks (raising args (parameters_of routine) m) → Emits extended new body (emit_body routine S (passed m k) (drafted extended).width) →
     result ≡ guarded (scalars_of guards) body → Emits start new result (emit (Call name routine args) S e (drafted start).width)
 call_emits name routine args S e start listed extended new ss guards body result m k first from many tree columns guard second is =
     let n = (drafted start).width in
-    let a = emit_all args S e n in
+    let a = emit_args args (parameters_of routine) S e n in
     let at : m ≡ width a.nodes n = from ∙ first.columns in
     let counted : k ≡ scalar_count a.scalars = many ∙ sym (scalars-counted ss) ∙ ap scalar_count first.scalars in
     let wide : (drafted extended).width ≡ width a.nodes n + scalar_count a.scalars =
@@ -234,21 +318,16 @@ call_emits name routine args S e start listed extended new ss guards body result
           second.columns ∙ ap (λ y. width y.nodes (drafted extended).width) same ∙ ap (width b.nodes) wide
           ∙ sym (width-joined a.nodes (extend_by a.scalars b.nodes) n);
       scalar =
-          is ∙ (λ j. guarded ((guard ∙ ap (λ y. checks (raising args y)) at) j) ((second.scalar ∙ ap (λ y. y.scalar) same) j))
-          ∙ guarded-values (raising args (width a.nodes n)) b.scalar;
+          is ∙ (λ j. guarded ((guard ∙ ap (λ y. checks (raising args (parameters_of routine) y)) at) j) ((second.scalar ∙ ap (λ y. y.scalar) same) j))
+          ∙ guarded-values (raising args (parameters_of routine) (width a.nodes n)) b.scalar;
     }
 
 -- ---- the same of bound expressions
 
-pub compare_bound : (k : Catalog) (expr left right a b : BoundExpr) (comparison : Comparison) (e : Env) (start now new : Draft) (p q r : Scalar) →
-    expr ≡ BoundCompare comparison left right → a ≡ left → b ≡ right → Emits start now p (emit (tree_of k a) (width_in k) e (drafted start).width) →
-    Emits now new q (emit (tree_of k b) (width_in k) e (drafted now).width) → r ≡ word (strict (Comparing comparison)) (more p (more q none)) →
-    Emits start new r (emit (tree_of k expr) (width_in k) e (drafted start).width)
-compare_bound k expr left right a b comparison e start now new p q r is x y first second made =
-    let tree : Compare comparison (tree_of k a) (tree_of k b) ≡ tree_of k expr =
-    (λ j. Compare comparison (tree_of k (x j)) (tree_of k (y j))) ∙ sym (tree_of-Compare k comparison left right) ∙ ap (tree_of k) (sym is) in
-    subst (λ t. Emits start new r (emit t (width_in k) e (drafted start).width)) tree
-    (compare_emits comparison (tree_of k a) (tree_of k b) (width_in k) e start now new p q r first second made)
+pub word_bound : (k : Catalog) (operation : BoundOperation) (es : List BoundExpr) (e : Env) (start new : Draft) (ss : List ScalarCode) (s : Scalar) →
+    ¬ (standing operation ≡ as_case_of) → EmitsAll start new (scalars_of ss) (emit_all (exprs_of k es) (width_in k) e (drafted start).width) →
+    s ≡ word (word_of operation) (scalars_of ss) → Emits start new s (emit (stood (standing operation) (map (tree_of k) es)) (width_in k) e (drafted start).width)
+word_bound k operation es e start new ss s h d is = word_emits (standing operation) (map (tree_of k) es) (width_in k) e start new (scalars_of ss) s h d is
 
 pub chain_bound : (k : Catalog) (expr first a : BoundExpr) (ls bs : List BoundLink) (e : Env) (start now new : Draft) (p q : Scalar) →
     expr ≡ BoundChain first ls → a ≡ first → bs ≡ ls → Emits start now p (emit (tree_of k a) (width_in k) e (drafted start).width) →
@@ -258,3 +337,72 @@ chain_bound k expr first a ls bs e start now new p q is x y one others =
     (λ j. Chain (tree_of k (x j)) (links_of k (y j))) ∙ sym (tree_of-Chain k first ls) ∙ ap (tree_of k) (sym is) in
     subst (λ t. Emits start new q (emit t (width_in k) e (drafted start).width)) tree
     (chain_emits (links_of k bs) (width_in k) e start now new p q (emit (tree_of k a) (width_in k) e (drafted start).width) one others)
+
+-- ---- what falls
+
+cost-case_of : (es : List Expr) → 3 ≤ length es → cost (case_of es) ≡ costs (exprs es) + 2
+cost-case_of [] h = absurd (omega (arith, h))
+cost-case_of (x ∷ []) h = absurd (omega (arith, h))
+cost-case_of (x ∷ y ∷ []) h = absurd (omega (arith, h))
+cost-case_of (x ∷ test ∷ result ∷ arms) h = refl
+
+cost-stood : (w : Standing) (es : List Expr) → (w ≡ as_case_of → 3 ≤ length es) → cost (stood w es) ≡ costs (exprs es) + 2
+cost-stood (over_all operation) es h = refl
+cost-stood as_and es h = refl
+cost-stood as_or es h = refl
+cost-stood as_coalesce es h = refl
+cost-stood as_case es h = refl
+cost-stood as_case_of es h = cost-case_of es (h refl)
+
+case_many : (operation : BoundOperation) (n : ℕ) → takes operation n ≡ true → standing operation ≡ as_case_of → 3 ≤ n
+case_many CaseOf n h q = leb-true 3 n h
+case_many _ n h q = absurd (let never = q in cc)
+
+-- a word over as many operands as it takes is more than these
+pub cost-taken : (k : Catalog) (expr : BoundExpr) (operation : BoundOperation) (es : List BoundExpr) → expr ≡ Operation operation es → takes operation (length es) ≡ true →
+    cost (tree_of k expr) ≡ costs (exprs_of k es) + 2
+cost-taken k expr operation es is h =
+    ap (λ x. cost (tree_of k x)) is ∙ ap cost (tree_of-taken k operation es h)
+    ∙ cost-stood (standing operation) (map (tree_of k) es) (λ q. subst (λ n. 3 ≤ n) (sym (length-map (tree_of k) es)) (case_many operation (length es) h q))
+
+-- as many scalars as expressions
+all-counted : (es : List Expr) (S : List ℕ → ℕ) (e : Env) (n : ℕ) → scalar_count (emit_all (exprs es) S e n).scalars ≡ length es
+all-counted [] S e n = refl
+all-counted (x ∷ es) S e n = ap suc (all-counted es S e (width (emit x S e n).nodes n))
+
+pub as_many : (k : Catalog) (es : List BoundExpr) (e : Env) (start new : Draft) (ss : List ScalarCode) →
+    EmitsAll start new (scalars_of ss) (emit_all (exprs_of k es) (width_in k) e (drafted start).width) → length es ≡ length ss
+as_many k es e start new ss d =
+    sym (length-map (tree_of k) es) ∙ sym (all-counted (map (tree_of k) es) (width_in k) e (drafted start).width) ∙ ap scalar_count (sym d.scalars) ∙ scalars-counted ss
+
+-- ---- words of bound expressions
+
+pub taken_bound : (k : Catalog) (expr : BoundExpr) (operation : BoundOperation) (es bs : List BoundExpr) (e : Env) (start new : Draft) (s : Scalar) → expr ≡ Operation operation es →
+    bs ≡ es → takes operation (length es) ≡ true →
+    Emits start new s (emit (stood (standing operation) (map (tree_of k) bs)) (width_in k) e (drafted start).width) →
+    Emits start new s (emit (tree_of k expr) (width_in k) e (drafted start).width)
+taken_bound k expr operation es bs e start new s is x h d =
+    let tree : stood (standing operation) (map (tree_of k) bs) ≡ tree_of k expr =
+    ap (λ (ys : List BoundExpr). stood (standing operation) (map (tree_of k) ys)) x ∙ sym (tree_of-taken k operation es h) ∙ ap (tree_of k) (sym is) in
+    subst (λ y. Emits start new s (emit y (width_in k) e (drafted start).width)) tree d
+
+pub refused_bound : (k : Catalog) (expr : BoundExpr) (operation : BoundOperation) (es : List BoundExpr) (e : Env) (start : Draft) → expr ≡ Operation operation es →
+    takes operation (length es) ≡ false → Emits start start (scalar_of (Constant Null)) (emit (tree_of k expr) (width_in k) e (drafted start).width)
+refused_bound k expr operation es e start is h =
+    let tree : Literal Null ≡ tree_of k expr = sym (tree_of-refused k operation es h) ∙ ap (tree_of k) (sym is) in
+    subst (λ y. Emits start start (scalar_of (Constant Null)) (emit y (width_in k) e (drafted start).width)) tree
+    (record { tree = refl; columns = refl; scalar = scalar_of-Constant Null })
+
+-- CASE with an operand, of the first operand and the others
+pub case_bound : (k : Catalog) (es bs : List BoundExpr) (x : BoundExpr) (e : Env) (start compared wide new : Draft) (first : ScalarCode) (held ss : List ScalarCode) (s : Scalar) (m : ℕ) →
+    3 ≤ length es → x ≡ slice_index_or es 0 x → bs ≡ take (length es - 1) (drop 1 es) → Emits start compared (scalar_of first) (emit (tree_of k x) (width_in k) e (drafted start).width) →
+    m ≡ (drafted compared).width → held ≡ first ∷ [] → (drafted wide).tree ≡ extend (scalars_of held) (drafted compared).tree →
+    (drafted wide).width ≡ (drafted compared).width + length held → EmitsAll wide new (scalars_of ss) (emit_all (exprs_of k bs) (width_in k) e (drafted wide).width) →
+    s ≡ word case_word (against m (scalars_of ss)) → Emits start new s (emit (case_of (map (tree_of k) es)) (width_in k) e (drafted start).width)
+case_bound k [] bs x e start compared wide new first held ss s m many head tail one at only tree columns others is = absurd (omega (arith, many))
+case_bound k (y ∷ es) bs x e start compared wide new first held ss s m many head tail one at only tree columns others is =
+    let rest_many : 2 ≤ length (map (tree_of k) es) = subst (λ n. 2 ≤ n) (sym (length-map (tree_of k) es)) (omega (arith, many)) in
+    case_emits (tree_of k y) (map (tree_of k) es) (width_in k) e start compared wide new (scalar_of first) (scalars_of ss) s m rest_many
+    (subst (λ z. Emits start compared (scalar_of first) (emit (tree_of k z) (width_in k) e (drafted start).width)) head one) at
+    (tree ∙ ap (λ (xs : List ScalarCode). extend (scalars_of xs) (drafted compared).tree) only) (columns ∙ ap (λ (xs : List ScalarCode). (drafted compared).width + length xs) only)
+    (subst (λ (ys : List BoundExpr). EmitsAll wide new (scalars_of ss) (emit_all (exprs_of k ys) (width_in k) e (drafted wide).width)) (tail ∙ take_all (length (y ∷ es) - 1) es (omega arith)) others) is

@@ -5,7 +5,9 @@ pub mod Views
 pub mod Lists
 pub mod Checks
 pub mod Emitting
-pub mod Even
+pub mod Moving
+pub mod Running
+pub mod Arms
 pub mod Tests
 pub mod Own
 pub mod Choosing

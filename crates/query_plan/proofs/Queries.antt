@@ -17,7 +17,7 @@ use Rattle.query_plan.specs.Emission.{EmitsAll}
 use Rattle.query_plan.specs.Listing.{listed_only}
 use Rattle.query_plan.specs.Plainness.{ArePlain}
 use Rattle.query_plan.specs.Choosing.{is_unit_row, columns_from, with_row, closed, all_arms_of}
-use Rattle.query_plan.specs.Widths.{width_in}
+use Rattle.catalog_store.specs.Widths.{width_in}
 use Rattle.query_plan.proofs.Joins.{on_each-joined, width-joined}
 use Rattle.query_plan.proofs.Lists.{rest, map-last}
 use Rattle.query_plan.proofs.Nodes.{plain_unit}

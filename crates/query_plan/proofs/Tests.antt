@@ -1,27 +1,62 @@
 -- The conjuncts of a query that no query stands around.
-use Rattle.std.proofs.Common.{ℕ, ◌≡◌, zero, suc, ◌<◌, ◌+◌, ◌∷◌, List, Option, Some, None, Bool, true, false, if◌then◌else◌, length, drop, get_or, refl, sym, ap, ◌∙◌, subst}
+use Rattle.std.proofs.Common.{ℕ, ◌≡◌, zero, suc, ◌<◌, ◌+◌, ◌∷◌, [], map, slice_index_or, arith, List, Option, Some, None, Bool, true, false, if◌then◌else◌, length, drop, get_or, refl, sym, ap, ◌∙◌, subst}
 use Rattle.sql_values.specs.declared.value.Value.TheVariants.{Null}
 use Rattle.sql_values.specs.declared.operators.Comparison.{Comparison}
-use Rattle.sql_values.specs.declared.operators.Comparison.TheVariants.{Equals}
+use Rattle.sql_values.specs.declared.operators.Comparison.TheVariants.{Equals, NotEquals, LessThan, LessThanOrEquals, GreaterThan, GreaterThanOrEquals}
 use Rattle.bound_trees.specs.declared.expr.BoundExpr.{BoundExpr}
+use Rattle.bound_trees.specs.declared.expr.BoundOperation.TheVariants.{Comparing as BoundComparing}
 use Rattle.catalog_store.specs.Catalog.{Catalog}
-use Rattle.catalog_store.specs.View.{tree_of, exprs_of}
-use Rattle.rel_algebra.specs.Tree.{Comparing, Expr, Exprs, MoreExprs, Compare, Column, Variable}
+use Rattle.catalog_store.specs.View.{tree_of, exprs_of, operated}
+use Rattle.rel_algebra.specs.Tree.{Comparing, Expr, Exprs, NoExpr, MoreExprs, Operate, Column, Variable}
 use Rattle.rel_algebra.specs.Plan.{strict, Scalar, constant, word, more, none, filter}
 use Rattle.rel_algebra.specs.Emit.{nowhere, Key, Emitted, Waiting, none_waits, entered, top, read, columns_within, turned, key_of, key_step, test_step, emit, emit_tests, filters, filters_width, width}
 use Rattle.query_plan.specs.declared.draft.Draft.{Draft}
 use Rattle.query_plan.specs.Drafts.{drafted}
 use Rattle.query_plan.specs.Emission.{Emits}
 use Rattle.query_plan.specs.Conjuncts.{is_zero, inner_place, is_outer, own_place, is_equality, key_place, test_by, test_of, turned_at}
-use Rattle.query_plan.specs.Widths.{width_in}
+use Rattle.catalog_store.specs.Widths.{width_in}
 use Rattle.query_plan.proofs.Lists.{rest}
+
+turned_alone : (x : Expr) (columns : ℕ) (a : Emitted) → test_by (key_of (Operate (Comparing Equals) (MoreExprs x NoExpr)) (entered (top 0) columns)) a ≡ a
+turned_alone (Column zero i) columns a = refl
+turned_alone (Column (suc d) i) columns a = refl
+turned_alone (Variable j) columns a = refl
+turned_alone _ columns a = refl
+
+turned_sides : (x y : Expr) (columns : ℕ) (a : Emitted) →
+    test_by (key_of (Operate (Comparing Equals) (MoreExprs x (MoreExprs y NoExpr))) (entered (top 0) columns)) a ≡ turned_at columns (own_place x y) a
+turned_sides (Column zero i) (Column (suc d) j) columns a = refl
+turned_sides (Column (suc d) j) (Column zero i) columns a = refl
+turned_sides (Column zero i) (Variable j) columns a = refl
+turned_sides (Variable j) (Column zero i) columns a = refl
+turned_sides _ _ columns a = refl
+
+turned_many : (x y z : Expr) (es : Exprs) (columns : ℕ) (a : Emitted) →
+    test_by (key_of (Operate (Comparing Equals) (MoreExprs x (MoreExprs y (MoreExprs z es)))) (entered (top 0) columns)) a ≡ a
+turned_many (Column zero i) (Column (suc d) j) z es columns a = refl
+turned_many (Column (suc d) j) (Column zero i) z es columns a = refl
+turned_many (Column zero i) (Variable j) z es columns a = refl
+turned_many (Variable j) (Column zero i) z es columns a = refl
+turned_many _ _ z es columns a = refl
+
+not_turned : (comparison : Comparison) (es : Exprs) (columns : ℕ) (a : Emitted) → is_equality comparison ≡ false →
+    a ≡ turned_at columns (key_place (Operate (Comparing comparison) es)) a
+not_turned comparison NoExpr columns a h = refl
+not_turned comparison (MoreExprs x NoExpr) columns a h = refl
+not_turned comparison (MoreExprs x (MoreExprs y NoExpr)) columns a h = ap (λ b. turned_at columns (if b then own_place x y else None) a) (sym h)
+not_turned comparison (MoreExprs x (MoreExprs y (MoreExprs z es))) columns a h = refl
 
 -- which place each conjunct is turned at
 pub turned_there : (x : Expr) (columns : ℕ) (a : Emitted) → test_by (key_of x (entered (top 0) columns)) a ≡ turned_at columns (key_place x) a
-turned_there (Compare Equals (Column zero i) (Column (suc d) j)) columns a = refl
-turned_there (Compare Equals (Column (suc d) j) (Column zero i)) columns a = refl
-turned_there (Compare Equals (Column zero i) (Variable j)) columns a = refl
-turned_there (Compare Equals (Variable j) (Column zero i)) columns a = refl
+turned_there (Operate (Comparing Equals) NoExpr) columns a = refl
+turned_there (Operate (Comparing Equals) (MoreExprs x NoExpr)) columns a = turned_alone x columns a
+turned_there (Operate (Comparing Equals) (MoreExprs x (MoreExprs y NoExpr))) columns a = turned_sides x y columns a
+turned_there (Operate (Comparing Equals) (MoreExprs x (MoreExprs y (MoreExprs z es)))) columns a = turned_many x y z es columns a
+turned_there (Operate (Comparing NotEquals) es) columns a = not_turned NotEquals es columns a refl
+turned_there (Operate (Comparing LessThan) es) columns a = not_turned LessThan es columns a refl
+turned_there (Operate (Comparing LessThanOrEquals) es) columns a = not_turned LessThanOrEquals es columns a refl
+turned_there (Operate (Comparing GreaterThan) es) columns a = not_turned GreaterThan es columns a refl
+turned_there (Operate (Comparing GreaterThanOrEquals) es) columns a = not_turned GreaterThanOrEquals es columns a refl
 turned_there _ columns a = refl
 
 -- a key's name is read nowhere
@@ -30,10 +65,10 @@ OtherNowhere None = Unit {0}
 OtherNowhere (Some key) = key.other ≡ nowhere
 
 others_nowhere : (x : Expr) (columns : ℕ) → OtherNowhere (key_of x (entered (top 0) columns))
-others_nowhere (Compare Equals (Column zero i) (Column (suc d) j)) columns = refl
-others_nowhere (Compare Equals (Column (suc d) j) (Column zero i)) columns = refl
-others_nowhere (Compare Equals (Column zero i) (Variable j)) columns = refl
-others_nowhere (Compare Equals (Variable j) (Column zero i)) columns = refl
+others_nowhere (Operate (Comparing Equals) (MoreExprs (Column zero i) (MoreExprs (Column (suc d) j) NoExpr))) columns = refl
+others_nowhere (Operate (Comparing Equals) (MoreExprs (Column (suc d) j) (MoreExprs (Column zero i) NoExpr))) columns = refl
+others_nowhere (Operate (Comparing Equals) (MoreExprs (Column zero i) (MoreExprs (Variable j) NoExpr))) columns = refl
+others_nowhere (Operate (Comparing Equals) (MoreExprs (Variable j) (MoreExprs (Column zero i) NoExpr))) columns = refl
 others_nowhere _ columns = tt
 
 nothing_waits : (of_column : Bool) (t : Emitted) (go : Waiting → ℕ → List Emitted) (n : ℕ) → key_step of_column nowhere t go none_waits n ≡ t ∷ go none_waits n
@@ -87,8 +122,14 @@ pub own_column : (level i : ℕ) (y : Expr) (b o : Bool) → b ≡ is_zero level
     (if b then (if o then Some i else None) else inner_place y) ≡ own_place (Column level i) y
 own_column level i y b o h g = λ j. if h j then (if g j then Some i else None) else inner_place y
 
-pub own_of_equality : (comparison : Comparison) (x y : Expr) (b : Bool) → b ≡ is_equality comparison → (if b then own_place x y else None) ≡ key_place (Compare comparison x y)
-own_of_equality comparison x y b h = λ j. if h j then own_place x y else None
+-- a comparison of two sides
+pub own_of_equality : (k : Catalog) (comparison : Comparison) (es : List BoundExpr) (x y : BoundExpr) → is_equality comparison ≡ true → length es ≡ 2 → x ≡ slice_index_or es 0 x →
+    y ≡ slice_index_or es 1 y → own_place (tree_of k x) (tree_of k y) ≡ key_place (operated (BoundComparing comparison) (map (tree_of k) es))
+own_of_equality k comparison [] x y equal two first second = absurd (omega (arith, two))
+own_of_equality k comparison (a ∷ []) x y equal two first second = absurd (omega (arith, two))
+own_of_equality k comparison (a ∷ b ∷ []) x y equal two first second =
+    (λ j. own_place (tree_of k (first j)) (tree_of k (second j))) ∙ ap (λ t. if t then own_place (tree_of k a) (tree_of k b) else None) (sym equal)
+own_of_equality k comparison (a ∷ b ∷ c ∷ es) x y equal two first second = absurd (omega (arith, two))
 
 -- ---- what is emitted for a conjunct
 

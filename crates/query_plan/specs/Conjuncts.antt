@@ -3,7 +3,7 @@
 use Rattle.std.specs.Prelude.{ℕ, zero, suc, List, Bool, true, false, if◌then◌else◌, Option, Some, None}
 use Rattle.sql_values.specs.declared.operators.Comparison.{Comparison}
 use Rattle.sql_values.specs.declared.operators.Comparison.TheVariants.{Equals}
-use Rattle.rel_algebra.specs.Tree.{Expr, Column, Variable, Compare}
+use Rattle.rel_algebra.specs.Tree.{Expr, Column, Variable, Comparing, Operate, NoExpr, MoreExprs}
 use Rattle.rel_algebra.specs.Emit.{Env, Key, Emitted, nowhere, key_of, turned, emit, columns_within, top}
 
 abbrev pub is_zero : ℕ → Bool
@@ -32,7 +32,7 @@ is_equality Equals = true
 is_equality _ = false
 
 abbrev pub key_place : Expr → Option ℕ
-key_place (Compare comparison x y) = if is_equality comparison then own_place x y else None
+key_place (Operate (Comparing comparison) (MoreExprs x (MoreExprs y NoExpr))) = if is_equality comparison then own_place x y else None
 key_place _ = None
 
 -- what a conjunct is read as

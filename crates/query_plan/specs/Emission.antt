@@ -1,7 +1,7 @@
 -- What the emission of a scalar makes of a plan in the making.
 use Rattle.std.specs.Prelude.{◌≡◌, ℕ, Bool, true, false, List, [], ◌∷◌}
 use Rattle.sql_values.specs.declared.value.Value.TheVariants.{Bool as Truth}
-use Rattle.rel_algebra.specs.Tree.{NullTest, Expr, Literal, Column, Variable}
+use Rattle.rel_algebra.specs.Tree.{NullTest}
 use Rattle.rel_algebra.specs.declared.scalar.Scalar.{Scalar as ScalarCode}
 use Rattle.rel_algebra.specs.PlanView.{scalar_of}
 use Rattle.rel_algebra.specs.Plan.{strict, or_word, and_word, case_word, Scalar, constant, column, word, Scalars, none, more, on_each}
@@ -39,10 +39,3 @@ check_if false i checks = checks
 abbrev pub put : List ScalarCode → Scalars → Scalars
 put [] rest = rest
 put (s ∷ ss) rest = more (scalar_of s) (put ss rest)
-
--- whether an argument is guarded: it is neither a literal nor a name
-abbrev pub raises : Expr → Bool
-raises (Literal v) = false
-raises (Column level i) = false
-raises (Variable i) = false
-raises _ = true

@@ -1,4 +1,3 @@
-pub mod Widths
 pub mod Drafts
 pub mod Scopes
 pub mod Emission
@@ -7,3 +6,5 @@ pub mod Listing
 pub mod Choosing
 pub mod Plainness
 pub mod Cost
+pub mod Merging
+pub mod Words

@@ -130,8 +130,8 @@ fn turned_columns(alloc: Global, columns: Items<ScalarRow>) -> Result<Items<Scal
     Ok(turned)
 }
 
-// Scalars from the last to the first.
-fn turned_scalars(alloc: Global, scalars: Items<Scalar>) -> Result<Items<Scalar>, NoMemory>
+/// Scalars from the last to the first.
+pub fn turned_scalars(alloc: Global, scalars: Items<Scalar>) -> Result<Items<Scalar>, NoMemory>
     ensures { IfOk result (λ turned. turned ≡ reverse scalars) }
 {
     let mut left = scalars;

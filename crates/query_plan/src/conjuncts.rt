@@ -1,21 +1,21 @@
 //! The conjuncts of WHERE: a Filter each.
 
-ghost use Rattle.std.specs.Prelude.{◌≡◌, ℕ, IfOk, OnOk};
+ghost use Rattle.std.specs.Prelude.{◌≡◌, ℕ, map, IfOk, OnOk};
 ghost use Rattle.rel_algebra.specs.Tree.{Column};
 ghost use Rattle.rel_algebra.specs.Emit.{entered, top, none_waits, emit_tests, filters, filters_width};
 ghost use Rattle.rel_algebra.specs.PlanView.{scalar_of};
 ghost use Rattle.catalog_store.specs.Catalog.{Catalog as PlainCatalog};
-ghost use Rattle.catalog_store.specs.View.{tree_of, exprs_of};
+ghost use Rattle.catalog_store.specs.View.{tree_of, exprs_of, operated};
 ghost use Rattle.query_plan.specs.Conjuncts.{is_equality as is_equality_by, inner_place as inner_place_by, is_outer as is_outer_by, own_place as own_place_by, key_place as key_place_by, test_of};
 ghost use Rattle.query_plan.specs.Drafts.{drafted};
 ghost use Rattle.query_plan.specs.Emission.{Emits};
-ghost use Rattle.query_plan.specs.Widths.{width_in};
+ghost use Rattle.catalog_store.specs.Widths.{width_in};
 
 use crate::draft::Draft;
 use crate::emit::emit_expr;
 use crate::scalars::compare;
 use crate::scope::{Scope, is_inner};
-use bound_trees::BoundExpr;
+use bound_trees::{BoundExpr, BoundOperation};
 use catalog_store::Catalog;
 use rel_algebra::Scalar;
 use sql_values::{Comparison, NoMemory, Value};
@@ -63,9 +63,19 @@ fn key_place(conjunct: &BoundExpr) -> Option<usize>
     ensures { (known : PlainCatalog) → result ≡ key_place_by (tree_of known conjunct.now) }
 {
     match conjunct {
-        BoundExpr::Compare(comparison, left, right) => {
-            if is_equality(*comparison) {
-                own_place(left.get(), right.get())
+        BoundExpr::Operation(operation, operands) => place_in(*operation, operands.as_slice()),
+        _ => None,
+    }
+}
+
+// The place of the column that a word compares with a name from outside.
+fn place_in(operation: BoundOperation, operands: &[BoundExpr]) -> Option<usize>
+    ensures { (known : PlainCatalog) → result ≡ key_place_by (operated operation (map (tree_of known) operands.now)) }
+{
+    match operation {
+        BoundOperation::Comparing(comparison) => {
+            if is_equality(comparison) && operands.len() == 2 {
+                own_place(&operands[0], &operands[1])
             } else {
                 None
             }

@@ -1,27 +1,31 @@
 //! The emission of expressions: nodes over a plan in the making, and a scalar over these.
 
-ghost use Rattle.std.specs.Prelude.{◌≡◌, IfOk, OnOk};
-ghost use Rattle.rel_algebra.specs.Tree.{Call};
-ghost use Rattle.rel_algebra.specs.Plan.{Scalars};
-ghost use Rattle.rel_algebra.specs.Emit.{plain, emit, emit_links, emit_all, emit_body as body_by, raising, checks};
+ghost use Rattle.std.specs.Prelude.{◌≡◌, ◌≤◌, ◌+◌, true, map, length, IfOk};
+ghost use Rattle.bound_trees.specs.Operands.{takes};
+ghost use Rattle.rel_algebra.specs.Tree.{Call, parameters_of};
+ghost use Rattle.rel_algebra.specs.Emit.{plain, emit, emit_links, emit_all, emit_args, emit_body as body_by, passed};
 ghost use Rattle.rel_algebra.specs.PlanView.{scalar_of, scalars_of};
-ghost use Rattle.catalog_store.specs.Catalog.{Catalog as PlainCatalog, routine_named};
-ghost use Rattle.catalog_store.specs.View.{tree_of, exprs_of, links_of};
+ghost use Rattle.catalog_store.specs.Catalog.{routine_named};
+ghost use Rattle.catalog_store.specs.View.{tree_of, exprs_of, links_of, standing, stood, case_of};
+ghost use Rattle.catalog_store.specs.Widths.{width_in};
 ghost use Rattle.query_plan.specs.Drafts.{drafted};
-ghost use Rattle.query_plan.specs.Emission.{Emits, EmitsAll, raises, check_if, put};
+ghost use Rattle.query_plan.specs.Emission.{Emits, EmitsAll};
 ghost use Rattle.query_plan.specs.Scopes.{env_of};
-ghost use Rattle.query_plan.specs.Widths.{width_in};
 
+use crate::assigning::{assigned, assigned_at};
+use crate::cases::against;
 use crate::draft::Draft;
-use crate::scalars::{check, compare, guard, unary};
+use crate::guards::argument_checks;
+use crate::merge::merge_kept;
+use crate::scalars::{guard, one};
 use crate::scope::Scope;
-use bound_trees::{BoundExpr, BoundLink};
+use crate::words::{listed, word_over};
+use bound_trees::{BoundExpr, BoundLink, BoundOperation};
 use catalog_store::Catalog;
-use rel_algebra::{Scalar, ScalarLink, UnaryWord};
+use rel_algebra::{ListWord, Scalar, ScalarLink};
 use row_types::copied_value;
-use sql_values::{Name, NoMemory, Value};
+use sql_values::{Name, NoMemory, SqlType, Value};
 use sqlite_items::{Boxed, Items};
-use std::alloc::Global;
 
 /// Emits an expression.
 #[cycle(emit)]
@@ -37,14 +41,12 @@ pub fn emit_expr(
         BoundExpr::Literal(value) => Ok(Scalar::Constant(copied_value(value)?)),
         BoundExpr::Column(level, place) => Ok(scope.column(*level, *place)),
         BoundExpr::Variable(place) => Ok(scope.parameter(*place)?),
-        BoundExpr::Negate(operand) => {
-            let scalar = emit_expr(operand.get(), scope, draft, catalog)?;
-            Ok(unary(draft.allocator(), UnaryWord::Negation, scalar)?)
-        }
-        BoundExpr::Compare(comparison, left, right) => {
-            let before = emit_expr(left.get(), scope, draft, catalog)?;
-            let behind = emit_expr(right.get(), scope, draft, catalog)?;
-            Ok(compare(draft.allocator(), *comparison, before, behind)?)
+        BoundExpr::Operation(operation, operands) => {
+            if operation.takes(operands.len()) {
+                emit_operation(*operation, operands.as_slice(), scope, draft, catalog)
+            } else {
+                Ok(Scalar::Constant(Value::Null))
+            }
         }
         BoundExpr::Chain(first, links) => {
             let scalar = emit_expr(first.get(), scope, draft, catalog)?;
@@ -55,6 +57,46 @@ pub fn emit_expr(
             emit_call(name, arguments.as_slice(), scope, draft, catalog)
         }
     }
+}
+
+// Emits a word over as many operands as it takes.
+#[cycle(emit)]
+fn emit_operation(
+    operation: BoundOperation,
+    operands: &[BoundExpr],
+    scope: Scope,
+    draft: &mut Draft,
+    catalog: &Catalog,
+) -> Result<Scalar, NoMemory>
+    requires { takes operation (length operands.now) ≡ true }
+    ensures { IfOk result (λ s. Emits draft.old draft.new (scalar_of s) (emit (stood (standing operation) (map (tree_of catalog.now) operands.now)) (width_in catalog.now) (env_of scope) (drafted draft.old).width)) }
+{
+    match operation {
+        BoundOperation::CaseOf => emit_case_of(operands, scope, draft, catalog),
+        _ => {
+            let scalars = emit_list(operands, scope, draft, catalog)?;
+            Ok(word_over(draft.allocator(), operation, scalars)?)
+        }
+    }
+}
+
+// Emits CASE with an operand: the operand becomes a column, and the tests are compared with it.
+#[cycle(emit)]
+fn emit_case_of(
+    operands: &[BoundExpr],
+    scope: Scope,
+    draft: &mut Draft,
+    catalog: &Catalog,
+) -> Result<Scalar, NoMemory>
+    requires { 3 ≤ length operands.now }
+    ensures { IfOk result (λ s. Emits draft.old draft.new (scalar_of s) (emit (case_of (map (tree_of catalog.now) operands.now)) (width_in catalog.now) (env_of scope) (drafted draft.old).width)) }
+{
+    let operand = emit_expr(&operands[0], scope, draft, catalog)?;
+    let column = draft.columns();
+    draft.extend(one(draft.allocator(), operand)?)?;
+    let scalars = emit_list(&operands[1..], scope, draft, catalog)?;
+    let arms = against(draft.allocator(), column, scalars)?;
+    Ok(listed(ListWord::Case, arms))
 }
 
 // Emits what stands right in a chain, over the scalar of what stands left.
@@ -97,8 +139,8 @@ pub fn emit_list(
     Ok(scalars)
 }
 
-// Emits a call: the arguments become columns, and the body of the function of the name is emitted
-// over these. Where the catalog has none, the body is NULL.
+// Emits a call: the arguments, assigned to the types of the parameters, become columns, and the body
+// of the function of the name stands over these.
 #[cycle(emit)]
 fn emit_call(
     name: &Name,
@@ -109,75 +151,68 @@ fn emit_call(
 ) -> Result<Scalar, NoMemory>
     ensures { IfOk result (λ s. Emits draft.old draft.new (scalar_of s) (emit (Call name.now (routine_named name.now catalog.now) (exprs_of catalog.now arguments.now)) (width_in catalog.now) (env_of scope) (drafted draft.old).width)) }
 {
-    let scalars = emit_list(arguments, scope, draft, catalog)?;
+    let types = parameter_types(name, catalog);
+    let scalars = emit_arguments(arguments, types, scope, draft, catalog)?;
     let first = draft.columns();
     let count = scalars.len();
     draft.extend(scalars)?;
-    let checks = argument_checks(draft.allocator(), arguments, first)?;
-    let body = emit_body(name, Scope::Parameters(first, count), draft, catalog)?;
+    let checks = argument_checks(draft.allocator(), arguments, types, first)?;
+    let body = emit_body(name, first, count, draft, catalog)?;
     Ok(guard(draft.allocator(), checks, body)?)
 }
 
-// Emits the body of the function of a name.
+// The types of the parameters of the function of a name; none where the catalog has no function.
+fn parameter_types<'a>(name: &Name, catalog: &'a Catalog) -> &'a [SqlType]
+    ensures { result.now ≡ parameters_of (routine_named name.now catalog.now) }
+{
+    match catalog.routine(name) {
+        Some(routine) => routine.head.parameters.as_slice(),
+        None => &[],
+    }
+}
+
+// Emits arguments, from left to right, each assigned to the type of its parameter.
 #[cycle(emit)]
-fn emit_body(
-    name: &Name,
+fn emit_arguments(
+    arguments: &[BoundExpr],
+    types: &[SqlType],
     scope: Scope,
     draft: &mut Draft,
     catalog: &Catalog,
-) -> Result<Scalar, NoMemory>
-    ensures { IfOk result (λ s. Emits draft.old draft.new (scalar_of s) (body_by (routine_named name.now catalog.now) (width_in catalog.now) (env_of scope) (drafted draft.old).width)) }
-{
-    match catalog.routine(name) {
-        Some(routine) => match routine.body.tree() {
-            Some(tree) => emit_expr(tree, scope, draft, catalog),
-            None => unreachable!(),
-        },
-        None => Ok(Scalar::Constant(Value::Null)),
-    }
-}
-
-// For each argument that may raise the check of its column; the columns of all begin at `first`.
-fn argument_checks(
-    alloc: Global,
-    arguments: &[BoundExpr],
-    first: usize,
 ) -> Result<Items<Scalar>, NoMemory>
-    ensures { IfOk result (λ ss. (known : PlainCatalog) → scalars_of ss ≡ checks (raising (exprs_of known arguments.now) first)) }
+    ensures { IfOk result (λ ss. EmitsAll draft.old draft.new (scalars_of ss) (emit_args (exprs_of catalog.now arguments.now) types.now (width_in catalog.now) (env_of scope) (drafted draft.old).width)) }
 {
-    let mut checks = Items::new(alloc);
+    let mut scalars = Items::from_vec(Vec::with_capacity(draft.allocator(), arguments.len())?);
     for (place, argument) in arguments.iter().enumerate() {
-        let Some(column) = first.checked_add(place) else {
-            return Err(NoMemory);
-        };
-        add_check(alloc, argument, column, &mut checks)?;
+        let scalar = emit_expr(argument, scope, draft, catalog)?;
+        scalars.push(assigned_at(draft.allocator(), types, place, scalar)?)?;
     }
-    Ok(checks)
+    Ok(scalars)
 }
 
-// The check of an argument's column, where the argument may raise.
-fn add_check(
-    alloc: Global,
-    argument: &BoundExpr,
-    column: usize,
-    checks: &mut Items<Scalar>,
-) -> Result<(), NoMemory>
-    ensures { OnOk result ((known : PlainCatalog) (rest : Scalars) → put checks.new rest ≡ put checks.old (check_if (raises (tree_of known argument.now)) column rest)) }
+// The body of the function of a name, whose parameters stand in so many columns from `first` on:
+// its plan is merged where the call has as many arguments as the function has parameters, and else
+// its body is emitted. Where the catalog has no function the body is NULL.
+#[cycle(emit)]
+fn emit_body(
+    name: &Name,
+    first: usize,
+    count: usize,
+    draft: &mut Draft,
+    catalog: &Catalog,
+) -> Result<Scalar, NoMemory>
+    requires { (drafted draft.old).width ≡ first + count }
+    ensures { IfOk result (λ s. Emits draft.old draft.new (scalar_of s) (body_by (routine_named name.now catalog.now) (width_in catalog.now) (passed first count) (drafted draft.old).width)) }
 {
-    if may_raise(argument) {
-        checks.push(check(alloc, column)?)?;
+    let Some(routine) = catalog.routine(name) else {
+        return Ok(Scalar::Constant(Value::Null));
+    };
+    if routine.head.parameters.len() == count {
+        return merge_kept(&routine.plan, first, draft);
     }
-    Ok(())
-}
-
-// Whether an expression is neither a literal nor a name.
-fn may_raise(expr: &BoundExpr) -> bool
-    ensures { (known : PlainCatalog) → result ≡ raises (tree_of known expr.now) }
-{
-    match expr {
-        BoundExpr::Literal(_) => false,
-        BoundExpr::Column(_, _) => false,
-        BoundExpr::Variable(_) => false,
-        _ => true,
-    }
+    let value = match routine.body.tree() {
+        Some(tree) => emit_expr(tree, Scope::Parameters(first, count), draft, catalog)?,
+        None => unreachable!(),
+    };
+    Ok(assigned(draft.allocator(), routine.head.returns, value)?)
 }

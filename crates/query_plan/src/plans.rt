@@ -7,7 +7,7 @@ ghost use Rattle.rel_algebra.specs.Emit.{top, plan, from_plan};
 ghost use Rattle.rel_algebra.specs.PlanView.{tree_of};
 ghost use Rattle.catalog_store.specs.View.{from_of, query_of};
 ghost use Rattle.query_plan.specs.Drafts.{drafted};
-ghost use Rattle.query_plan.specs.Widths.{width_in};
+ghost use Rattle.catalog_store.specs.Widths.{width_in};
 
 use crate::conjuncts::filter_by;
 use crate::draft::Draft;

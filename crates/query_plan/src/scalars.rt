@@ -32,6 +32,15 @@ pub fn compare(
     Ok(Scalar::Compare(comparison, left, right))
 }
 
+/// One scalar.
+pub fn one(alloc: Global, scalar: Scalar) -> Result<Items<Scalar>, NoMemory>
+    ensures { IfOk result (λ ss. ss ≡ scalar ∷ []) }
+{
+    let mut scalars = Items::from_vec(Vec::with_capacity(alloc, 1)?);
+    scalars.push(scalar)?;
+    Ok(scalars)
+}
+
 /// Two scalars.
 pub fn two(alloc: Global, first: Scalar, second: Scalar) -> Result<Items<Scalar>, NoMemory>
     ensures { IfOk result (λ ss. ss ≡ first ∷ second ∷ []) }

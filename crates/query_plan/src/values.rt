@@ -9,7 +9,7 @@ ghost use Rattle.rel_algebra.specs.Plan.{unit_row, values};
 ghost use Rattle.catalog_store.specs.Catalog.{Catalog as PlainCatalog};
 ghost use Rattle.catalog_store.specs.View.{exprs_of, rows_of};
 ghost use Rattle.query_plan.specs.Plainness.{IsPlain, ArePlain};
-ghost use Rattle.query_plan.specs.Widths.{width_in};
+ghost use Rattle.catalog_store.specs.Widths.{width_in};
 
 use crate::chosen::{add_row, close_columns, empty_columns, numbers};
 use crate::draft::Draft;

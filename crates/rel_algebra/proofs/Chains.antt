@@ -7,7 +7,7 @@ use Rattle.rel_algebra.specs.Joins.{from_width}
 use Rattle.rel_algebra.specs.Plan.{Nodes, PlanTree, Scalar, apply, apply_by, extend, extend_by, filter, no_node, on_each}
 use Rattle.rel_algebra.specs.Removal.{Lower, Phase, Running, Stuck, Upper, base_phase, filter_phase, inner_phase, is_chain, is_key, is_region, keep_phase, keyed, kind_stays, less, nodes_within, phase, removable, stays, stays_all, tree_width, tree_within, up}
 use Rattle.rel_algebra.specs.Simple.{BeforeRun, InRun, IsKeyed, KeyedQuery, Names, NamesAll, NamesFrom, Nested, SimpleFrom, SimpleQuery}
-use Rattle.rel_algebra.specs.Tree.{Column, Compare, Cross, Derived, Expr, Exprs, From, Grouped, Inner, LeftOuter, MoreExprs, NoExpr, Ordered, Query, Select, Table, Values, Variable}
+use Rattle.rel_algebra.specs.Tree.{Column, Comparing, Cross, Derived, Expr, Exprs, From, Grouped, Inner, LeftOuter, MoreExprs, NoExpr, Operate, Ordered, Query, Select, Table, Values, Variable}
 use Rattle.rel_algebra.proofs.Truths.{and_true, left_true, never, right_true}
 use Rattle.rel_algebra.proofs.Moves.{NotGiven, outward_free}
 use Rattle.rel_algebra.proofs.Widths.{Even, EvenFrom, from_plan_width}
@@ -150,10 +150,10 @@ LocalKey p None = Unit {0}
 LocalKey p (Some key) = (key.of_column ≡ false) × (p ≡ true) × Within (turned key.own key.other) 0
 
 local_key : (x : Expr) (e : Env) (n : ℕ) (p : Bool) → Names x 1 p → KeyWithin (key_of x (entered e n)) 0 → LocalKey p (key_of x (entered e n))
-local_key (Compare Equals (Column zero i) (Column (suc d) j)) e n p ns w = never ns.1
-local_key (Compare Equals (Column (suc d) j) (Column zero i)) e n p ns w = never ns.0
-local_key (Compare Equals (Column zero i) (Variable j)) e n p ns w = (refl, ns.1, w)
-local_key (Compare Equals (Variable j) (Column zero i)) e n p ns w = (refl, ns.0, w)
+local_key (Operate (Comparing Equals) (MoreExprs (Column zero i) (MoreExprs (Column (suc d) j) NoExpr))) e n p ns w = never ns.1.0
+local_key (Operate (Comparing Equals) (MoreExprs (Column (suc d) j) (MoreExprs (Column zero i) NoExpr))) e n p ns w = never ns.0
+local_key (Operate (Comparing Equals) (MoreExprs (Column zero i) (MoreExprs (Variable j) NoExpr))) e n p ns w = (refl, ns.1.0, w)
+local_key (Operate (Comparing Equals) (MoreExprs (Variable j) (MoreExprs (Column zero i) NoExpr))) e n p ns w = (refl, ns.0, w)
 local_key _ e n p ns w = tt
 
 local_of : (x : Expr) (e : Env) (n : ℕ) (p : Bool) → Given e p → Names x 1 p → LocalKey p (key_of x (entered e n))
@@ -174,10 +174,14 @@ KeyedPlaces p (Some key) n = (i : ℕ) × (less i n ≡ true) × (key.own ≡ at
     (key.of_column ≡ false → ParamPlace p q)
 
 keyed_places : (x : Expr) (e : Env) (n : ℕ) (p : Bool) → Given e p → IsKeyed x n → KeyedPlaces p (key_of x (entered e n)) n
-keyed_places (Compare Equals (Column zero i) (Column (suc d) j)) e n p g h = (i, h, below_is n i (at 0 i) h, e.columns d j, refl, λ f. never (sym f))
-keyed_places (Compare Equals (Column (suc d) j) (Column zero i)) e n p g h = (i, h, below_is n i (at 0 i) h, e.columns d j, refl, λ f. never (sym f))
-keyed_places (Compare Equals (Column zero i) (Variable j)) e n p g h = (i, h, below_is n i (at 0 i) h, e.params j, refl, λ f. param_place e p j g)
-keyed_places (Compare Equals (Variable j) (Column zero i)) e n p g h = (i, h, below_is n i (at 0 i) h, e.params j, refl, λ f. param_place e p j g)
+keyed_places (Operate (Comparing Equals) (MoreExprs (Column zero i) (MoreExprs (Column (suc d) j) NoExpr))) e n p g h =
+    (i, h, below_is n i (at 0 i) h, e.columns d j, refl, λ f. never (sym f))
+keyed_places (Operate (Comparing Equals) (MoreExprs (Column (suc d) j) (MoreExprs (Column zero i) NoExpr))) e n p g h =
+    (i, h, below_is n i (at 0 i) h, e.columns d j, refl, λ f. never (sym f))
+keyed_places (Operate (Comparing Equals) (MoreExprs (Column zero i) (MoreExprs (Variable j) NoExpr))) e n p g h =
+    (i, h, below_is n i (at 0 i) h, e.params j, refl, λ f. param_place e p j g)
+keyed_places (Operate (Comparing Equals) (MoreExprs (Variable j) (MoreExprs (Column zero i) NoExpr))) e n p g h =
+    (i, h, below_is n i (at 0 i) h, e.params j, refl, λ f. param_place e p j g)
 keyed_places _ e n p g h = absurd h
 
 abbrev pub IsKey : Emitted → ℕ → Type 0

@@ -9,7 +9,7 @@ use Rattle.rel_algebra.specs.Endings.{equal_values, op_value}
 use Rattle.rel_algebra.specs.Plain.{Inputs, Scope, ev}
 use Rattle.rel_algebra.specs.Plan.{Sight, cell_of, strictly}
 use Rattle.rel_algebra.specs.Theorem.{Agrees}
-use Rattle.rel_algebra.specs.Tree.{Column, Compare, Comparing, Expr, Variable}
+use Rattle.rel_algebra.specs.Tree.{Column, Comparing, Expr, MoreExprs, NoExpr, Operate, Variable}
 use Rattle.rel_algebra.proofs.Truths.{both}
 use Rattle.rel_algebra.proofs.Words.{equal_turned}
 use Rattle.std.proofs.Common.{Ok}
@@ -29,16 +29,16 @@ equal_cell : (own other : Place) (s : Sight) (x y : Value) → cell_of (read own
 equal_cell own other s x y p q = both (λ (c d : Cell). strictly (op_value (Comparing Equals)) (c ∷ d ∷ [])) _ _ _ _ p q
 
 pub key_right : (x : Expr) (e : Env) (w : Inputs) (f : Scope) (s : Sight) → Agrees e s f → KeyRight (key_of x e) x w f s
-key_right (Compare Equals (Column zero i) (Column (suc d) j)) e w f s a =
+key_right (Operate (Comparing Equals) (MoreExprs (Column zero i) (MoreExprs (Column (suc d) j) NoExpr))) e w f s a =
     record { value = _; cell = equal_cell (e.columns zero i) (e.columns (suc d) j) s _ _ (a.0 zero i) (a.0 (suc d) j); means = refl }
-key_right (Compare Equals (Column (suc d) j) (Column zero i)) e w f s a =
+key_right (Operate (Comparing Equals) (MoreExprs (Column (suc d) j) (MoreExprs (Column zero i) NoExpr))) e w f s a =
     record {
       value = _;
       cell = equal_cell (e.columns zero i) (e.columns (suc d) j) s _ _ (a.0 zero i) (a.0 (suc d) j) ∙ ap Val (equal_turned _ _);
       means = refl;
     }
-key_right (Compare Equals (Column zero i) (Variable j)) e w f s a =
+key_right (Operate (Comparing Equals) (MoreExprs (Column zero i) (MoreExprs (Variable j) NoExpr))) e w f s a =
     record { value = _; cell = equal_cell (e.columns zero i) (e.params j) s _ _ (a.0 zero i) (a.1 j); means = refl }
-key_right (Compare Equals (Variable j) (Column zero i)) e w f s a =
+key_right (Operate (Comparing Equals) (MoreExprs (Variable j) (MoreExprs (Column zero i) NoExpr))) e w f s a =
     record { value = _; cell = equal_cell (e.columns zero i) (e.params j) s _ _ (a.0 zero i) (a.1 j) ∙ ap Val (equal_turned _ _); means = refl }
 key_right _ e w f s a = tt

@@ -1,6 +1,7 @@
 -- How many columns the lists of VALUES have.
-use Rattle.std.proofs.Common.{length, ◌≡◌, true, ℕ, zero, suc, List, [], ◌∷◌, refl, ap, ◌∙◌, nat_eq, arith}
-use Rattle.rel_algebra.specs.Emit.{EmittedAll, Env, chosen, either_all, emit, emit_all, emit_rows, is_plain, nulls, scalar_count, width}
+use Rattle.std.proofs.Common.{length, ◌≡◌, true, ℕ, zero, suc, List, [], ◌∷◌, refl, ap, ◌∙◌, nat_eq, arith, drop}
+use Rattle.sql_values.specs.declared.value.SqlType.{SqlType}
+use Rattle.rel_algebra.specs.Emit.{EmittedAll, Env, chosen, either_all, emit, emit_all, emit_args, emit_rows, is_plain, nulls, scalar_count, width}
 use Rattle.rel_algebra.specs.Joins.{numbered}
 use Rattle.rel_algebra.specs.Plain.{all_even}
 use Rattle.rel_algebra.specs.Plan.{Nodes, Scalars, apply_by, extend_by, more, no_node, none}
@@ -14,6 +15,10 @@ null_count (suc n) = ap suc (null_count n)
 pub all_count : (es : Exprs) (S : List ℕ → ℕ) (e : Env) (n : ℕ) → scalar_count (emit_all es S e n).scalars ≡ count es
 all_count NoExpr S e n = refl
 all_count (MoreExprs x es) S e n = ap suc (all_count es S e (width (emit x S e n).nodes n))
+
+pub args_count : (es : Exprs) (types : List SqlType) (S : List ℕ → ℕ) (e : Env) (n : ℕ) → scalar_count (emit_args es types S e n).scalars ≡ count es
+args_count NoExpr types S e n = refl
+args_count (MoreExprs x es) types S e n = ap suc (args_count es (drop 1 types) S e (width (emit x S e n).nodes n))
 
 abbrev pub EachCount : ℕ → List EmittedAll → Type 0
 EachCount k [] = Unit {0}

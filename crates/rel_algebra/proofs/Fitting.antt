@@ -1,15 +1,16 @@
 -- The plan of a query is well formed, kinds of values aside.
-use Rattle.std.proofs.Common.{◌≡◌, ℕ, zero, suc, ◌+◌, ◌≤◌, Bool, true, false, cond, ◌&&◌, nat_eq, List, [], ◌∷◌, length, Option, Some, None, refl, ap, sym, ◌∙◌, subst, arith}
+use Rattle.std.proofs.Common.{◌≡◌, ℕ, zero, suc, ◌+◌, ◌≤◌, Bool, true, false, cond, ◌&&◌, nat_eq, List, [], ◌∷◌, length, Option, Some, None, refl, ap, sym, ◌∙◌, subst, arith, drop, ◌||◌, ◌<◌}
+use Rattle.sql_values.specs.declared.value.SqlType.{SqlType}
 use Rattle.sql_values.specs.declared.value.Value.TheVariants.{Bool as Truth}
-use Rattle.rel_algebra.specs.Emit.{Emitted, EmittedAll, Env, Folded, Waiting, against_on, all_plain, all_true, all_values, all_waiting, ask, ask_member, called, checks, chosen, either_all, else_arms, emit, emit_all, emit_body, emit_links, emit_rows, emit_tests, entered, filters, filters_width, first_and, first_value, folded, folded_env, folding, from_plan, given, is_plain, key_of, lifted, list_nodes, none_waits, nulls, numbers, passed, plan, raising, routine_plan, row_stands, scalar_count, scalars_of, selected, several, singly, top, values_plan, width, word_on}
+use Rattle.rel_algebra.specs.Emit.{Emitted, EmittedAll, Env, Folded, Waiting, against_on, all_plain, all_true, all_values, all_waiting, ask, ask_member, assigning_in, called, checks, chosen, computed, either_all, else_arms, emit, emit_all, emit_args, emit_body, emit_links, emit_rows, emit_tests, entered, filters, filters_width, first_and, first_value, folded, folded_env, folding, from_plan, given, is_plain, key_of, lifted, list_nodes, may_refuse, none_waits, nulls, numbers, passed, place_if, plan, raising, routine_plan, row_stands, scalar_count, scalars_of, selected, several, singly, top, values_plan, width, word_on}
 use Rattle.rel_algebra.specs.Joins.{from_width, numbered, places, rows_width}
 use Rattle.rel_algebra.specs.Plain.{all_even}
 use Rattle.rel_algebra.specs.Plan.{Kind, PlanTree, Scalar, Scalars, apply_by, argument, case_word, column, constant, cross, exists, filter, group, kind_width, member, more, no_node, none, single, strict, unit_row, values, word}
 use Rattle.rel_algebra.specs.Removal.{less, tree_width}
-use Rattle.rel_algebra.specs.Tree.{Aggregate, And, Arithmetic, Call, CallSelf, Case, CaseOf, Chain, Coalesce, Column, Compare, Cross, Derived, Exists, Expr, Exprs, From, Function, Grouped, In, Inner, LeftOuter, Links, Literal, MoreExprs, MoreLinks, MoreRows, Negate, NoExpr, NoLink, NoRow, Operate, Or, Ordered, Query, Routine, Rows, Select, Single, Table, Values, Variable, count, parameters_of}
+use Rattle.rel_algebra.specs.Tree.{Aggregate, And, Arithmetic, Call, CallSelf, Case, CaseOf, Chain, Coalesce, Column, Cross, Derived, Exists, Expr, Exprs, From, Function, Grouped, In, Inner, LeftOuter, Links, Literal, MoreExprs, MoreLinks, MoreRows, NoExpr, NoLink, NoRow, Operate, Or, Ordered, Query, Routine, Rows, Select, Single, Table, Values, Variable, count, parameters_of}
 use Rattle.rel_algebra.specs.WellFormed.{HasRow, Shaped, ShapedAll, ShapedBody, ShapedFrom, ShapedLinks, ShapedQuery, ShapedRows, WellFormedPlans, aggregates_fit, columns_fit, has_column, keys_fit, kind_fits, lists_fit, nodes_fit, scalar_fits, scalars_fit, tree_fits}
-use Rattle.rel_algebra.proofs.Counts.{EachCount, all_count, numbered_long, plain_width, rows_count}
-use Rattle.rel_algebra.proofs.FittingNodes.{EnvFits, Fit, FitAll, TestsFit, WaitingFits, against_fits, all_true_fits, at_join, below_fits, check_fits, entered_fits, env_more, equals_itself, filters_fit, filters_tree_width, first_and_fits, first_value_fits, folded_fits, if_values_fits, join_fits, key_fits, lifted_fits, listed_fits, lt_less, one_at_join, passed_fits, places_fit, read_fits, row_stands_fits, scalar_more, scalars_more, singly_fits, step_fits, then_columns_fits, waits_alone, waits_both}
+use Rattle.rel_algebra.proofs.Counts.{EachCount, args_count, numbered_long, plain_width, rows_count}
+use Rattle.rel_algebra.proofs.FittingNodes.{EnvFits, Fit, FitAll, TestsFit, WaitingFits, against_fits, all_true_fits, assigning_in_fits, at_join, below_fits, check_fits, entered_fits, env_more, equals_itself, filters_fit, filters_tree_width, first_and_fits, first_value_fits, folded_fits, if_values_fits, join_fits, key_fits, lifted_fits, listed_fits, lt_less, one_at_join, passed_fits, places_fit, read_fits, row_stands_fits, scalar_more, scalars_more, singly_fits, step_fits, then_columns_fits, waits_alone, waits_both}
 use Rattle.rel_algebra.proofs.Truths.{and_true, left_true, right_true}
 use Rattle.rel_algebra.proofs.Widths.{Even, EvenFrom, from_plan_width, places_long, plan_width, selected_width, width_join, width_more}
 
@@ -47,6 +48,14 @@ all_fit (MoreExprs x es) h S e m ws ps s v =
     let a = emit x S e m in
     first_and_fits a (emit_all es S e) S m ws ps (h.0 S e m ws ps s.0 v)
     (all_fit es h.1 S e (width a.nodes m) ws ps s.1 (env_more e m (width a.nodes m) ws ps (width_more a.nodes m) v))
+
+args_fit : (es : Exprs) → EachFits es → (types : List SqlType) (S : List ℕ → ℕ) (e : Env) (m : ℕ) (ws : List ℕ) (ps : ℕ) → ShapedAll es S →
+    EnvFits e (m ∷ ws) ps → FitAll (emit_args es types S e m) S m ws ps
+args_fit NoExpr h types S e m ws ps s v = (refl, refl)
+args_fit (MoreExprs x es) h types S e m ws ps s v =
+    let a = emit x S e m in
+    first_and_fits (assigning_in types a) (emit_args es (drop 1 types) S e) S m ws ps (assigning_in_fits types a S m ws ps (h.0 S e m ws ps s.0 v))
+    (args_fit es h.1 (drop 1 types) S e (width a.nodes m) ws ps s.1 (env_more e m (width a.nodes m) ws ps (width_more a.nodes m) v))
 
 tests_fit : (es : Exprs) → EachFits es → (S : List ℕ → ℕ) (e : Env) (m : ℕ) (ws : List ℕ) (ps : ℕ) (pending : Waiting) → ShapedAll es S →
     EnvFits e (m ∷ ws) ps → WaitingFits pending S m ws ps → TestsFit (emit_tests es S e pending m) S m ws ps
@@ -97,22 +106,26 @@ case_of_fits x test result arms hx ht hr ha S e m ws ps s v =
               (lt_less c (width all.nodes (suc c)) (let k = width_more all.nodes (suc c) in omega (arith, k))) w.1,
         )
 
-raising_fit : (es : Exprs) (m n : ℕ) → m + count es ≤ n → columns_fit (raising es m) n ≡ true
-raising_fit NoExpr m n h = refl
-raising_fit (MoreExprs (Literal v) es) m n h = raising_fit es (suc m) n (omega arith)
-raising_fit (MoreExprs (Column d i) es) m n h = raising_fit es (suc m) n (omega arith)
-raising_fit (MoreExprs (Variable i) es) m n h = raising_fit es (suc m) n (omega arith)
-raising_fit (MoreExprs x es) m n h = and_true (less m n) (columns_fit (raising es (suc m)) n) (lt_less m n (omega arith))
-    (raising_fit es (suc m) n (omega arith))
+place_fits : (b : Bool) (i : ℕ) (is : List ℕ) (n : ℕ) → i < n → columns_fit is n ≡ true → columns_fit (place_if b i is) n ≡ true
+place_fits true i is n l h = and_true (less i n) (columns_fit is n) (lt_less i n l) h
+place_fits false i is n l h = h
+
+raising_fit : (es : Exprs) (types : List SqlType) (m n : ℕ) → m + count es ≤ n → columns_fit (raising es types m) n ≡ true
+raising_fit NoExpr types m n h = refl
+raising_fit (MoreExprs x es) types m n h = place_fits (may_refuse types || computed x) m (raising es (drop 1 types) (suc m)) n (omega arith)
+    (raising_fit es (drop 1 types) (suc m) n (omega arith))
 
 call_fits : (name : List ℕ) (r : Routine) (es : Exprs) → BodyFits r → EachFits es → ExprFits (Call name r es)
 call_fits name r es hb ha S e m ws ps s v =
-    let a = emit_all es S e m in let c = width a.nodes m in let k = scalar_count a.scalars in let b = emit_body r S (passed c k) (c + k) in
+    let types = parameters_of r in let a = emit_args es types S e m in let c = width a.nodes m in let k = scalar_count a.scalars in
+    let b = emit_body r S (passed c k) (c + k) in
     let w : Fit b S (c + k) ws ps = hb S c k ws ps s.0 in
-    then_columns_fits a (λ c k. called (raising es c) (emit_body r S (passed c k) (c + k))) S m ws ps (all_fit es ha S e m ws ps s.1 v) (
+    then_columns_fits a (λ c k. called (raising es types c) (emit_body r S (passed c k) (c + k))) S m ws ps
+    (args_fit es ha types S e m ws ps s.1 v) (
       w.0,
-      if_values_fits (raising es c) b.scalar (width b.nodes (c + k)) ws ps
-          (raising_fit es c (width b.nodes (c + k)) (let i = all_count es S e m in let j = width_more b.nodes (c + k) in omega (arith, i, j))) w.1,
+      if_values_fits (raising es types c) b.scalar (width b.nodes (c + k)) ws ps
+          (raising_fit es types c (width b.nodes (c + k))
+          (let i = args_count es types S e m in let j = width_more b.nodes (c + k) in omega (arith, i, j))) w.1,
     )
 
 -- Queries inside.
@@ -325,8 +338,6 @@ mutual
   expr_fits (Literal c) = λ S e m ws ps s v. (refl, refl)
   expr_fits (Column d i) = λ S e m ws ps s v. (refl, read_fits (e.columns d i) (m ∷ ws) ps (v.0 d i))
   expr_fits (Variable i) = λ S e m ws ps s v. (refl, read_fits (e.params i) (m ∷ ws) ps (v.1 i))
-  expr_fits (Negate x) = λ S e m ws ps s v. singly_fits (emit x S e m) S m ws ps (expr_fits x S e m ws ps s v)
-  expr_fits (Compare comparison x y) = λ S e m ws ps s v. two_fits (emit x S e m) y (expr_fits y) S e m ws ps s.1 v (expr_fits x S e m ws ps s.0 v)
   expr_fits (Chain x links) = λ S e m ws ps s v. links_fit links (each_link links) (emit x S e m) S e m ws ps s.1 v (expr_fits x S e m ws ps s.0 v)
   expr_fits (Operate op es) = all_fit es (each_fits es)
   expr_fits (And es) = all_fit es (each_fits es)
@@ -357,8 +368,9 @@ mutual
   each_fits (MoreExprs x es) = (expr_fits x, each_fits es)
 
   pub body_fits : (r : Routine) → BodyFits r
-  body_fits (Function calls_itself types returns x) = λ S m k ws ps s. expr_fits x S (passed m k) (m + k) ws ps s
-      (passed_fits m k (m + k) ws ps (omega arith))
+  body_fits (Function calls_itself types returns x) = λ S m k ws ps s.
+      assigning_in_fits (returns ∷ []) (emit x S (passed m k) (m + k)) S (m + k) ws ps
+      (expr_fits x S (passed m k) (m + k) ws ps s (passed_fits m k (m + k) ws ps (omega arith)))
 
   pub query_fits : (q : Query) → QueryFits q
   query_fits (Select items from tests) = λ S e ws ps s v.
@@ -435,9 +447,9 @@ mutual
 
 routine_fits : (r : Routine) (S : List ℕ → ℕ) → ShapedBody r S → tree_fits (routine_plan r S) S [] (length (parameters_of r)) ≡ true
 routine_fits (Function calls_itself types returns x) S s =
-    let n = length types in let a = emit x S (top n) 0 in
-    listed_fits (singly a) 0 unit_row S [] n refl (singly_fits a S 0 [] n
-    (expr_fits x S (top n) 0 [] n s (λ d i. tt, λ i. below_fits n i (given i) (0 ∷ []) n (λ l. l)))) refl
+    let n = length types in let a = emit x S (top n) 0 in let b = assigning_in (returns ∷ []) a in
+    listed_fits (singly b) 0 unit_row S [] n refl (singly_fits b S 0 [] n (assigning_in_fits (returns ∷ []) a S 0 [] n
+    (expr_fits x S (top n) 0 [] n s (λ d i. tt, λ i. below_fits n i (given i) (0 ∷ []) n (λ l. l))))) refl
 
 pub well_formed_plans : WellFormedPlans
 well_formed_plans = record {

@@ -2,12 +2,14 @@
 use Rattle.std.proofs.Common.{◌++◌, ◌≡◌, ℕ, zero, suc, ◌+◌, ◌≤◌, ◌<◌, Bool, true, false, ◌&&◌, nat_eq, List, [], ◌∷◌, Option, Some, None, refl, ap, sym, ◌∙◌, subst, arith}
 use Rattle.std.proofs.lemmas.List.{append-nil}
 use Rattle.sql_values.specs.declared.operators.Comparison.TheVariants.{Equals}
+use Rattle.sql_values.specs.declared.value.SqlType.{SqlType}
+use Rattle.sql_values.specs.declared.value.SqlType.TheVariants.{Boolean, Integer, Varchar}
 use Rattle.sql_values.specs.declared.value.Value.TheVariants.{Bool as Truth}
-use Rattle.rel_algebra.specs.Emit.{Emitted, EmittedAll, Env, Key, Place, Waiting, against, all_true, all_waiting, at, below, checks, checks_of, columns_within, entered, filters, filters_width, first_and, first_value, folded_env, given, if_all, if_values, joined_nodes, key_of, key_step, lifted, listed, listed_by, none_waits, nowhere, one_column, one_param, outward, own_places, passed, read, row_stands, scalar_count, singly, test_step, then_columns, truths, turned, width, with_place}
+use Rattle.rel_algebra.specs.Emit.{Emitted, EmittedAll, Env, Key, Place, Waiting, against, all_true, all_waiting, assigning, assigning_first, assigning_in, at, below, checks, checks_of, columns_within, entered, filters, filters_width, first_and, first_value, folded_env, given, if_all, if_values, joined_nodes, key_of, key_step, lifted, listed, listed_by, none_waits, nowhere, one_column, one_param, outward, own_places, passed, read, row_stands, scalar_count, singly, test_step, then_columns, truths, turned, width, with_place}
 use Rattle.rel_algebra.specs.Joins.{places}
 use Rattle.rel_algebra.specs.Plan.{Nodes, PlanTree, Scalar, Scalars, apply, apply_by, argument, column, constant, extend, extend_by, filter, kind_width, more, no_node, none, on_each, word}
 use Rattle.rel_algebra.specs.Removal.{less, tree_width}
-use Rattle.rel_algebra.specs.Tree.{Column, Compare, Expr, Variable}
+use Rattle.rel_algebra.specs.Tree.{Column, Comparing, Expr, MoreExprs, NoExpr, Operate, Variable}
 use Rattle.rel_algebra.specs.WellFormed.{columns_fit, has_column, kind_fits, nodes_fit, scalar_fits, scalars_fit, tree_fits}
 use Rattle.rel_algebra.proofs.Truths.{and_true, left_true, never, right_true}
 use Rattle.rel_algebra.proofs.Widths.{on_each_width, width_join, width_more}
@@ -106,6 +108,20 @@ lifted_fits e m ws ps v = (λ d i. outward_fits (e.columns d i) m ws ps (v.0 d i
 -- Emitted nodes and scalars, on rows of m columns.
 abbrev pub Fit : Emitted → (List ℕ → ℕ) → ℕ → List ℕ → ℕ → Type 0
 Fit a S m ws ps = (nodes_fit a.nodes S m ws ps ≡ true) × (scalar_fits a.scalar (width a.nodes m ∷ ws) ps ≡ true)
+
+assigning_fits : (t : SqlType) (s : Scalar) (ws : List ℕ) (ps : ℕ) → scalar_fits s ws ps ≡ true → scalar_fits (assigning t s) ws ps ≡ true
+assigning_fits Integer s ws ps h = h
+assigning_fits (Varchar n) s ws ps h = and_true (scalar_fits s ws ps) true h refl
+assigning_fits Boolean s ws ps h = h
+
+assigning_first_fits : (types : List SqlType) (s : Scalar) (ws : List ℕ) (ps : ℕ) → scalar_fits s ws ps ≡ true →
+    scalar_fits (assigning_first types s) ws ps ≡ true
+assigning_first_fits [] s ws ps h = h
+assigning_first_fits (t ∷ types) s ws ps h = assigning_fits t s ws ps h
+
+pub assigning_in_fits : (types : List SqlType) (a : Emitted) (S : List ℕ → ℕ) (m : ℕ) (ws : List ℕ) (ps : ℕ) → Fit a S m ws ps →
+    Fit (assigning_in types a) S m ws ps
+assigning_in_fits types a S m ws ps h = (h.0, assigning_first_fits types a.scalar (width a.nodes m ∷ ws) ps h.1)
 
 abbrev pub FitAll : EmittedAll → (List ℕ → ℕ) → ℕ → List ℕ → ℕ → Type 0
 FitAll a S m ws ps = (nodes_fit a.nodes S m ws ps ≡ true) × (scalars_fit a.scalars (width a.nodes m ∷ ws) ps ≡ true)
@@ -225,12 +241,14 @@ KeyFits None S m ws ps = Unit {0}
 KeyFits (Some key) S m ws ps = Fit (turned key.own key.other) S m ws ps
 
 pub key_fits : (x : Expr) (e : Env) (S : List ℕ → ℕ) (m : ℕ) (ws : List ℕ) (ps : ℕ) → EnvFits e (m ∷ ws) ps → KeyFits (key_of x e) S m ws ps
-key_fits (Compare Equals (Column zero i) (Column (suc d) j)) e S m ws ps v = turned_fits (e.columns zero i) (e.columns (suc d) j) S m ws ps
-    (v.0 zero i) (v.0 (suc d) j)
-key_fits (Compare Equals (Column (suc d) j) (Column zero i)) e S m ws ps v = turned_fits (e.columns zero i) (e.columns (suc d) j) S m ws ps
-    (v.0 zero i) (v.0 (suc d) j)
-key_fits (Compare Equals (Column zero i) (Variable j)) e S m ws ps v = turned_fits (e.columns zero i) (e.params j) S m ws ps (v.0 zero i) (v.1 j)
-key_fits (Compare Equals (Variable j) (Column zero i)) e S m ws ps v = turned_fits (e.columns zero i) (e.params j) S m ws ps (v.0 zero i) (v.1 j)
+key_fits (Operate (Comparing Equals) (MoreExprs (Column zero i) (MoreExprs (Column (suc d) j) NoExpr))) e S m ws ps v =
+    turned_fits (e.columns zero i) (e.columns (suc d) j) S m ws ps (v.0 zero i) (v.0 (suc d) j)
+key_fits (Operate (Comparing Equals) (MoreExprs (Column (suc d) j) (MoreExprs (Column zero i) NoExpr))) e S m ws ps v =
+    turned_fits (e.columns zero i) (e.columns (suc d) j) S m ws ps (v.0 zero i) (v.0 (suc d) j)
+key_fits (Operate (Comparing Equals) (MoreExprs (Column zero i) (MoreExprs (Variable j) NoExpr))) e S m ws ps v =
+    turned_fits (e.columns zero i) (e.params j) S m ws ps (v.0 zero i) (v.1 j)
+key_fits (Operate (Comparing Equals) (MoreExprs (Variable j) (MoreExprs (Column zero i) NoExpr))) e S m ws ps v =
+    turned_fits (e.columns zero i) (e.params j) S m ws ps (v.0 zero i) (v.1 j)
 key_fits _ e S m ws ps v = tt
 
 abbrev pub TestsFit : List Emitted → (List ℕ → ℕ) → ℕ → List ℕ → ℕ → Type 0

@@ -4,20 +4,21 @@ use Rattle.row_types.specs.Cells.{PlanRow}
 use Rattle.row_types.specs.Rows.{Row}
 use Rattle.row_types.specs.declared.cell.Cell.{Cell}
 use Rattle.row_types.specs.declared.cell.Cell.TheVariants.{Val}
-use Rattle.rel_algebra.specs.Emit.{at, below, emit, given, passed, plan, read, routine_plan, singly, top}
+use Rattle.rel_algebra.specs.Emit.{at, below, emit, emit_body, given, passed, plan, read, routine_plan, singly, top}
 use Rattle.rel_algebra.specs.Endings.{cell_end, row_at, value_at}
-use Rattle.rel_algebra.specs.Plain.{Inputs, answer, call, columns_in, ev, planned, planned_routine}
-use Rattle.rel_algebra.specs.Plan.{cell_of, collected, den, shown, unit_row}
+use Rattle.rel_algebra.specs.Plain.{Inputs, Scope, answer, call, columns_in, ev, planned, planned_routine}
+use Rattle.rel_algebra.specs.Plan.{cell_of, collected, den, shown, sight, unit_row}
 use Rattle.rel_algebra.specs.Theorem.{Fits, Means, MeansUnder, one_cell, outside, stack, under, under_columns, widths}
-use Rattle.rel_algebra.specs.Tree.{And, Call, CallSelf, Case, CaseOf, Chain, Coalesce, Column, Compare, Cross, Derived, Exists, Expr, Exprs, From, Function, Grouped, In, Inner, LeftOuter, Links, Literal, MoreExprs, MoreLinks, MoreRows, Negate, NoExpr, NoLink, NoRow, Operate, Or, Ordered, Query, Routine, Rows, Select, Single, Table, Values, Variable, parameters_of}
+use Rattle.rel_algebra.specs.Tree.{And, Call, CallSelf, Case, CaseOf, Chain, Coalesce, Column, Cross, Derived, Exists, Expr, Exprs, From, Function, Grouped, In, Inner, LeftOuter, Links, Literal, MoreExprs, MoreLinks, MoreRows, NoExpr, NoLink, NoRow, Operate, Or, Ordered, Query, Routine, Rows, Select, Single, Table, Values, Variable, parameters_of}
 use Rattle.rel_algebra.proofs.Growing.{shown_at, shown_long}
 use Rattle.rel_algebra.proofs.Folding.{Folds, exists_right, grouped_folds, in_right, single_right}
 use Rattle.rel_algebra.proofs.Lists.{RowsRight, values_means}
 use Rattle.rel_algebra.proofs.Nodes.{Yields, below_reads, outward_reads, passed_reads, singly_yields, wider}
 use Rattle.rel_algebra.proofs.Planned.{AllPlan, FromPlans, LinksPlan, Plans, QueryPlans, RoutinePlans, RowsPlan, query_plans, routine_plans}
 use Rattle.rel_algebra.proofs.Queries.{cross_makes, derived_makes, grouped_means, inner_makes, left_outer_makes, ordered_means, select_means, table_makes}
-use Rattle.rel_algebra.proofs.Right.{AllRight, BodyRight, LinksRight, Makes, QueryMeans, Right, and_right, call_right, case_of_right, case_right, chain_right, coalesce_right, column_right, compare_right, literal_right, negate_right, operation_right, or_right, parameter_right}
+use Rattle.rel_algebra.proofs.Right.{AllRight, BodyRight, LinksRight, Makes, QueryMeans, Right, and_right, call_right, case_of_right, case_right, chain_right, coalesce_right, column_right, literal_right, operation_right, or_right, parameter_right}
 use Rattle.rel_algebra.proofs.Tests.{list_cells, listed_den}
+use Rattle.rel_algebra.proofs.Words.{assigning_cell}
 use Rattle.std.proofs.Common.{ap, subst}
 
 body_long : (z : List Cell) (vs : Row) (m : ℕ) → length z ≡ m → length (z ++ shown vs) ≡ m + length vs
@@ -28,8 +29,6 @@ mutual
   expr_right (Literal v) p = literal_right v
   expr_right (Column d i) p = column_right d i
   expr_right (Variable i) p = parameter_right i
-  expr_right (Negate x) p = negate_right x (expr_right x p)
-  expr_right (Compare comparison x y) p = compare_right comparison x y (expr_right x p.0) (expr_right y p.1)
   expr_right (Chain x links) p = chain_right x links (expr_right x p.0) (links_right links p.1)
   expr_right (Operate op es) p = operation_right op es (exprs_right es p)
   expr_right (And es) p = and_right es (exprs_right es p)
@@ -53,9 +52,10 @@ mutual
   exprs_right (MoreExprs x es) p = (expr_right x p.0, exprs_right es p.1)
 
   pub body_right : (r : Routine) → RoutinePlans r → BodyRight r
-  body_right (Function calls_itself types returns x) p = λ w fits o vs m z l.
-      expr_right x p.1 w fits o (record { rows = []; params = vs }) (passed m (length vs)) (m + length vs) (z ++ shown vs) (body_long z vs m l)
-      (passed_reads w o m z vs l)
+  body_right (Function calls_itself types returns x) p = λ w fits o vs m z l. λ y g.
+      let f : Scope = record { rows = []; params = vs } in let e = passed m (length vs) in let n = m + length vs in
+      assigning_cell returns (emit x (columns_in w) e n).scalar (sight w o y) (ev x w f)
+      (expr_right x p.1 w fits o f e n (z ++ shown vs) (body_long z vs m l) (passed_reads w o m z vs l) y g)
 
   pub query_means : (q : Query) → QueryPlans q → QueryMeans q
   query_means (Select items x tests) p = select_means x tests items p.1 (from_makes x p.1) (exprs_right tests p.2) (exprs_right items p.0)
@@ -108,10 +108,11 @@ means_under q w rows p fits =
 pub routine_cells : (r : Routine) (w : Inputs) → planned_routine r ≡ true → length w.args ≡ length (parameters_of r) → Fits w →
     den (routine_plan r (columns_in w)) w [] ≡ one_cell (cell_end (call r w.args w))
 routine_cells (Function calls_itself types returns x) w p l fits =
-    let a = singly (emit x (columns_in w) (top (length types)) 0) in
+    let r = Function calls_itself types returns x in let f : Scope = record { rows = []; params = w.args } in
+    let b = emit_body r (columns_in w) (top (length types)) 0 in let a = singly b in
     listed_den a 0 unit_row w []
-    ∙ ap (λ (rs : List PlanRow). rs ++ []) (list_cells a 0 w [] [] (cell_end (ev x w (record { rows = []; params = w.args })) ∷ []) refl
-    (singly_yields (emit x (columns_in w) (top (length types)) 0) w [] [] (cell_end (ev x w (record { rows = []; params = w.args })))
-    (subst (λ (k : ℕ). Yields (emit x (columns_in w) (top k) 0) w [] [] (cell_end (ev x w (record { rows = []; params = w.args })))) l
-    (expr_right x (routine_plans (Function calls_itself types returns x) p).1 w fits [] (record { rows = []; params = w.args }) (top (length w.args))
-    0 [] refl (λ z g. (λ d i. refl, λ i. args_read w (z ∷ []) i))))))
+    ∙ ap (λ (rs : List PlanRow). rs ++ []) (list_cells a 0 w [] [] (cell_end (call r w.args w) ∷ []) refl
+    (singly_yields b w [] [] (cell_end (call r w.args w))
+    (λ y g. assigning_cell returns (emit x (columns_in w) (top (length types)) 0).scalar (sight w [] y) (ev x w f)
+    (subst (λ (k : ℕ). Yields (emit x (columns_in w) (top k) 0) w [] [] (cell_end (ev x w f))) l
+    (expr_right x (routine_plans r p).1 w fits [] f (top (length w.args)) 0 [] refl (λ z h. (λ d i. refl, λ i. args_read w (z ∷ []) i))) y g))))

@@ -1,20 +1,21 @@
 -- The plan of a well-typed query: each operand has the kind that it is wanted to have.
-use Rattle.std.proofs.Common.{◌≡◌, ℕ, zero, suc, ◌+◌, Bool, true, false, cond, ◌&&◌, nat_eq, List, [], ◌∷◌, ◌++◌, length, replicate, Option, Some, None, refl, ap, sym, ◌∙◌, subst, arith}
+use Rattle.std.proofs.Common.{◌≡◌, ℕ, zero, suc, ◌+◌, Bool, true, false, cond, ◌&&◌, nat_eq, List, [], ◌∷◌, ◌++◌, length, replicate, Option, Some, None, refl, ap, sym, ◌∙◌, subst, arith, drop}
 use Rattle.std.proofs.lemmas.List.{append-nil, length-replicate}
+use Rattle.sql_values.specs.declared.value.SqlType.{SqlType}
 use Rattle.sql_values.specs.declared.value.Value.TheVariants.{Bool as Truth}
 use Rattle.sql_values.specs.declared.operators.Comparison.TheVariants.{Equals}
-use Rattle.rel_algebra.specs.Emit.{Emitted, EmittedAll, Env, Folded, Key, Place, Waiting, against_on, all_plain, all_true, all_values, all_waiting, ask, ask_member, asked, at, called, chosen, either_all, else_arms, emit, emit_all, emit_body, emit_links, emit_rows, emit_tests, entered, filters, filters_width, first_and, first_value, folded, folded_env, folding, from_plan, given, is_plain, key_of, key_step, lifted, list_nodes, listed, none_waits, nowhere, nulls, numbers, one_column, one_param, passed, plan, raising, row_stands, scalar_count, scalars_of, selected, several, singly, test_step, top, turned, values_plan, width, word_on}
+use Rattle.rel_algebra.specs.Emit.{Emitted, EmittedAll, Env, Folded, Key, Place, Waiting, against_on, all_plain, all_true, all_values, all_waiting, ask, ask_member, asked, assigning_in, at, called, chosen, either_all, else_arms, emit, emit_all, emit_args, emit_body, emit_links, emit_rows, emit_tests, entered, filters, filters_width, first_and, first_value, folded, folded_env, folding, from_plan, given, is_plain, key_of, key_step, lifted, list_nodes, listed, none_waits, nowhere, nulls, numbers, one_column, one_param, passed, plan, raising, row_stands, scalar_count, scalars_of, selected, several, singly, test_step, top, turned, values_plan, width, word_on}
 use Rattle.rel_algebra.specs.Joins.{from_width, numbered, places, query_width, rows_width}
-use Rattle.rel_algebra.specs.Kinds.{BooleanKind, DataKind, IntegerKind, KindedPlans, Kinds, NullKind, Typed, TypedAll, TypedBody, TypedFrom, TypedLinks, TypedQuery, TypedRows, aggregate_kinds, aggregates_good, agree, agree_all, apply_kinds, body_kind, case_good, expr_kind, exprs_kinds, from_kinds, group_kinds, is_test, join_kinds, joined_kind, kind_at, kind_good, kinds_at, links_kind, lists_good, lists_kinds, nodes_good, nodes_kinds, query_kinds, results_kind, rows_kinds, scalar_good, scalar_kind, scalars_good, scalars_kinds, table_widths, tests_good, tree_good, tree_kinds, word_good, word_kind}
+use Rattle.rel_algebra.specs.Kinds.{BooleanKind, DataKind, IntegerKind, KindedPlans, Kinds, NullKind, Typed, TypedAll, TypedBody, TypedFrom, TypedLinks, TypedQuery, TypedRows, aggregate_kinds, aggregates_good, agree, agree_all, apply_kinds, args_good, args_kinds, body_kind, case_good, expr_kind, exprs_kinds, first_kind, first_takes, from_kinds, group_kinds, is_test, join_kinds, joined_kind, kind_at, kind_good, kinds_at, links_kind, lists_good, lists_kinds, nodes_good, nodes_kinds, operator_kind, query_kinds, results_kind, rows_kinds, scalar_good, scalar_kind, scalars_good, scalars_kinds, table_widths, tests_good, tree_good, tree_kinds, word_good, word_kind}
 use Rattle.rel_algebra.specs.Plain.{all_even}
 use Rattle.rel_algebra.specs.Plan.{Kind, Nodes, PlanTree, Scalar, Scalars, Word, and_word, apply_by, case_word, coalesce_word, constant, cross, exists, extend_by, filter, group, member, more, no_node, none, or_word, single, strict, unit_row, values}
-use Rattle.rel_algebra.specs.Tree.{Aggregate, And, Arithmetic, Call, CallSelf, Case, CaseOf, Chain, Coalesce, Column, Compare, Comparing, Cross, Derived, Exists, Expr, Exprs, From, Function, Grouped, In, Inner, LeftOuter, Links, Literal, MoreExprs, MoreLinks, MoreRows, Negate, Negation, NoExpr, NoLink, NoRow, Operate, Or, Ordered, Query, Routine, Rows, Select, Single, Table, Values, Variable, count}
+use Rattle.rel_algebra.specs.Tree.{Aggregate, And, Arithmetic, Call, CallSelf, Case, CaseOf, Chain, Coalesce, Column, Comparing, Cross, Derived, Exists, Expr, Exprs, From, Function, Grouped, In, Inner, LeftOuter, Links, Literal, MoreExprs, MoreLinks, MoreRows, NoExpr, NoLink, NoRow, Operate, Or, Ordered, Query, Routine, Rows, Select, Single, Table, Values, Variable, count, parameters_of}
 use Rattle.rel_algebra.specs.WellFormed.{HasRow}
 use Rattle.rel_algebra.proofs.Truths.{and_true, both, equal_numbers, left_true, never, right_true}
 use Rattle.rel_algebra.proofs.Counts.{numbered_long, plain_width}
 use Rattle.rel_algebra.proofs.KindNodes.{KindsAgree, KindsRead, PlanIs, TestsGood, Yields, YieldsAll, after_grow, after_join, after_long, aggregates_long, below_kind, entered_kinds, filters_are, filters_grow, filters_kinds, filters_long, first_and_kinds, folded_kinds, good_join, kinds_wider, lifted_kinds, listed_is, passed_kinds, read_on, singly_kinds, then_columns_kinds}
 use Rattle.rel_algebra.proofs.KindRows.{KindsGrow, first_kinds_columns, kinds_grow_at, kinds_grow_by, kinds_grow_same, kinds_grow_trans, kinds_grown_column}
-use Rattle.rel_algebra.proofs.KindWords.{Has, HaveAll, against_has, agree_turned, all_true_has, all_values_has, else_good, else_kind, first_value_has, if_values_has, join_null, read_good, row_stands_has, tested, turned_test}
+use Rattle.rel_algebra.proofs.KindWords.{Has, HaveAll, against_has, agree_turned, all_true_has, all_values_has, assigning_first_has, else_good, else_kind, first_value_has, if_values_has, join_null, read_good, row_stands_has, tested, turned_test}
 use Rattle.rel_algebra.proofs.Widths.{Even}
 
 -- How many columns queries have.
@@ -103,6 +104,22 @@ all_kinds (MoreExprs x es) h T g p e r ks ps n l rd ty =
     first_and_kinds a (emit_all es (table_widths T) e) n T r ks ps (expr_kind x T g p) (exprs_kinds es T g p) l (h.0 T g p e r ks ps n l rd ty.0)
     (λ z lz gz. all_kinds es h.1 T g p e z ks ps (width a.nodes n) lz (read_on e r z ks ps g p rd gz) ty.1)
 
+assigned_kinds : (types : List SqlType) (a : Emitted) (T : List ℕ → Kinds) (r : Kinds) (ks : List Kinds) (ps : Kinds) (k : DataKind) →
+    Yields a T r ks ps k → first_takes types k ≡ true → Yields (assigning_in types a) T r ks ps (first_kind types k)
+assigned_kinds types a T r ks ps k y g = (y.0, λ z h. assigning_first_has types a.scalar (z ∷ ks) ps k (y.1 z h) g)
+
+given_kinds : (es : Exprs) → EachKinds es → (types : List SqlType)
+    (T : List ℕ → Kinds) (g : List Kinds) (p : Kinds) (e : Env) (r : Kinds) (ks : List Kinds) (ps : Kinds) (n : ℕ) → length r ≡ n →
+    KindsRead e r ks ps g p → TypedAll es T g p → args_good (exprs_kinds es T g p) types ≡ true →
+    YieldsAll (emit_args es types (table_widths T) e n) T r ks ps (args_kinds (exprs_kinds es T g p) types)
+given_kinds NoExpr h types T g p e r ks ps n l rd ty ok = (refl, λ z k. (refl, refl))
+given_kinds (MoreExprs x es) h types T g p e r ks ps n l rd ty ok =
+    let a = emit x (table_widths T) e n in let k = expr_kind x T g p in let kk = exprs_kinds es T g p in let rest = drop 1 types in
+    first_and_kinds (assigning_in types a) (emit_args es rest (table_widths T) e) n T r ks ps (first_kind types k) (args_kinds kk rest) l
+    (assigned_kinds types a T r ks ps k (h.0 T g p e r ks ps n l rd ty.0) (left_true (first_takes types k) (args_good kk rest) ok))
+    (λ z lz gz. given_kinds es h.1 rest T g p e z ks ps (width a.nodes n) lz (read_on e r z ks ps g p rd gz) ty.1
+    (right_true (first_takes types k) (args_good kk rest) ok))
+
 word_kinds : (wd : Word) (a : EmittedAll) (T : List ℕ → Kinds) (r : Kinds) (ks : List Kinds) (ps : Kinds) (kk : Kinds) → YieldsAll a T r ks ps kk →
     word_good wd kk ≡ true → Yields (word_on wd a) T r ks ps (word_kind wd kk)
 word_kinds wd a T r ks ps kk y h = (
@@ -145,20 +162,20 @@ case_of_kinds x test result arms hx ht hr ha T g p e r ks ps n l rd ty =
 
 call_kinds : (name : List ℕ) (f : Routine) (es : Exprs) → BodyKinds f → EachKinds es → ExprKinds (Call name f es)
 call_kinds name f es hb ha T g p e r ks ps n l rd ty =
-    let S = table_widths T in let a = emit_all es S e n in let kk = exprs_kinds es T g p in
-    then_columns_kinds a (λ m k. called (raising es m) (emit_body f S (passed m k) (m + k))) n T r kk ks ps (body_kind f T kk) l
-    (all_kinds es ha T g p e r ks ps n l rd ty.1)
+    let S = table_widths T in let types = parameters_of f in let a = emit_args es types S e n in let kk = args_kinds (exprs_kinds es T g p) types in
+    then_columns_kinds a (λ m k. called (raising es types m) (emit_body f S (passed m k) (m + k))) n T r kk ks ps (body_kind f T kk) l
+    (given_kinds es ha types T g p e r ks ps n l rd ty.1 ty.2)
     (λ z lz gz lc. called_kinds z (width a.nodes n) (scalar_count a.scalars) lz lc)
   where
-    called_kinds : (z : Kinds) (m k : ℕ) → length z ≡ m → length (exprs_kinds es T g p) ≡ k →
-        Yields (called (raising es m) (emit_body f (table_widths T) (passed m k) (m + k))) T (z ++ exprs_kinds es T g p) ks ps
-        (body_kind f T (exprs_kinds es T g p))
+    called_kinds : (z : Kinds) (m k : ℕ) → length z ≡ m → length (args_kinds (exprs_kinds es T g p) (parameters_of f)) ≡ k →
+        Yields (called (raising es (parameters_of f) m) (emit_body f (table_widths T) (passed m k) (m + k))) T
+        (z ++ args_kinds (exprs_kinds es T g p) (parameters_of f)) ks ps (body_kind f T (args_kinds (exprs_kinds es T g p) (parameters_of f)))
     called_kinds z m k lz lc =
-        let kk = exprs_kinds es T g p in let b = emit_body f (table_widths T) (passed m k) (m + k) in
+        let kk = args_kinds (exprs_kinds es T g p) (parameters_of f) in let b = emit_body f (table_widths T) (passed m k) (m + k) in
         let y : Yields b T (z ++ kk) ks ps (body_kind f T kk) =
         subst (λ (j : ℕ). Yields (emit_body f (table_widths T) (passed m j) (m + j)) T (z ++ kk) ks ps (body_kind f T kk)) lc
         (hb T kk m z ks ps lz ty.0) in
-        (y.0, λ v gv. if_values_has (raising es m) b.scalar (v ∷ ks) ps (body_kind f T kk) (y.1 v gv))
+        (y.0, λ v gv. if_values_has (raising es (parameters_of f) m) b.scalar (v ∷ ks) ps (body_kind f T kk) (y.1 v gv))
 
 -- Queries inside.
 asked_kinds : (kind : Kind) (inner : PlanTree) (n : ℕ) (T : List ℕ → Kinds) (r : Kinds) (ks : List Kinds) (ps : Kinds) (k : DataKind) → length r ≡ n →
@@ -228,14 +245,14 @@ KeyGood (Some key) r ks ps = is_test (turned key.own key.other).scalar (r ∷ ks
 
 key_good : (x : Expr) (T : List ℕ → Kinds) (g : List Kinds) (p : Kinds) (e : Env) (r : Kinds) (ks : List Kinds) (ps : Kinds) →
     KindsAgree e (r ∷ ks) ps g p → Typed x T g p → KeyGood (key_of x e) r ks ps
-key_good (Compare Equals (Column zero i) (Column (suc d) j)) T g p e r ks ps a ty = turned_test (e.columns zero i) (e.columns (suc d) j) (r ∷ ks) ps _
-    _ (a.0 zero i) (a.0 (suc d) j) ty.2
-key_good (Compare Equals (Column (suc d) j) (Column zero i)) T g p e r ks ps a ty = turned_test (e.columns zero i) (e.columns (suc d) j) (r ∷ ks) ps _
-    _ (a.0 zero i) (a.0 (suc d) j) (agree_turned _ _ ty.2)
-key_good (Compare Equals (Column zero i) (Variable j)) T g p e r ks ps a ty = turned_test (e.columns zero i) (e.params j) (r ∷ ks) ps _ _ (a.0 zero i)
-    (a.1 j) ty.2
-key_good (Compare Equals (Variable j) (Column zero i)) T g p e r ks ps a ty = turned_test (e.columns zero i) (e.params j) (r ∷ ks) ps _ _ (a.0 zero i)
-    (a.1 j) (agree_turned _ _ ty.2)
+key_good (Operate (Comparing Equals) (MoreExprs (Column zero i) (MoreExprs (Column (suc d) j) NoExpr))) T g p e r ks ps a ty =
+    turned_test (e.columns zero i) (e.columns (suc d) j) (r ∷ ks) ps _ _ (a.0 zero i) (a.0 (suc d) j) ty.1
+key_good (Operate (Comparing Equals) (MoreExprs (Column (suc d) j) (MoreExprs (Column zero i) NoExpr))) T g p e r ks ps a ty =
+    turned_test (e.columns zero i) (e.columns (suc d) j) (r ∷ ks) ps _ _ (a.0 zero i) (a.0 (suc d) j) (agree_turned _ _ ty.1)
+key_good (Operate (Comparing Equals) (MoreExprs (Column zero i) (MoreExprs (Variable j) NoExpr))) T g p e r ks ps a ty =
+    turned_test (e.columns zero i) (e.params j) (r ∷ ks) ps _ _ (a.0 zero i) (a.1 j) ty.1
+key_good (Operate (Comparing Equals) (MoreExprs (Variable j) (MoreExprs (Column zero i) NoExpr))) T g p e r ks ps a ty =
+    turned_test (e.columns zero i) (e.params j) (r ∷ ks) ps _ _ (a.0 zero i) (a.1 j) (agree_turned _ _ ty.1)
 key_good _ T g p e r ks ps a ty = tt
 
 abbrev pub WaitsGood : List Emitted → Kinds → List Kinds → Kinds → Type 0
@@ -508,23 +525,15 @@ links_are : (links : Links) → LinksKinds links →
 links_are NoLink h a T g p e r ks ps n k l rd ty y = y
 links_are (MoreLinks operator x links) h a T g p e r ks ps n k l rd ty y =
     let b = first_and a (λ i. singly (emit x (table_widths T) e i)) n in
-    links_are links h.1 (word_on (strict (Arithmetic operator)) b) T g p e r ks ps n IntegerKind l rd ty.3
+    links_are links h.1 (word_on (strict (Arithmetic operator)) b) T g p e r ks ps n (operator_kind operator) l rd ty.3
     (word_kinds (strict (Arithmetic operator)) b T r ks ps (k ∷ expr_kind x T g p ∷ []) (two_kinds a x h.0 T g p e r ks ps n k l rd ty.1 y)
-    (and_true (agree k IntegerKind) (agree (expr_kind x T g p) IntegerKind) ty.0 ty.2))
+    (and_true (agree k (operator_kind operator)) (agree (expr_kind x T g p) (operator_kind operator)) ty.0 ty.2))
 
 mutual
   pub expr_kinds : (x : Expr) → ExprKinds x
   expr_kinds (Literal c) = λ T g p e r ks ps n l rd ty. (refl, λ z k. (refl, refl))
   expr_kinds (Column d i) = λ T g p e r ks ps n l rd ty. (refl, λ z k. ((rd z k).0 d i, read_good (e.columns d i) (z ∷ ks) ps))
   expr_kinds (Variable i) = λ T g p e r ks ps n l rd ty. (refl, λ z k. ((rd z k).1 i, read_good (e.params i) (z ∷ ks) ps))
-  expr_kinds (Negate x) = λ T g p e r ks ps n l rd ty.
-      word_kinds (strict Negation) (singly (emit x (table_widths T) e n)) T r ks ps (expr_kind x T g p ∷ [])
-      (singly_kinds (emit x (table_widths T) e n) T r ks ps (expr_kind x T g p) (expr_kinds x T g p e r ks ps n l rd ty.0)) ty.1
-  expr_kinds (Compare comparison x y) = λ T g p e r ks ps n l rd ty.
-      word_kinds (strict (Comparing comparison)) (first_and (emit x (table_widths T) e n) (λ i. singly (emit y (table_widths T) e i)) n) T r ks ps
-      (expr_kind x T g p ∷ expr_kind y T g p ∷ [])
-      (two_kinds (emit x (table_widths T) e n) y (expr_kinds y) T g p e r ks ps n (expr_kind x T g p) l rd ty.1
-      (expr_kinds x T g p e r ks ps n l rd ty.0)) ty.2
   expr_kinds (Chain x links) = λ T g p e r ks ps n l rd ty.
       links_are links (each_link links) (emit x (table_widths T) e n) T g p e r ks ps n (expr_kind x T g p) l rd ty.1
       (expr_kinds x T g p e r ks ps n l rd ty.0)
@@ -567,7 +576,9 @@ mutual
 
   pub body_kinds : (f : Routine) → BodyKinds f
   body_kinds (Function calls_itself types returns x) = λ T p m r ks ps l ty.
-      expr_kinds x T [] p (passed m (length p)) (r ++ p) ks ps (m + length p) (kinds_wider r p m (length p) l refl) (passed_kinds m r p ks ps l) ty
+      assigned_kinds (returns ∷ []) (emit x (table_widths T) (passed m (length p)) (m + length p)) T (r ++ p) ks ps (expr_kind x T [] p)
+      (expr_kinds x T [] p (passed m (length p)) (r ++ p) ks ps (m + length p) (kinds_wider r p m (length p) l refl) (passed_kinds m r p ks ps l)
+      ty.0) ty.1
 
   pub query_are : (q : Query) → QueryKinds q
   query_are (Select items from tests) = λ T g p e ks ps ag ty.

@@ -1,28 +1,38 @@
 -- Kinds of the scalars that the emitter builds.
 use Rattle.std.proofs.Common.{◌≡◌, ℕ, true, ◌&&◌, List, [], ◌∷◌, refl, ap, ◌∙◌}
+use Rattle.sql_values.specs.declared.value.SqlType.{SqlType}
+use Rattle.sql_values.specs.declared.value.SqlType.TheVariants.{Boolean, Integer, Varchar}
 use Rattle.sql_values.specs.declared.value.Value.TheVariants.{Bool as Truth}
-use Rattle.rel_algebra.specs.Emit.{Place, against, all_true, all_values, at, checks, checks_of, else_arms, first_value, given, if_all, if_values, nowhere, read, row_stands, truths, turned}
-use Rattle.rel_algebra.specs.Kinds.{BooleanKind, DataKind, IntegerKind, Kinds, NullKind, against_good, agree, case_good, is_test, joined_kind, kind_at, kinds_row, results_kind, scalar_good, scalar_kind, scalars_good, scalars_kinds, tests_good}
+use Rattle.rel_algebra.specs.Emit.{Place, against, all_true, all_values, assigning, assigning_first, at, checks, checks_of, else_arms, first_value, given, if_all, if_values, nowhere, read, row_stands, truths, turned}
+use Rattle.rel_algebra.specs.Kinds.{BooleanKind, DataKind, IntegerKind, Kinds, NullKind, TextKind, against_good, agree, assigned_kind, case_good, first_kind, first_takes, is_test, joined_kind, kind_at, kinds_row, results_kind, scalar_good, scalar_kind, scalars_good, scalars_kinds, takes, tests_good}
 use Rattle.rel_algebra.specs.Plan.{Scalar, Scalars, and_word, argument, case_word, column, constant, more, none, word}
 use Rattle.rel_algebra.proofs.Truths.{and_true, both, left_true, right_true}
 
 pub join_null : (k : DataKind) → joined_kind k NullKind ≡ k
 join_null NullKind = refl
 join_null IntegerKind = refl
+join_null TextKind = refl
 join_null BooleanKind = refl
 
 pub agree_null : (k : DataKind) → agree k NullKind ≡ true
 agree_null NullKind = refl
 agree_null IntegerKind = refl
+agree_null TextKind = refl
 agree_null BooleanKind = refl
 
 pub agree_turned : (a b : DataKind) → agree a b ≡ true → agree b a ≡ true
 agree_turned NullKind b h = agree_null b
 agree_turned IntegerKind NullKind h = refl
 agree_turned IntegerKind IntegerKind h = refl
+agree_turned IntegerKind TextKind h = h
 agree_turned IntegerKind BooleanKind h = h
+agree_turned TextKind NullKind h = refl
+agree_turned TextKind IntegerKind h = h
+agree_turned TextKind TextKind h = refl
+agree_turned TextKind BooleanKind h = h
 agree_turned BooleanKind NullKind h = refl
 agree_turned BooleanKind IntegerKind h = h
+agree_turned BooleanKind TextKind h = h
 agree_turned BooleanKind BooleanKind h = refl
 
 pub read_good : (p : Place) (ks : List Kinds) (ps : Kinds) → scalar_good (read p) ks ps ≡ true
@@ -36,6 +46,21 @@ Has s ks ps k = (scalar_kind s ks ps ≡ k) × (scalar_good s ks ps ≡ true)
 
 abbrev pub HaveAll : Scalars → List Kinds → Kinds → Kinds → Type 0
 HaveAll ss ks ps kk = (scalars_kinds ss ks ps ≡ kk) × (scalars_good ss ks ps ≡ true)
+
+assigning_has : (t : SqlType) (s : Scalar) (ks : List Kinds) (ps : Kinds) (k : DataKind) → Has s ks ps k → takes t k ≡ true →
+    Has (assigning t s) ks ps (assigned_kind t k)
+assigning_has Integer s ks ps k h g = h
+assigning_has (Varchar n) s ks ps k h g = (
+  refl,
+  and_true (scalar_good s ks ps && true) (agree (scalar_kind s ks ps) TextKind) (and_true (scalar_good s ks ps) true h.1 refl)
+      (ap (λ j. agree j TextKind) h.0 ∙ g),
+)
+assigning_has Boolean s ks ps k h g = h
+
+pub assigning_first_has : (types : List SqlType) (s : Scalar) (ks : List Kinds) (ps : Kinds) (k : DataKind) → Has s ks ps k →
+    first_takes types k ≡ true → Has (assigning_first types s) ks ps (first_kind types k)
+assigning_first_has [] s ks ps k h g = h
+assigning_first_has (t ∷ types) s ks ps k h g = assigning_has t s ks ps k h g
 
 checks_tests : (is : List ℕ) (ks : List Kinds) (ps : Kinds) → tests_good (scalars_kinds (checks is) ks ps) ≡ true
 checks_tests [] ks ps = refl

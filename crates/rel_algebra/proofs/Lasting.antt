@@ -1,10 +1,11 @@
 -- A plan depends on the tables that its query names alone.
-use Rattle.std.proofs.Common.{◌≡◌, ℕ, zero, suc, ◌+◌, List, ◌∷◌, length, Some, refl}
-use Rattle.rel_algebra.specs.Emit.{Emitted, Env, Waiting, against_on, all_true, all_values, ask, ask_member, called, emit, emit_all, emit_body, emit_links, emit_rows, emit_tests, entered, filters, first_and, first_value, folded, folded_env, from_plan, key_of, lifted, listed, none_waits, passed, plan, raising, row_stands, selected, singly, test_step, then_columns, top, values_plan, width, word_on}
+use Rattle.std.proofs.Common.{◌≡◌, ℕ, zero, suc, ◌+◌, List, ◌∷◌, length, Some, refl, drop, []}
+use Rattle.sql_values.specs.declared.value.SqlType.{SqlType}
+use Rattle.rel_algebra.specs.Emit.{Emitted, Env, Waiting, against_on, all_true, all_values, ask, ask_member, assigning_in, called, emit, emit_all, emit_args, emit_body, emit_links, emit_rows, emit_tests, entered, filters, first_and, first_value, folded, folded_env, from_plan, key_of, lifted, listed, none_waits, passed, plan, raising, row_stands, selected, singly, test_step, then_columns, top, values_plan, width, word_on}
 use Rattle.rel_algebra.specs.Joins.{from_width, numbered, places, query_width, rows_width}
 use Rattle.rel_algebra.specs.Lasting.{AllLast, FromLasts, LastingPlans, Lasts, LinksLast, QueryLasts, RoutineLasts, RowsLast}
 use Rattle.rel_algebra.specs.Plan.{and_word, case_word, coalesce_word, cross, exists, filter, group, keep, left_outer, or_word, scan, settle, single, sort, strict, unit_row}
-use Rattle.rel_algebra.specs.Tree.{And, Arithmetic, Call, CallSelf, Case, CaseOf, Chain, Coalesce, Column, Compare, Comparing, Cross, Derived, Exists, Expr, Exprs, From, Function, Grouped, In, Inner, LeftOuter, Links, Literal, MoreExprs, MoreLinks, MoreRows, Negate, Negation, NoExpr, NoLink, NoRow, Operate, Or, Ordered, Query, Routine, Rows, Select, Single, Table, Values, Variable, parameters_of}
+use Rattle.rel_algebra.specs.Tree.{And, Arithmetic, Call, CallSelf, Case, CaseOf, Chain, Coalesce, Column, Cross, Derived, Exists, Expr, Exprs, From, Function, Grouped, In, Inner, LeftOuter, Links, Literal, MoreExprs, MoreLinks, MoreRows, NoExpr, NoLink, NoRow, Operate, Or, Ordered, Query, Routine, Rows, Select, Single, Table, Values, Variable, parameters_of}
 
 mutual
   width_lasts : (q : Query) (S R : List ℕ → ℕ) → QueryLasts q S R → query_width q S ≡ query_width q R
@@ -25,9 +26,6 @@ mutual
   expr_lasts (Literal v) S R e n h = refl
   expr_lasts (Column level j) S R e n h = refl
   expr_lasts (Variable j) S R e n h = refl
-  expr_lasts (Negate x) S R e n h = λ i. word_on (strict Negation) (singly (expr_lasts x S R e n h i))
-  expr_lasts (Compare comparison x y) S R e n h =
-      λ i. word_on (strict (Comparing comparison)) (first_and (expr_lasts x S R e n h.0 i) (λ m. singly (expr_lasts y S R e m h.1 i)) n)
   expr_lasts (Chain x links) S R e n h = λ i. links_last links S R e n h.1 (emit x S e n) (emit x R e n) (expr_lasts x S R e n h.0) i
   expr_lasts (Operate op es) S R e n h = λ i. word_on (strict op) (all_last es S R e n h i)
   expr_lasts (And es) S R e n h = λ i. word_on and_word (all_last es S R e n h i)
@@ -42,7 +40,8 @@ mutual
   expr_lasts (Exists q) S R e n h = λ i. ask (fold_lasts q S R e h i) exists row_stands (plan_lasts q S R e h i) n
   expr_lasts (Single q) S R e n h = λ i. ask (fold_lasts q S R e h i) single first_value (plan_lasts q S R e h i) n
   expr_lasts (Call name r es) S R e n h =
-      λ i. then_columns (all_last es S R e n h.1 i) (λ m k. called (raising es m) (body_lasts r S R (passed m k) (m + k) h.0 i)) n
+      λ i. then_columns (args_last es (parameters_of r) S R e n h.1 i)
+      (λ m k. called (raising es (parameters_of r) m) (body_lasts r S R (passed m k) (m + k) h.0 i)) n
   expr_lasts (CallSelf types es) S R e n h = refl
 
   links_last : (links : Links) (S R : List ℕ → ℕ) (e : Env) (n : ℕ) → LinksLast links S R → (a b : Emitted) → a ≡ b →
@@ -57,8 +56,14 @@ mutual
   all_last NoExpr S R e n h = refl
   all_last (MoreExprs x es) S R e n h = λ i. first_and (expr_lasts x S R e n h.0 i) (λ m. all_last es S R e m h.1 i) n
 
+  args_last : (es : Exprs) (types : List SqlType) (S R : List ℕ → ℕ) (e : Env) (n : ℕ) → AllLast es S R →
+      emit_args es types S e n ≡ emit_args es types R e n
+  args_last NoExpr types S R e n h = refl
+  args_last (MoreExprs x es) types S R e n h =
+      λ i. first_and (assigning_in types (expr_lasts x S R e n h.0 i)) (λ m. args_last es (drop 1 types) S R e m h.1 i) n
+
   body_lasts : (r : Routine) (S R : List ℕ → ℕ) (e : Env) (n : ℕ) → RoutineLasts r S R → emit_body r S e n ≡ emit_body r R e n
-  body_lasts (Function calls_itself types returns x) S R e n h = expr_lasts x S R e n h
+  body_lasts (Function calls_itself types returns x) S R e n h = λ i. assigning_in (returns ∷ []) (expr_lasts x S R e n h i)
 
   tests_last : (es : Exprs) (S R : List ℕ → ℕ) (e : Env) (w : Waiting) (n : ℕ) → AllLast es S R → emit_tests es S e w n ≡ emit_tests es R e w n
   tests_last NoExpr S R e w n h = refl

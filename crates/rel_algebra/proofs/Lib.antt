@@ -28,4 +28,5 @@ pub mod KindNodes
 pub mod KindTrees
 pub mod Kept
 pub mod Lasting
+pub mod Applies
 pub mod Laws

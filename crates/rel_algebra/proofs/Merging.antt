@@ -1,15 +1,16 @@
 -- The emitter commutes with a move, so a function's own plan, moved, is the emission of its body in a call.
-use Rattle.std.proofs.Common.{◌≡◌, ℕ, zero, suc, ◌+◌, Bool, true, false, List, [], ◌∷◌, ◌++◌, length, Option, Some, None, refl, ap, sym, ◌∙◌, arith}
+use Rattle.std.proofs.Common.{◌≡◌, ℕ, zero, suc, ◌+◌, Bool, true, false, List, [], ◌∷◌, ◌++◌, length, Option, Some, None, refl, ap, sym, ◌∙◌, arith, drop}
 use Rattle.sql_values.specs.declared.operators.Comparison.TheVariants.{Equals}
+use Rattle.sql_values.specs.declared.value.SqlType.{SqlType}
 use Rattle.sql_values.specs.declared.value.Value.TheVariants.{Bool as Truth}
-use Rattle.rel_algebra.specs.Emit.{Emitted, EmittedAll, Env, Folded, Key, Place, Waiting, against_on, all_true, all_waiting, ask, ask_member, asked, asked_member, at, called, emit, emit_all, emit_body, emit_links, emit_rows, emit_tests, entered, filters, first_and, first_value, folded, folded_env, folded_member, folding, from_plan, given, if_values, key_of, key_step, lifted, none_waits, nowhere, one_column, one_param, passed, plain, plan, raising, read, row_stands, selected, singly, test_step, top, turned, values_plan, width, word_on}
+use Rattle.rel_algebra.specs.Emit.{Emitted, EmittedAll, Env, Folded, Key, Place, Waiting, against_on, all_true, all_waiting, ask, ask_member, asked, asked_member, assigning_in, at, called, emit, emit_all, emit_args, emit_body, emit_links, emit_rows, emit_tests, entered, filters, first_and, first_value, folded, folded_env, folded_member, folding, from_plan, given, if_values, key_of, key_step, lifted, none_waits, nowhere, one_column, one_param, passed, plain, plan, raising, read, row_stands, selected, singly, test_step, top, turned, values_plan, width, word_on}
 use Rattle.rel_algebra.specs.Joins.{from_width, numbered, places, rows_width}
 use Rattle.rel_algebra.specs.Merged.{MergedPlans, Move, behind, moved, moved_kind, moved_nodes, moved_scalar, moved_tree}
 use Rattle.rel_algebra.specs.Plan.{Kind, Nodes, PlanTree, Scalar, Scalars, aggregate, and_word, apply_by, case_word, coalesce_word, column, constant, cross, exists, filter, group, keep, left_outer, member, more, no_node, none, or_word, settle, single, sort, strict, word}
 use Rattle.rel_algebra.specs.PlanExamples.{f}
-use Rattle.rel_algebra.specs.Tree.{Aggregate, And, AnyOf, Arithmetic, Call, CallSelf, Case, CaseOf, Chain, Coalesce, Column, Compare, Comparing, Cross, Derived, Exists, Expr, Exprs, From, Function, Grouped, In, Inner, LeftOuter, Links, Literal, MoreExprs, MoreLinks, MoreRows, Negate, Negation, NoExpr, NoLink, NoRow, Operate, Or, Ordered, Query, Routine, Rows, Select, Single, Table, Values, Variable}
+use Rattle.rel_algebra.specs.Tree.{Aggregate, And, AnyOf, Arithmetic, Call, CallSelf, Case, CaseOf, Chain, Coalesce, Column, Comparing, Cross, Derived, Exists, Expr, Exprs, From, Function, Grouped, In, Inner, LeftOuter, Links, Literal, MoreExprs, MoreLinks, MoreRows, NoExpr, NoLink, NoRow, Operate, Or, Ordered, Query, Routine, Rows, Select, Single, Table, Values, Variable, parameters_of}
 use Rattle.rel_algebra.proofs.Truths.{both, never}
-use Rattle.rel_algebra.proofs.Moves.{EnvMoved, NotGiven, UseMoved, against_moved, all_values_moved, append_moved, below_moved, emitted, entered_moved, filters_moved, first_and_moved, first_value_moved, folded_moved, if_values_moved, joined_moved, lifted_moved, moved_all, moved_each, moved_place, moved_tests, own_column, passed_moved, raising_moved, read_moved, row_stands_moved, selected_moved, then_columns_moved, truths_moved, values_plan_moved, wide, wide_add, wide_suc, width_moved}
+use Rattle.rel_algebra.proofs.Moves.{EnvMoved, NotGiven, UseMoved, against_moved, all_values_moved, append_moved, assigning_in_moved, below_moved, emitted, entered_moved, filters_moved, first_and_moved, first_value_moved, folded_moved, if_values_moved, joined_moved, lifted_moved, moved_all, moved_each, moved_place, moved_tests, own_column, passed_moved, raising_moved, read_moved, row_stands_moved, selected_moved, then_columns_moved, truths_moved, values_plan_moved, wide, wide_add, wide_suc, width_moved}
 
 abbrev pub ExprMoved : Expr → Type 0
 ExprMoved x = (S : List ℕ → ℕ) (v : Move) (d : ℕ) (e e' : Env) (j : ℕ) → EnvMoved v d e e' → emit x S e' (wide v d j) ≡ moved v d (emit x S e j)
@@ -54,6 +55,15 @@ all_moved (MoreExprs x es) h S v d e e' j m =
     first_and_moved (emit x S e j) (emit x S e' (wide v d j)) (emit_all es S e) (emit_all es S e') v d j (h.0 S v d e e' j m)
     (λ i. all_moved es h.1 S v d e e' i m)
 
+args_moved : (es : Exprs) → EachMoved es → (types : List SqlType) (S : List ℕ → ℕ) (v : Move) (d : ℕ) (e e' : Env) (j : ℕ) → EnvMoved v d e e' →
+    emit_args es types S e' (wide v d j) ≡ moved_all v d (emit_args es types S e j)
+args_moved NoExpr h types S v d e e' j m = refl
+args_moved (MoreExprs x es) h types S v d e e' j m =
+    first_and_moved (assigning_in types (emit x S e j)) (assigning_in types (emit x S e' (wide v d j))) (emit_args es (drop 1 types) S e)
+    (emit_args es (drop 1 types) S e') v d j
+    (ap (assigning_in types) (h.0 S v d e e' j m) ∙ assigning_in_moved types (emit x S e j) v d)
+    (λ i. args_moved es h.1 (drop 1 types) S v d e e' i m)
+
 two_moved : (a a' : Emitted) (x : Expr) → ExprMoved x → (S : List ℕ → ℕ) (v : Move) (d : ℕ) (e e' : Env) (j : ℕ) → EnvMoved v d e e' →
     a' ≡ moved v d a →
     first_and a' (λ i. singly (emit x S e' i)) (wide v d j) ≡ moved_all v d (first_and a (λ i. singly (emit x S e i)) j)
@@ -92,13 +102,12 @@ case_of_moved x test result arms hx ht hr ha S v d e e' j m =
 
 call_moved : (name : List ℕ) (r : Routine) (es : Exprs) → BodyMoved r → EachMoved es → ExprMoved (Call name r es)
 call_moved name r es hb ha S v d e e' j m =
-    then_columns_moved (emit_all es S e j) (emit_all es S e' (wide v d j)) (λ c k. called (raising es c) (emit_body r S (passed c k) (c + k)))
-    (λ c k. called (raising es c) (emit_body r S (passed c k) (c + k))) v d j
-    (all_moved es ha S v d e e' j m)
-    (λ c k. both called _ _ _ _ (raising_moved es v d c)
+    let types = parameters_of r in let go : ℕ → ℕ → Emitted = λ c k. called (raising es types c) (emit_body r S (passed c k) (c + k)) in
+    then_columns_moved (emit_args es types S e j) (emit_args es types S e' (wide v d j)) go go v d j (args_moved es ha types S v d e e' j m)
+    (λ c k. both called _ _ _ _ (raising_moved es types v d c)
     (ap (emit_body r S (passed (wide v d c) k)) (wide_add v d c k) ∙ hb S v d (passed c k) (passed (wide v d c) k) (c + k) (passed_moved c k v d))
     ∙ ap (λ (s : Scalar). emitted (moved_nodes v d (emit_body r S (passed c k) (c + k)).nodes) s)
-    (if_values_moved (raising es c) (emit_body r S (passed c k) (c + k)).scalar v d))
+    (if_values_moved (raising es types c) (emit_body r S (passed c k) (c + k)).scalar v d))
 
 -- Queries inside.
 abbrev pub fold_by : PlanTree → List (Aggregate × ℕ) → EmittedAll → (Scalars → Scalar) → ℕ → Emitted
@@ -163,10 +172,14 @@ KeyMoved v d (Some a) (Some b) =
     (b.own ≡ moved_place v d a.own) × (b.other ≡ moved_place v d a.other) × (b.of_column ≡ a.of_column) × (a.of_column ≡ true → NotGiven a.other)
 
 key_moved : (x : Expr) (v : Move) (d : ℕ) (e e' : Env) → EnvMoved v d e e' → KeyMoved v d (key_of x e) (key_of x e')
-key_moved (Compare Equals (Column zero i) (Column (suc c) j)) v d e e' m = (m.columns zero i, m.columns (suc c) j, refl, λ h. m.free (suc c) j)
-key_moved (Compare Equals (Column (suc c) j) (Column zero i)) v d e e' m = (m.columns zero i, m.columns (suc c) j, refl, λ h. m.free (suc c) j)
-key_moved (Compare Equals (Column zero i) (Variable j)) v d e e' m = (m.columns zero i, m.params j, refl, λ h. never h)
-key_moved (Compare Equals (Variable j) (Column zero i)) v d e e' m = (m.columns zero i, m.params j, refl, λ h. never h)
+key_moved (Operate (Comparing Equals) (MoreExprs (Column zero i) (MoreExprs (Column (suc c) j) NoExpr))) v d e e' m =
+    (m.columns zero i, m.columns (suc c) j, refl, λ h. m.free (suc c) j)
+key_moved (Operate (Comparing Equals) (MoreExprs (Column (suc c) j) (MoreExprs (Column zero i) NoExpr))) v d e e' m =
+    (m.columns zero i, m.columns (suc c) j, refl, λ h. m.free (suc c) j)
+key_moved (Operate (Comparing Equals) (MoreExprs (Column zero i) (MoreExprs (Variable j) NoExpr))) v d e e' m =
+    (m.columns zero i, m.params j, refl, λ h. never h)
+key_moved (Operate (Comparing Equals) (MoreExprs (Variable j) (MoreExprs (Column zero i) NoExpr))) v d e e' m =
+    (m.columns zero i, m.params j, refl, λ h. never h)
 key_moved _ v d e e' m = tt
 
 abbrev pub moved_waiting : Move → ℕ → Waiting → Waiting
@@ -287,10 +300,6 @@ mutual
   expr_moved (Literal x) = λ S v d e e' j m. refl
   expr_moved (Column c i) = λ S v d e e' j m. ap plain (ap read (m.columns c i) ∙ read_moved (e.columns c i) v d)
   expr_moved (Variable i) = λ S v d e e' j m. ap plain (ap read (m.params i) ∙ read_moved (e.params i) v d)
-  expr_moved (Negate x) = λ S v d e e' j m. ap (λ (a : Emitted). word_on (strict Negation) (singly a)) (expr_moved x S v d e e' j m)
-  expr_moved (Compare comparison x y) = λ S v d e e' j m.
-      ap (word_on (strict (Comparing comparison))) (two_moved (emit x S e j) (emit x S e' (wide v d j)) y (expr_moved y) S v d e e' j m
-      (expr_moved x S v d e e' j m))
   expr_moved (Chain x links) = λ S v d e e' j m. links_moved links (each_link links) (emit x S e j) (emit x S e' (wide v d j)) S v d e e' j m
       (expr_moved x S v d e e' j m)
   expr_moved (Operate op es) = λ S v d e e' j m. ap (word_on (strict op)) (all_moved es (each_moved es) S v d e e' j m)
@@ -320,7 +329,8 @@ mutual
   each_moved (MoreExprs x es) = (expr_moved x, each_moved es)
 
   pub body_moved : (r : Routine) → BodyMoved r
-  body_moved (Function calls_itself types returns x) = λ S v d e e' j m. expr_moved x S v d e e' j m
+  body_moved (Function calls_itself types returns x) = λ S v d e e' j m.
+      ap (assigning_in (returns ∷ [])) (expr_moved x S v d e e' j m) ∙ assigning_in_moved (returns ∷ []) (emit x S e j) v d
 
   pub query_moved : (q : Query) → QueryMoved q
   query_moved (Select items x tests) = λ S v d e e' m.

@@ -1,13 +1,15 @@
 -- How columns, nodes and plans move.
-use Rattle.std.proofs.Common.{◌≡◌, ℕ, zero, suc, ◌+◌, Bool, true, false, cond, List, [], ◌∷◌, ◌++◌, length, Option, Some, None, refl, ap, sym, ◌∙◌, arith}
+use Rattle.std.proofs.Common.{◌≡◌, ℕ, zero, suc, ◌+◌, Bool, true, false, cond, List, [], ◌∷◌, ◌++◌, length, Option, Some, None, refl, ap, sym, ◌∙◌, arith, drop, ◌||◌}
+use Rattle.sql_values.specs.declared.value.SqlType.{SqlType}
+use Rattle.sql_values.specs.declared.value.SqlType.TheVariants.{Boolean, Integer, Varchar}
 use Rattle.sql_values.specs.declared.value.Value.TheVariants.{Int, Null, Bool as Truth}
 use Rattle.std.proofs.Common.{◌&&◌, pos}
 use Rattle.sql_values.specs.declared.operators.Comparison.TheVariants.{Equals}
-use Rattle.rel_algebra.specs.Emit.{Emitted, EmittedAll, Env, Place, against, all_plain, all_values, at, below, checks, checks_of, chosen, columns_within, either_all, else_arms, entered, filters, filters_width, first_and, first_value, folded_columns, folded_env, given, if_all, if_values, is_plain, joined_nodes, lifted, list_nodes, listed, listed_by, nowhere, nulls, numbers, outward, own_places, passed, raising, read, row_stands, scalar_count, scalars_of, selected, several, then_columns, truths, values_plan, width, with_place}
+use Rattle.rel_algebra.specs.Emit.{Emitted, EmittedAll, Env, Place, against, all_plain, all_values, assigning, assigning_first, assigning_in, at, below, checks, checks_of, chosen, columns_within, computed, either_all, else_arms, entered, filters, filters_width, first_and, first_value, folded_columns, folded_env, given, if_all, if_values, is_plain, joined_nodes, lifted, list_nodes, listed, listed_by, may_refuse, nowhere, nulls, numbers, outward, own_places, passed, place_if, raising, read, row_stands, scalar_count, scalars_of, selected, several, then_columns, truths, values_plan, width, with_place}
 use Rattle.rel_algebra.specs.Joins.{places}
 use Rattle.rel_algebra.specs.Merged.{Move, moved, moved_index, moved_kind, moved_lists, moved_nodes, moved_scalar, moved_scalars, moved_tree}
 use Rattle.rel_algebra.specs.Plan.{Kind, Nodes, PlanTree, Scalar, Scalars, aggregate, and_word, apply, apply_by, argument, case_word, column, constant, exists, extend, extend_by, filter, keep, kind_width, member, more, no_node, none, on_each, or_word, single, strict, unit_row, values, word}
-use Rattle.rel_algebra.specs.Tree.{Column, Comparing, Exprs, Literal, MoreExprs, NoExpr, NullTest, TrueTest, Variable}
+use Rattle.rel_algebra.specs.Tree.{Comparing, Exprs, MoreExprs, NoExpr, NullTest, TrueTest}
 use Rattle.rel_algebra.proofs.Truths.{both}
 
 -- the place of a column of the row at hand, and how many columns it has
@@ -180,12 +182,30 @@ checks_moved (i ∷ is) v d =
     both (λ (c : Scalar) (cs : Scalars). more (word or_word (more (word (strict NullTest) (more c none)) (more (constant (Truth true)) none))) cs) _ _
     _ _ (own_column v d i) (checks_moved is v d)
 
-pub raising_moved : (es : Exprs) (v : Move) (d m : ℕ) → raising es (wide v d m) ≡ moved_places v d (raising es m)
-raising_moved NoExpr v d m = refl
-raising_moved (MoreExprs (Literal x) es) v d m = ap (raising es) (wide_suc v d m) ∙ raising_moved es v d (suc m)
-raising_moved (MoreExprs (Column c i) es) v d m = ap (raising es) (wide_suc v d m) ∙ raising_moved es v d (suc m)
-raising_moved (MoreExprs (Variable i) es) v d m = ap (raising es) (wide_suc v d m) ∙ raising_moved es v d (suc m)
-raising_moved (MoreExprs x es) v d m = ap (λ (is : List ℕ). wide v d m ∷ is) (ap (raising es) (wide_suc v d m) ∙ raising_moved es v d (suc m))
+place_moved : (b : Bool) (i : ℕ) (is js : List ℕ) (v : Move) (d : ℕ) → js ≡ moved_places v d is →
+    place_if b (wide v d i) js ≡ moved_places v d (place_if b i is)
+place_moved true i is js v d h = ap (λ (ks : List ℕ). wide v d i ∷ ks) h
+place_moved false i is js v d h = h
+
+pub raising_moved : (es : Exprs) (types : List SqlType) (v : Move) (d m : ℕ) → raising es types (wide v d m) ≡ moved_places v d (raising es types m)
+raising_moved NoExpr types v d m = refl
+raising_moved (MoreExprs x es) types v d m =
+    place_moved (may_refuse types || computed x) m (raising es (drop 1 types) (suc m)) (raising es (drop 1 types) (suc (wide v d m))) v d
+    (ap (raising es (drop 1 types)) (wide_suc v d m) ∙ raising_moved es (drop 1 types) v d (suc m))
+
+-- Targets.
+assigning_moved : (t : SqlType) (s : Scalar) (v : Move) (d : ℕ) → assigning t (moved_scalar v d s) ≡ moved_scalar v d (assigning t s)
+assigning_moved Integer s v d = refl
+assigning_moved (Varchar n) s v d = refl
+assigning_moved Boolean s v d = refl
+
+assigning_first_moved : (types : List SqlType) (s : Scalar) (v : Move) (d : ℕ) →
+    assigning_first types (moved_scalar v d s) ≡ moved_scalar v d (assigning_first types s)
+assigning_first_moved [] s v d = refl
+assigning_first_moved (t ∷ types) s v d = assigning_moved t s v d
+
+pub assigning_in_moved : (types : List SqlType) (a : Emitted) (v : Move) (d : ℕ) → assigning_in types (moved v d a) ≡ moved v d (assigning_in types a)
+assigning_in_moved types a v d = ap (emitted (moved_nodes v d a.nodes)) (assigning_first_moved types a.scalar v d)
 
 pub if_values_moved : (is : List ℕ) (s : Scalar) (v : Move) (d : ℕ) →
     if_values (moved_places v d is) (moved_scalar v d s) ≡ moved_scalar v d (if_values is s)

@@ -5,24 +5,23 @@ use Rattle.rel_algebra.specs.World as worlds
 use Rattle.sql_values.specs.Operators.{applied as applied_value}
 use Rattle.sql_values.specs.declared.value.Value.TheVariants.{Null, Bool as Truth}
 use Rattle.std.proofs.Common.{Err, Ok}
-use Rattle.sql_values.specs.Values.{Outcome, assigned, is_null, is_true, negation_of}
+use Rattle.sql_values.specs.Values.{Outcome, is_null, is_true}
+use Rattle.sql_values.specs.Casts.{assigned}
 use Rattle.sql_values.specs.declared.value.SqlType.{SqlType}
-use Rattle.sql_values.specs.declared.value.SqlType.TheVariants.{Integer}
 use Rattle.sql_values.specs.declared.value.Value.{Value}
 use Rattle.row_types.specs.Rows.{Row}
 use Rattle.rel_algebra.specs.Emit.{plan, top}
 use Rattle.rel_algebra.specs.Endings.{Ending, after, ending_of, equal_values, is_false, op_value, row_at, value_at}
 use Rattle.rel_algebra.specs.Groups.{Group, groups}
 use Rattle.rel_algebra.specs.Joins.{from_width, group_row, numbered, or_nulls, pairs, places, single_of, table_width}
-use Rattle.rel_algebra.specs.Plain.{Inputs, Scope, answer, call, each_of, ev, ev_all, ev_and, ev_case, ev_coalesce, ev_links, ev_or, ev_rows, from_rows, holds, joined_row, kept_if, list_if, list_where, within}
+use Rattle.rel_algebra.specs.Plain.{Inputs, Scope, answer, call, each_of, ev, ev_all, ev_and, ev_args, ev_case, ev_coalesce, ev_links, ev_or, ev_rows, from_rows, holds, joined_row, kept_if, list_if, list_where, within}
 use Rattle.rel_algebra.specs.Plan.{collected, den}
 use Rattle.rel_algebra.specs.Theorem.{FunctionPlans, MeansAsked, MeansPassing, inputs_of}
-use Rattle.rel_algebra.specs.Tree.{And, Call, CallSelf, Case, CaseOf, Chain, Coalesce, Column, Compare, Cross, Derived, Exists, Expr, Exprs, From, Function, Grouped, In, Inner, LeftOuter, Links, Literal, MoreExprs, MoreLinks, MoreRows, Negate, NoExpr, NoLink, NoRow, Operate, Or, Ordered, Query, Routine, Rows, Select, Single, Table, Values, Variable, parameters_of}
+use Rattle.rel_algebra.specs.Tree.{And, Call, CallSelf, Case, CaseOf, Chain, Coalesce, Column, Cross, Derived, Exists, Expr, Exprs, From, Function, Grouped, In, Inner, LeftOuter, Links, Literal, MoreExprs, MoreLinks, MoreRows, NoExpr, NoLink, NoRow, Operate, Or, Ordered, Query, Routine, Rows, Select, Single, Table, Values, Variable, parameters_of}
 use Rattle.rel_algebra.specs.World.{Called, Ends, Eval, Frame, Gives, World, each_kept, each_listed, frame_of, give, no_frame, no_self, outcome, tested}
 use Rattle.rel_algebra.proofs.Truths.{both, never}
 use Rattle.rel_algebra.proofs.Induction.{routine_cells, whole_means}
 use Rattle.rel_algebra.proofs.Planned.{AllPlan, FromPlans, LinksPlan, Plans, QueryPlans, RoutinePlans, RowsPlan, query_plans, routine_plans}
-use Rattle.rel_algebra.proofs.Right.{end_gives}
 
 -- this evaluation ends so, in this world
 abbrev pub Is : {A : Type 0} → Eval A → Ending A → World → Type 0
@@ -40,13 +39,6 @@ either false m n e d w h k = k
 outcome_is : (o : Outcome) (w : World) → Is (outcome o) (ending_of o) w
 outcome_is (Ok v) w = refl
 outcome_is (Err fault) w = refl
-
-assigned_is : (t : SqlType) (v : Value) → assigned t v ≡ Ok v
-assigned_is Integer v = refl
-
-first_assigned : (types : List SqlType) (v : Value) → full.assigned_first types v ≡ Ok v
-first_assigned [] v = refl
-first_assigned (t ∷ types) v = assigned_is t v
 
 -- Columns.
 column_is : (r : Row) (i : ℕ) → slice_index_or r i Null ≡ value_at r i
@@ -150,12 +142,6 @@ mutual
   expr_is (Column d i) p self rows f w args = ap (λ (r : Row). Gives (slice_index_or r i Null) w) (row_is rows d) ∙ ap (λ v. Gives v w)
       (column_is (row_at rows d) i)
   expr_is (Variable i) p self rows f w args = ap (λ v. Gives v w) (column_is f.variables i)
-  expr_is (Negate x) p self rows f w args =
-      bind (full.ev x self rows f) (ev x (given_by w args) (scope rows f)) w (λ v. outcome (negation_of v)) (λ v. ending_of (negation_of v))
-      (expr_is x p self rows f w args) (λ v. outcome_is (negation_of v) w)
-  expr_is (Compare comparison x y) p self rows f w args =
-      bind (full.ev x self rows f) (ev x (given_by w args) (scope rows f)) w _ _ (expr_is x p.0 self rows f w args)
-      (λ u. bind (full.ev y self rows f) (ev y (given_by w args) (scope rows f)) w _ _ (expr_is y p.1 self rows f w args) (λ v. refl))
   expr_is (Chain x links) p self rows f w args =
       bind (full.ev x self rows f) (ev x (given_by w args) (scope rows f)) w (λ v. full.ev_links links v self rows f)
       (λ v. ev_links links v (given_by w args) (scope rows f)) (expr_is x p.0 self rows f w args)
@@ -182,7 +168,7 @@ mutual
       bind (full.answer q self rows f) (answer q (given_by w args) (scope rows f)) w (λ rs. full.carried (single_of rs)) single_of
       (query_is q p self rows f w args) (λ rs. refl)
   expr_is (Call name r es) p self rows f w args =
-      bind (full.ev_args es (parameters_of r) self rows f) (ev_all es (given_by w args) (scope rows f)) w (full.call r)
+      bind (full.ev_args es (parameters_of r) self rows f) (ev_args es (parameters_of r) (given_by w args) (scope rows f)) w (full.call r)
       (λ vs. call r vs (given_by w args))
       (args_is es p.1 (parameters_of r) self rows f w args) (λ vs. call_is r p.0 vs w args)
   expr_is (CallSelf types es) p self rows f w args = absurd p
@@ -197,15 +183,15 @@ mutual
       (outcome_is (applied_value operator v u) w) (λ y. links_is links p.1 y self rows f w args))
 
   pub args_is : (es : Exprs) → AllPlan es → (types : List SqlType) (self : Called) (rows : List Row) (f : Frame) (w : World) (args : List Value) →
-      Is (full.ev_args es types self rows f) (ev_all es (given_by w args) (scope rows f)) w
+      Is (full.ev_args es types self rows f) (ev_args es types (given_by w args) (scope rows f)) w
   args_is NoExpr p types self rows f w args = refl
   args_is (MoreExprs x es) p types self rows f w args =
-      bind (full.ev x self rows f) (ev x (given_by w args) (scope rows f)) w _
-      (λ v. after (ev_all es (given_by w args) (scope rows f)) (λ vs. Ok (v ∷ vs))) (expr_is x p.0 self rows f w args)
-      (λ v. ap (λ (o : Outcome). worlds.after (outcome o w) (λ y. λ u. worlds.after (full.ev_args es (drop 1 types) self rows f u)
-      (λ ys. give (y ∷ ys)))) (first_assigned types v)
-      ∙ bind (full.ev_args es (drop 1 types) self rows f) (ev_all es (given_by w args) (scope rows f)) w (λ ys. give (v ∷ ys)) (λ vs. Ok (v ∷ vs))
-      (args_is es p.1 (drop 1 types) self rows f w args) (λ ys. refl))
+      let others = full.ev_args es (drop 1 types) self rows f in let others_end = ev_args es (drop 1 types) (given_by w args) (scope rows f) in
+      bind (full.ev x self rows f) (ev x (given_by w args) (scope rows f)) w _ _ (expr_is x p.0 self rows f w args)
+      (λ v. bind (outcome (full.assigned_first types v)) (ending_of (full.assigned_first types v)) w
+      (λ y. λ u. worlds.after (others u) (λ ys. give (y ∷ ys))) (λ y. after others_end (λ ys. Ok (y ∷ ys)))
+      (outcome_is (full.assigned_first types v) w)
+      (λ y. bind others others_end w (λ ys. give (y ∷ ys)) (λ ys. Ok (y ∷ ys)) (args_is es p.1 (drop 1 types) self rows f w args) (λ ys. refl)))
 
   pub all_is : (es : Exprs) → AllPlan es → (self : Called) (rows : List Row) (f : Frame) (w : World) (args : List Value) →
       Is (full.ev_all es self rows f) (ev_all es (given_by w args) (scope rows f)) w
@@ -261,10 +247,8 @@ mutual
       Is (full.call r vs) (call r vs (given_by w args)) w
   call_is (Function true types returns x) p vs w args = never p.0
   call_is (Function false types returns x) p vs w args =
-      bind (full.ev x no_self [] (frame_of vs)) (ev x (given_by w args) (scope [] (frame_of vs))) w (λ v. outcome (assigned returns v)) (λ v. Ok v)
-      (expr_is x p.1 no_self [] (frame_of vs) w args)
-      (λ v. ap (λ (o : Outcome). outcome o w) (assigned_is returns v))
-      ∙ ap (λ (e : Ending Value). full.carried e w) (sym (end_gives (ev x (given_by w args) (scope [] (frame_of vs)))))
+      bind (full.ev x no_self [] (frame_of vs)) (ev x (given_by w args) (scope [] (frame_of vs))) w (λ v. outcome (assigned returns v))
+      (λ v. ending_of (assigned returns v)) (expr_is x p.1 no_self [] (frame_of vs) w args) (λ v. outcome_is (assigned returns v) w)
 
   pub holds_is : (es : Exprs) → AllPlan es → (self : Called) (rows : List Row) (f : Frame) (w : World) (args : List Value) →
       Is (full.holds es self rows f) (holds es (given_by w args) (scope rows f)) w

@@ -2,7 +2,7 @@
 use Rattle.std.proofs.Common.{◌≡◌, Bool, true}
 use Rattle.rel_algebra.specs.Joins.{rows_width}
 use Rattle.rel_algebra.specs.Plain.{all_even, planned, planned_all, planned_expr, planned_from, planned_links, planned_routine, planned_rows}
-use Rattle.rel_algebra.specs.Tree.{And, Call, CallSelf, Case, CaseOf, Chain, Coalesce, Column, Compare, Cross, Derived, Exists, Expr, Exprs, From, Function, Grouped, In, Inner, LeftOuter, Links, Literal, MoreExprs, MoreLinks, MoreRows, Negate, NoExpr, NoLink, NoRow, Operate, Or, Ordered, Query, Routine, Rows, Select, Single, Table, Values, Variable}
+use Rattle.rel_algebra.specs.Tree.{And, Call, CallSelf, Case, CaseOf, Chain, Coalesce, Column, Cross, Derived, Exists, Expr, Exprs, From, Function, Grouped, In, Inner, LeftOuter, Links, Literal, MoreExprs, MoreLinks, MoreRows, NoExpr, NoLink, NoRow, Operate, Or, Ordered, Query, Routine, Rows, Select, Single, Table, Values, Variable}
 use Rattle.rel_algebra.proofs.Truths.{left_true, never, right_true}
 use Rattle.std.proofs.Common.{◌&&◌, not}
 
@@ -11,8 +11,6 @@ abbrev mutual
   Plans (Literal v) = Unit {0}
   Plans (Column level i) = Unit {0}
   Plans (Variable i) = Unit {0}
-  Plans (Negate x) = Plans x
-  Plans (Compare comparison x y) = Plans x × Plans y
   Plans (Chain x links) = Plans x × LinksPlan links
   Plans (Operate op es) = AllPlan es
   Plans (And es) = AllPlan es
@@ -75,8 +73,6 @@ mutual
   plans (Literal v) = λ p. tt
   plans (Column level i) = λ p. tt
   plans (Variable i) = λ p. tt
-  plans (Negate x) = plans x
-  plans (Compare comparison x y) = two (planned_expr x) (planned_expr y) (plans x) (plans y)
   plans (Chain x links) = two (planned_expr x) (planned_links links) (plans x) (links_plan links)
   plans (Operate op es) = all_plan es
   plans (And es) = all_plan es

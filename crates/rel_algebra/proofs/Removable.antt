@@ -1,12 +1,13 @@
 -- Each Apply of a simple query's plan can be removed.
-use Rattle.std.proofs.Common.{cond, ◌++◌, ◌≡◌, ℕ, zero, suc, ◌+◌, Bool, true, false, ◌&&◌, List, [], ◌∷◌, length, Option, Some, None, refl}
+use Rattle.std.proofs.Common.{cond, ◌++◌, ◌≡◌, ℕ, zero, suc, ◌+◌, Bool, true, false, ◌&&◌, List, [], ◌∷◌, length, Option, Some, None, refl, drop}
+use Rattle.sql_values.specs.declared.value.SqlType.{SqlType}
 use Rattle.sql_values.specs.declared.value.Value.TheVariants.{Bool as Truth}
-use Rattle.rel_algebra.specs.Emit.{Emitted, EmittedAll, Env, Folded, Key, Place, Waiting, all_plain, all_waiting, ask, ask_member, at, below, chosen, emit, emit_all, emit_body, emit_links, emit_rows, emit_tests, entered, filters, filters_width, first_and, first_value, folded, folded_env, folding, from_plan, given, joined_nodes, key_of, key_step, lifted, list_nodes, listed, listed_by, none_waits, nowhere, numbers, one_column, one_param, own_places, passed, plan, routine_plan, row_stands, scalar_count, scalars_of, selected, several, singly, test_step, top, turned, values_plan, width, word_on}
+use Rattle.rel_algebra.specs.Emit.{Emitted, EmittedAll, Env, Folded, Key, Place, Waiting, all_plain, all_waiting, ask, ask_member, assigning_in, at, below, chosen, emit, emit_all, emit_args, emit_body, emit_links, emit_rows, emit_tests, entered, filters, filters_width, first_and, first_value, folded, folded_env, folding, from_plan, given, joined_nodes, key_of, key_step, lifted, list_nodes, listed, listed_by, none_waits, nowhere, numbers, one_column, one_param, own_places, passed, plan, routine_plan, row_stands, scalar_count, scalars_of, selected, several, singly, test_step, top, turned, values_plan, width, word_on}
 use Rattle.rel_algebra.specs.Joins.{from_width, rows_width}
 use Rattle.rel_algebra.specs.Plan.{Kind, Nodes, PlanTree, Scalar, Scalars, apply, apply_by, constant, cross, exists, extend, extend_by, filter, member, no_node, on_each, single, strict, unit_row, values}
 use Rattle.rel_algebra.specs.Removal.{all_removable, nodes_removable, removable}
 use Rattle.rel_algebra.specs.Simple.{RemovablePlans, Simple, SimpleAll, SimpleBody, SimpleFrom, SimpleLinks, SimpleQuery, SimpleRoutine, SimpleRows}
-use Rattle.rel_algebra.specs.Tree.{And, Arithmetic, Call, CallSelf, Case, CaseOf, Chain, Coalesce, Column, Compare, Cross, Derived, Exists, Expr, Exprs, From, Function, Grouped, In, Inner, LeftOuter, Links, Literal, MoreExprs, MoreLinks, MoreRows, Negate, NoExpr, NoLink, NoRow, Operate, Or, Ordered, Query, Routine, Rows, Select, Single, Table, Values, Variable}
+use Rattle.rel_algebra.specs.Tree.{And, Arithmetic, Call, CallSelf, Case, CaseOf, Chain, Coalesce, Column, Cross, Derived, Exists, Expr, Exprs, From, Function, Grouped, In, Inner, LeftOuter, Links, Literal, MoreExprs, MoreLinks, MoreRows, NoExpr, NoLink, NoRow, Operate, Or, Ordered, Query, Routine, Rows, Select, Single, Table, Values, Variable, parameters_of}
 use Rattle.rel_algebra.proofs.Truths.{and_true, left_true, right_true}
 use Rattle.rel_algebra.proofs.Chains.{Given, InputRemovable, entered_given, folded_given, lifted_given, nested_folded, nested_removable}
 use Rattle.rel_algebra.proofs.Moves.{NotGiven, below_free}
@@ -57,6 +58,13 @@ all_ok NoExpr h S p e m s g = refl
 all_ok (MoreExprs x es) h S p e m s g =
     let a = emit x S e m in joined_ok a.nodes (emit_all es S e (width a.nodes m)).nodes (h.0 S p e m s.0 g)
     (all_ok es h.1 S p e (width a.nodes m) s.1 g)
+
+args_ok : (es : Exprs) → EachOk es → (types : List SqlType) (S : List ℕ → ℕ) (p : Bool) (e : Env) (m : ℕ) → SimpleAll es S p → Given e p →
+    NodesOk (emit_args es types S e m).nodes
+args_ok NoExpr h types S p e m s g = refl
+args_ok (MoreExprs x es) h types S p e m s g =
+    let a = emit x S e m in joined_ok a.nodes (emit_args es (drop 1 types) S e (width a.nodes m)).nodes (h.0 S p e m s.0 g)
+    (args_ok es h.1 (drop 1 types) S p e (width a.nodes m) s.1 g)
 
 two_ok : (a : Emitted) (x : Expr) → ExprOk x → (S : List ℕ → ℕ) (p : Bool) (e : Env) (m : ℕ) → Simple x S p → Given e p → NodesOk a.nodes →
     NodesOk (first_and a (λ i. singly (emit x S e i)) m).nodes
@@ -144,8 +152,8 @@ case_of_ok x test result arms hx ht hr ha S p e m s g =
 
 call_ok : (name : List ℕ) (r : Routine) (es : Exprs) → BodyOk r → EachOk es → ExprOk (Call name r es)
 call_ok name r es hb ha S p e m s g =
-    let a = emit_all es S e m in let c = width a.nodes m in let k = scalar_count a.scalars in
-    joined_ok a.nodes (extend_by a.scalars (emit_body r S (passed c k) (c + k)).nodes) (all_ok es ha S p e m s.1 g) (hb S c k (c + k) s.0)
+    let types = parameters_of r in let a = emit_args es types S e m in let c = width a.nodes m in let k = scalar_count a.scalars in
+    joined_ok a.nodes (extend_by a.scalars (emit_body r S (passed c k) (c + k)).nodes) (args_ok es ha types S p e m s.1 g) (hb S c k (c + k) s.0)
 
 -- Queries inside.
 one_removed : (inner : PlanTree) → removable inner ≡ true → all_removable inner ≡ true → (removable inner && all_removable inner) ≡ true
@@ -207,8 +215,6 @@ mutual
   expr_ok (Literal c) = λ S p e m s g. refl
   expr_ok (Column d i) = λ S p e m s g. refl
   expr_ok (Variable i) = λ S p e m s g. refl
-  expr_ok (Negate x) = λ S p e m s g. expr_ok x S p e m s g
-  expr_ok (Compare comparison x y) = λ S p e m s g. two_ok (emit x S e m) y (expr_ok y) S p e m s.1 g (expr_ok x S p e m s.0 g)
   expr_ok (Chain x links) = λ S p e m s g. links_ok links (each_link links) (emit x S e m) S p e m s.1 g (expr_ok x S p e m s.0 g)
   expr_ok (Operate op es) = all_ok es (each_ok es)
   expr_ok (And es) = all_ok es (each_ok es)
@@ -282,7 +288,7 @@ below_given n i = below_in n i (given i) 0 tt
 
 routine_ok : (r : Routine) (S : List ℕ → ℕ) → SimpleRoutine r S → all_removable (routine_plan r S) ≡ true
 routine_ok (Function calls_itself types returns x) S s =
-    let a = emit x S (top (length types)) 0 in listed_ok (singly a) 0 unit_row
+    let a = emit x S (top (length types)) 0 in listed_ok (singly (assigning_in (returns ∷ []) a)) 0 unit_row
     (expr_ok x S true (top (length types)) 0 s (λ i. below_given (length types) i)) refl
 
 pub removable_plans : RemovablePlans

@@ -1,25 +1,25 @@
 -- What is to be proved of each tree, and the rules for each construct.
-use Rattle.std.proofs.Common.{◌≡◌, ℕ, suc, ◌+◌, true, false, List, [], ◌∷◌, ◌++◌, length, refl, ap, sym, ◌∙◌, subst, arith}
+use Rattle.std.proofs.Common.{◌≡◌, ℕ, suc, ◌+◌, true, false, List, [], ◌∷◌, ◌++◌, length, refl, ap, sym, ◌∙◌, subst, arith, drop}
 use Rattle.sql_values.specs.Operators.{applied as applied_value}
-use Rattle.sql_values.specs.declared.operators.Comparison.{Comparison}
+use Rattle.sql_values.specs.declared.value.SqlType.{SqlType}
 use Rattle.sql_values.specs.declared.value.Value.{Value}
 use Rattle.sql_values.specs.declared.value.Value.TheVariants.{Null, Bool as Truth}
 use Rattle.row_types.specs.Cells.{PlanRow}
 use Rattle.row_types.specs.Rows.{Row}
 use Rattle.row_types.specs.declared.cell.Cell.{Cell}
 use Rattle.row_types.specs.declared.cell.Cell.TheVariants.{Val}
-use Rattle.rel_algebra.specs.Emit.{Emitted, EmittedAll, Env, against_on, asked, asked_member, called, emit, emit_all, emit_body, emit_links, first_and, from_plan, passed, plan, raising, scalar_count, singly, width, word_on}
+use Rattle.rel_algebra.specs.Emit.{Emitted, EmittedAll, Env, against_on, asked, asked_member, assigning_in, called, emit, emit_all, emit_args, emit_body, emit_links, first_and, from_plan, passed, plan, raising, scalar_count, singly, width, word_on}
 use Rattle.rel_algebra.specs.Endings.{Ending, after, cell_end, ending_of, op_value}
 use Rattle.rel_algebra.specs.Joins.{exists_of, member_of, single_of}
 use Rattle.rel_algebra.specs.Plain.{Inputs, Scope, answer, call, columns_in, ev, ev_links, from_rows}
 use Rattle.rel_algebra.specs.Plan.{Scalar, Word, and_word, case_cell, case_word, cell_at, cell_of, cells_of, coalesce_word, collapse, collapse_as, collected, den, exists, finished, member, or_word, shown, sight, single, strict, values_of, word_cell}
 use Rattle.rel_algebra.specs.Theorem.{Agrees, Fits, outside}
-use Rattle.rel_algebra.specs.Tree.{And, Arithmetic, Call, Case, CaseOf, Chain, Coalesce, Column, Compare, Comparing, Exists, Expr, Exprs, From, In, Links, Literal, MoreExprs, MoreLinks, Negate, Negation, NoExpr, NoLink, Operate, Operation, Or, Query, Routine, Single, Variable, count}
+use Rattle.rel_algebra.specs.Tree.{And, Arithmetic, Call, Case, CaseOf, Chain, Coalesce, Column, Exists, Expr, Exprs, From, In, Links, Literal, MoreExprs, MoreLinks, NoExpr, NoLink, Operate, Operation, Or, Query, Routine, Single, Variable, count, parameters_of}
 use Rattle.rel_algebra.proofs.Growing.{grown_column, grown_columns, grows_by, grows_same, grows_trans, shown_long}
 use Rattle.rel_algebra.proofs.Truths.{both}
 use Rattle.rel_algebra.proofs.Nodes.{Reads, Yields, YieldsAll, added_grows, asked_member_yields, asked_yields, first_and_yields, reads_on, singly_yields, then_columns_yields, wider}
 use Rattle.rel_algebra.proofs.Rows.{are_cells}
-use Rattle.rel_algebra.proofs.Words.{against_cells, and_ends, applied_ends, case_ends, case_of_ends, cells_against, coalesce_ends, compared_ends, ends_long, ends_of, guarded_ends, if_values_cell, links_more, negation_ends, or_ends, raising_guard, strict_ends, values_ends}
+use Rattle.rel_algebra.proofs.Words.{against_cells, and_ends, applied_ends, arg_end, arg_ends, args_long, assigning_first_cell, case_ends, case_of_ends, cells_against, coalesce_ends, ends_of, guarded_ends, if_values_cell, links_more, or_ends, raising_guard, strict_ends, values_args}
 use Rattle.std.proofs.Common.{Err, Ok}
 
 -- an expression's columns and scalar give its cell
@@ -54,6 +54,18 @@ all_right (MoreExprs x es) h w fits o f e n q l r =
     (h.0 w fits o f e n q l r)
     (λ z lz gz. all_right es h.1 w fits o f e (width (emit x (columns_in w) e n).nodes n) z lz (reads_on e w o f q z r gz))
 
+-- arguments, each as its parameter takes it
+pub args_right : (es : Exprs) → AllRight es → (types : List SqlType) (w : Inputs) → Fits w →
+    (o : List (List Cell)) (f : Scope) (e : Env) (n : ℕ) (q : List Cell) → length q ≡ n → Reads e w o f q →
+    YieldsAll (emit_args es types (columns_in w) e n) w o q (arg_ends es types w f)
+args_right NoExpr h types w fits o f e n q l r = λ z g. refl
+args_right (MoreExprs x es) h types w fits o f e n q l r =
+    let a = emit x (columns_in w) e n in
+    first_and_yields (assigning_in types a) (emit_args es (drop 1 types) (columns_in w) e) n w o q (cell_end (arg_end x types w f))
+    (arg_ends es (drop 1 types) w f) l
+    (λ z g. assigning_first_cell types a.scalar (sight w o z) (ev x w f) (h.0 w fits o f e n q l r z g))
+    (λ z lz gz. args_right es h.1 (drop 1 types) w fits o f e (width a.nodes n) z lz (reads_on e w o f q z r gz))
+
 pub literal_right : (v : Value) → Right (Literal v)
 literal_right v w fits o f e n q l r z g = refl
 
@@ -82,17 +94,6 @@ two_yields wd a x hx w fits o f e n q c l r ya z g =
     ap (word_cell wd) (first_and_yields a (λ m. singly (emit x (columns_in w) e m)) n w o q c (cell_end (ev x w f) ∷ []) l ya
     (λ y ly gy. singly_yields (emit x (columns_in w) e (width a.nodes n)) w o y (cell_end (ev x w f))
     (hx w fits o f e (width a.nodes n) y ly (reads_on e w o f q y r gy))) z g)
-
-pub negate_right : (x : Expr) → Right x → Right (Negate x)
-negate_right x hx w fits o f e n q l r z g =
-    ap (word_cell (strict Negation)) (singly_yields (emit x (columns_in w) e n) w o q (cell_end (ev x w f)) (hx w fits o f e n q l r) z g) ∙
-    negation_ends (ev x w f)
-
-pub compare_right : (comparison : Comparison) (x y : Expr) → Right x → Right y → Right (Compare comparison x y)
-compare_right comparison x y hx hy w fits o f e n q l r z g =
-    two_yields (strict (Comparing comparison)) (emit x (columns_in w) e n) y hy w fits o f e n q (cell_end (ev x w f)) l r (hx w fits o f e n q l r) z
-    g
-    ∙ compared_ends comparison (ev x w f) (ev y w f)
 
 abbrev pub LinksRight : Links → Type 0
 LinksRight NoLink = Unit {0}
@@ -163,10 +164,11 @@ case_of_right x test result arms hx ht hr ha w fits o f e n q l r =
 -- the arguments are columns, and the body sees them
 pub call_right : (name : List ℕ) (r : Routine) (es : Exprs) → BodyRight r → AllRight es → Right (Call name r es)
 call_right name r es hb ha w fits o f e n q l rd =
-    let S = (columns_in w) in let a = emit_all es S e n in let cs = ends_of es w f in
-    then_columns_yields a (λ m k. called (raising es m) (emit_body r S (passed m k) (m + k))) n w o q cs _ l (all_right es ha w fits o f e n q l rd)
+    let S = (columns_in w) in let types = parameters_of r in let a = emit_args es types S e n in let cs = arg_ends es types w f in
+    then_columns_yields a (λ m k. called (raising es types m) (emit_body r S (passed m k) (m + k))) n w o q cs _ l
+    (args_right es ha types w fits o f e n q l rd)
     (λ z lz gz lc. λ y g. called_yields w fits o f z (width a.nodes n) (scalar_count a.scalars) lz lc y g ∙ ap
-    (λ (x : Ending Row). cell_end (after x (λ vs. call r vs w))) (values_ends es w f))
+    (λ (x : Ending Row). cell_end (after x (λ vs. call r vs w))) (values_args es types w f))
   where
     body_yields : (w : Inputs) → Fits w → (o : List (List Cell)) (z : List Cell) (m k : ℕ) (cs : List Cell) (vs : Row) → length z ≡ m →
         length cs ≡ k → cs ≡ shown vs →
@@ -177,14 +179,15 @@ call_right name r es hb ha w fits o f e n q l rd =
         (sym (shown_long vs) ∙ (ap (λ (ds : List Cell). length ds) (sym is) ∙ lc)) (hb w fits o vs m z lz))
 
     called_yields : (w : Inputs) → Fits w → (o : List (List Cell)) (f : Scope) (z : List Cell) (m k : ℕ) → length z ≡ m →
-        length (ends_of es w f) ≡ k →
-        Yields (called (raising es m) (emit_body r (columns_in w) (passed m k) (m + k))) w o (z ++ ends_of es w f)
-        (cell_end (after (values_of (ends_of es w f)) (λ vs. call r vs w)))
+        length (arg_ends es (parameters_of r) w f) ≡ k →
+        Yields (called (raising es (parameters_of r) m) (emit_body r (columns_in w) (passed m k) (m + k))) w o (z ++ arg_ends es (parameters_of r) w f)
+        (cell_end (after (values_of (arg_ends es (parameters_of r) w f)) (λ vs. call r vs w)))
     called_yields w fits o f z m k lz lc y g =
-        let cs = ends_of es w f in let c = emit_body r (columns_in w) (passed m k) (m + k) in let x : Cell = cell_of c.scalar (sight w o y) in
-        if_values_cell (raising es m) c.scalar w o y
+        let types = parameters_of r in let cs = arg_ends es types w f in
+        let c = emit_body r (columns_in w) (passed m k) (m + k) in let x : Cell = cell_of c.scalar (sight w o y) in
+        if_values_cell (raising es types m) c.scalar w o y
         ∙ (ap (λ (d : Cell). case_cell (d ∷ x ∷ []))
-        (raising_guard es w f y m (grown_columns z cs y m (count es) lz (ends_long es w f)
+        (raising_guard es types w f y m (grown_columns z cs y m (count es) lz (args_long es types w f)
         (grows_trans (z ++ cs) _ y (added_grows c.nodes w o (z ++ cs)) g)))
         ∙ guarded_ends (values_of cs) cs x (λ vs. call r vs w) (are_cells cs) (λ vs is. body_yields w fits o z m k cs vs lz lc is y g))
 

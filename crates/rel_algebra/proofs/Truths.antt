@@ -1,5 +1,5 @@
 -- Truth values, and equality of what two arguments give.
-use Rattle.std.proofs.Common.{◌≡◌, ℕ, Bool, true, false, cond, ◌&&◌, nat_eq, refl, ap, ◌∙◌, arith}
+use Rattle.std.proofs.Common.{◌≡◌, ℕ, Bool, true, false, cond, ◌&&◌, nat_eq, refl, ap, ◌∙◌, arith, ◌||◌, sym}
 
 pub both : {A B C : Type 0} (f : A → B → C) (a a' : A) (b b' : B) → a ≡ a' → b ≡ b' → f a b ≡ f a' b'
 both f a a' b b' p q = ap (λ x. f x b) p ∙ ap (f a') q
@@ -23,6 +23,14 @@ right_true false false p = p
 
 pub never : {A : Type 0} → false ≡ true → A
 never h = absurd cc
+
+pub left_false : (a b : Bool) → (a || b) ≡ false → a ≡ false
+left_false true b p = p
+left_false false b p = refl
+
+pub right_false : (a b : Bool) → (a || b) ≡ false → b ≡ false
+right_false true b p = never (sym p)
+right_false false b p = p
 
 pub equal_numbers : (n m : ℕ) → nat_eq n m ≡ true → n ≡ m
 equal_numbers n m h = grind arith

@@ -1,13 +1,15 @@
 -- A plan uses no outer column but those that its query names.
-use Rattle.std.proofs.Common.{cond, ◌++◌, ◌≡◌, ℕ, zero, suc, ◌+◌, Bool, true, false, ◌&&◌, List, [], ◌∷◌, length, Option, Some, None, refl}
+use Rattle.std.proofs.Common.{cond, ◌++◌, ◌≡◌, ℕ, zero, suc, ◌+◌, Bool, true, false, ◌&&◌, List, [], ◌∷◌, length, Option, Some, None, refl, drop}
+use Rattle.sql_values.specs.declared.value.SqlType.{SqlType}
+use Rattle.sql_values.specs.declared.value.SqlType.TheVariants.{Boolean, Integer, Varchar}
 use Rattle.sql_values.specs.declared.value.Value.TheVariants.{Bool as Truth}
 use Rattle.sql_values.specs.declared.operators.Comparison.TheVariants.{Equals}
-use Rattle.rel_algebra.specs.Emit.{Emitted, EmittedAll, Env, Folded, Key, Place, Waiting, against, against_on, all_plain, all_true, all_values, all_waiting, ask, ask_member, at, below, called, checks, checks_of, chosen, columns_within, either_all, else_arms, emit, emit_all, emit_body, emit_links, emit_rows, emit_tests, entered, filters, filters_width, first_and, first_value, folded, folded_env, folding, from_plan, given, if_all, if_values, joined_nodes, key_of, key_step, lifted, list_nodes, listed, listed_by, none_waits, nowhere, nulls, numbers, one_column, one_param, outward, own_places, passed, plan, raising, read, routine_plan, row_stands, scalar_count, scalars_of, selected, several, singly, test_step, then_columns, top, truths, turned, values_plan, width, word_on}
+use Rattle.rel_algebra.specs.Emit.{Emitted, EmittedAll, Env, Folded, Key, Place, Waiting, against, against_on, all_plain, all_true, all_values, all_waiting, ask, ask_member, assigning, assigning_first, assigning_in, at, below, called, checks, checks_of, chosen, columns_within, either_all, else_arms, emit, emit_all, emit_args, emit_body, emit_links, emit_rows, emit_tests, entered, filters, filters_width, first_and, first_value, folded, folded_env, folding, from_plan, given, if_all, if_values, joined_nodes, key_of, key_step, lifted, list_nodes, listed, listed_by, none_waits, nowhere, nulls, numbers, one_column, one_param, outward, own_places, passed, plan, raising, read, routine_plan, row_stands, scalar_count, scalars_of, selected, several, singly, test_step, then_columns, top, truths, turned, values_plan, width, word_on}
 use Rattle.rel_algebra.specs.Joins.{from_width, places, rows_width}
 use Rattle.rel_algebra.specs.Plan.{Kind, Nodes, PlanTree, Scalar, Scalars, apply, apply_by, argument, case_word, column, constant, cross, exists, extend, extend_by, filter, member, more, no_node, none, on_each, single, strict, unit_row, values, word}
 use Rattle.rel_algebra.specs.Removal.{kind_stays, less, lists_stay, nodes_within, stays, stays_all, tree_within}
 use Rattle.rel_algebra.specs.Simple.{ClosedPlans, Names, NamesAll, NamesBody, NamesFrom, NamesLinks, NamesQuery, NamesRows}
-use Rattle.rel_algebra.specs.Tree.{And, Arithmetic, Call, CallSelf, Case, CaseOf, Chain, Coalesce, Column, Compare, Cross, Derived, Exists, Expr, Exprs, From, Function, Grouped, In, Inner, LeftOuter, Links, Literal, MoreExprs, MoreLinks, MoreRows, Negate, NoExpr, NoLink, NoRow, Operate, Or, Ordered, Query, Routine, Rows, Select, Single, Table, Values, Variable}
+use Rattle.rel_algebra.specs.Tree.{And, Arithmetic, Call, CallSelf, Case, CaseOf, Chain, Coalesce, Column, Comparing, Cross, Derived, Exists, Expr, Exprs, From, Function, Grouped, In, Inner, LeftOuter, Links, Literal, MoreExprs, MoreLinks, MoreRows, NoExpr, NoLink, NoRow, Operate, Or, Ordered, Query, Routine, Rows, Select, Single, Table, Values, Variable, parameters_of}
 use Rattle.rel_algebra.proofs.Truths.{and_true, left_true, right_true}
 
 -- Environments.
@@ -87,6 +89,18 @@ then_columns_in a go m n p q =
 singly_in : (a : Emitted) (n : ℕ) → Within a n → WithinAll (singly a) n
 singly_in a n p = (p.0, and_true (stays a.scalar (suc n)) true p.1 refl)
 
+assigning_stays : (t : SqlType) (s : Scalar) (n : ℕ) → stays s n ≡ true → stays (assigning t s) n ≡ true
+assigning_stays Integer s n h = h
+assigning_stays (Varchar i) s n h = and_true (stays s n) true h refl
+assigning_stays Boolean s n h = h
+
+assigning_first_stays : (types : List SqlType) (s : Scalar) (n : ℕ) → stays s n ≡ true → stays (assigning_first types s) n ≡ true
+assigning_first_stays [] s n h = h
+assigning_first_stays (t ∷ types) s n h = assigning_stays t s n h
+
+assigning_in_within : (types : List SqlType) (a : Emitted) (n : ℕ) → Within a n → Within (assigning_in types a) n
+assigning_in_within types a n h = (h.0, assigning_first_stays types a.scalar (suc n) h.1)
+
 checks_stay : (ps : List ℕ) (n : ℕ) → stays_all (checks ps) (suc n) ≡ true
 checks_stay [] n = refl
 checks_stay (i ∷ ps) n = checks_stay ps n
@@ -142,12 +156,14 @@ KeyWithin None n = Unit {0}
 KeyWithin (Some key) n = Within (turned key.own key.other) n
 
 pub key_in : (x : Expr) (e : Env) (k : ℕ) (p : Bool) (n : ℕ) → Names x k p → EnvIn e k p (suc n) → KeyWithin (key_of x e) n
-key_in (Compare Equals (Column zero i) (Column (suc d) j)) e k p n h v = turned_in (e.columns zero i) (e.columns (suc d) j) n (v.0 zero i h.0)
-    (v.0 (suc d) j h.1)
-key_in (Compare Equals (Column (suc d) j) (Column zero i)) e k p n h v = turned_in (e.columns zero i) (e.columns (suc d) j) n (v.0 zero i h.1)
-    (v.0 (suc d) j h.0)
-key_in (Compare Equals (Column zero i) (Variable j)) e k p n h v = turned_in (e.columns zero i) (e.params j) n (v.0 zero i h.0) (v.1 h.1 j)
-key_in (Compare Equals (Variable j) (Column zero i)) e k p n h v = turned_in (e.columns zero i) (e.params j) n (v.0 zero i h.1) (v.1 h.0 j)
+key_in (Operate (Comparing Equals) (MoreExprs (Column zero i) (MoreExprs (Column (suc d) j) NoExpr))) e k p n h v =
+    turned_in (e.columns zero i) (e.columns (suc d) j) n (v.0 zero i h.0) (v.0 (suc d) j h.1.0)
+key_in (Operate (Comparing Equals) (MoreExprs (Column (suc d) j) (MoreExprs (Column zero i) NoExpr))) e k p n h v =
+    turned_in (e.columns zero i) (e.columns (suc d) j) n (v.0 zero i h.1.0) (v.0 (suc d) j h.0)
+key_in (Operate (Comparing Equals) (MoreExprs (Column zero i) (MoreExprs (Variable j) NoExpr))) e k p n h v =
+    turned_in (e.columns zero i) (e.params j) n (v.0 zero i h.0) (v.1 h.1.0 j)
+key_in (Operate (Comparing Equals) (MoreExprs (Variable j) (MoreExprs (Column zero i) NoExpr))) e k p n h v =
+    turned_in (e.columns zero i) (e.params j) n (v.0 zero i h.1.0) (v.1 h.0 j)
 key_in _ e k p n h v = tt
 
 abbrev pub TestsWithin : List Emitted → ℕ → Type 0
@@ -251,6 +267,14 @@ all_in NoExpr h S k p e n m ns v = (refl, refl)
 all_in (MoreExprs x es) h S k p e n m ns v = first_and_in (emit x S e m) (emit_all es S e) m n (h.0 S k p e n m ns.0 v)
     (all_in es h.1 S k p e n (width (emit x S e m).nodes m) ns.1 v)
 
+args_in : (es : Exprs) → EachIn es → (types : List SqlType) (S : List ℕ → ℕ) (k : ℕ) (p : Bool) (e : Env) (n m : ℕ) → NamesAll es k p →
+    EnvIn e k p (suc n) → WithinAll (emit_args es types S e m) n
+args_in NoExpr h types S k p e n m ns v = (refl, refl)
+args_in (MoreExprs x es) h types S k p e n m ns v =
+    let a = emit x S e m in
+    first_and_in (assigning_in types a) (emit_args es (drop 1 types) S e) m n (assigning_in_within types a n (h.0 S k p e n m ns.0 v))
+    (args_in es h.1 (drop 1 types) S k p e n (width a.nodes m) ns.1 v)
+
 pub tests_in : (es : Exprs) → EachIn es → (S : List ℕ → ℕ) (k : ℕ) (p : Bool) (e : Env) (n m : ℕ) (pending : Waiting) → NamesAll es k p →
     EnvIn e k p (suc n) → WaitingWithin pending n → TestsWithin (emit_tests es S e pending m) n
 tests_in NoExpr h S k p e n m pending ns v hp = all_waiting_in pending n hp
@@ -294,10 +318,10 @@ case_of_in x test result arms hx ht hr ha S k p e n m ns v =
 
 call_in : (name : List ℕ) (r : Routine) (es : Exprs) → BodyIn r → EachIn es → ExprIn (Call name r es)
 call_in name r es hb ha S k p e n m ns v =
-    let a = emit_all es S e m in let c = width a.nodes m in let j = scalar_count a.scalars in
+    let types = parameters_of r in let a = emit_args es types S e m in let c = width a.nodes m in let j = scalar_count a.scalars in
     let b : Within (emit_body r S (passed c j) (c + j)) n = hb S c j n (c + j) ns.0 in
-    then_columns_in a (λ c j. called (raising es c) (emit_body r S (passed c j) (c + j))) m n (all_in es ha S k p e n m ns.1 v)
-    (b.0, if_values_stays (raising es c) (emit_body r S (passed c j) (c + j)).scalar n b.1)
+    then_columns_in a (λ c j. called (raising es types c) (emit_body r S (passed c j) (c + j))) m n (args_in es ha types S k p e n m ns.1 v)
+    (b.0, if_values_stays (raising es types c) (emit_body r S (passed c j) (c + j)).scalar n b.1)
 
 folding_in : (a : Folded) (use_list : Scalars → Scalar) (j n : ℕ) → ((ss : Scalars) (i : ℕ) → stays_all ss i ≡ true → stays (use_list ss) i ≡ true) →
     tree_within a.input (suc n) ≡ true → ((j : ℕ) → WithinAll (a.list j) n) → Within (folding a use_list j) n
@@ -408,8 +432,6 @@ mutual
   expr_in (Literal v) = λ S k p e n m ns v. (refl, refl)
   expr_in (Column d i) = λ S k p e n m ns v. (refl, read_stays (e.columns d i) (suc n) (v.0 d i ns))
   expr_in (Variable i) = λ S k p e n m ns v. (refl, read_stays (e.params i) (suc n) (v.1 ns i))
-  expr_in (Negate x) = λ S k p e n m ns v. singly_in (emit x S e m) n (expr_in x S k p e n m ns v)
-  expr_in (Compare comparison x y) = λ S k p e n m ns v. two_in (emit x S e m) y (expr_in y) S k p e n m ns.1 v (expr_in x S k p e n m ns.0 v)
   expr_in (Chain x links) = λ S k p e n m ns v. links_in links (each_link links) (emit x S e m) S k p e n m ns.1 v (expr_in x S k p e n m ns.0 v)
   expr_in (Operate op es) = λ S k p e n m ns v. all_in es (each_in es) S k p e n m ns v
   expr_in (And es) = λ S k p e n m ns v. all_in es (each_in es) S k p e n m ns v
@@ -438,7 +460,8 @@ mutual
   each_in (MoreExprs x es) = (expr_in x, each_in es)
 
   pub body_in : (r : Routine) → BodyIn r
-  body_in (Function calls_itself types returns x) = λ S m j n i ns. expr_in x S 0 true (passed m j) n i ns (passed_in m j 0 true n)
+  body_in (Function calls_itself types returns x) = λ S m j n i ns.
+      assigning_in_within (returns ∷ []) (emit x S (passed m j) i) n (expr_in x S 0 true (passed m j) n i ns (passed_in m j 0 true n))
 
   pub query_in : (q : Query) → QueryIn q
   query_in (Select items from tests) = λ S k p e n ns v.
@@ -487,9 +510,10 @@ mutual
 
 closed_routine : (r : Routine) (S : List ℕ → ℕ) → NamesBody r → tree_within (routine_plan r S) 0 ≡ true
 closed_routine (Function calls_itself types returns x) S ns =
-    listed_in (singly (emit x S (top (length types)) 0)) 0 unit_row 0
-    (singly_in (emit x S (top (length types)) 0) 0 (expr_in x S 0 true (top (length types)) 0 0 ns
-    (λ d i l. tt, λ t i. below_in (length types) i (given i) 1 tt))) refl
+    let a = emit x S (top (length types)) 0 in let b = assigning_in (returns ∷ []) a in
+    listed_in (singly b) 0 unit_row 0
+    (singly_in b 0 (assigning_in_within (returns ∷ []) a 0 (expr_in x S 0 true (top (length types)) 0 0 ns
+    (λ d i l. tt, λ t i. below_in (length types) i (given i) 1 tt)))) refl
 
 pub closed_plans : ClosedPlans
 closed_plans = record {

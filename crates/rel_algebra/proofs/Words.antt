@@ -1,28 +1,31 @@
 -- What words make of the cells of operands is what the expressions mean.
-use Rattle.std.proofs.Common.{Bool, length, suc, ◌≡◌, ℕ, true, false, cond, List, [], ◌∷◌, refl, ap, sym, ◌∙◌}
-use Rattle.std.proofs.lemmas.Cmp.{int_cmp_total}
+use Rattle.std.proofs.Common.{Bool, length, suc, ◌≡◌, ℕ, true, false, cond, List, [], ◌∷◌, refl, ap, sym, ◌∙◌, drop, ◌||◌}
+use Rattle.std.proofs.lemmas.Cmp.{int_cmp_total, nat_list_cmp_total}
 use Rattle.std.specs.Ordering.{ordering_reverse, int_cmp, bool_cmp}
 use Rattle.std.specs.declared.cmp.Ordering.{Ordering}
 use Rattle.std.specs.declared.cmp.Ordering.TheVariants.{Less, Equal, Greater}
+use Rattle.sql_values.specs.Casts.{assigned}
 use Rattle.sql_values.specs.Operators.{applied as applied_value}
-use Rattle.sql_values.specs.Operators.{allows, compared}
-use Rattle.sql_values.specs.Values.{is_null, is_true, negation_of}
-use Rattle.sql_values.specs.declared.operators.Comparison.{Comparison}
+use Rattle.sql_values.specs.Operators.{allows}
+use Rattle.sql_values.specs.Values.{is_null, is_true, text_cmp}
 use Rattle.sql_values.specs.declared.operators.Comparison.TheVariants.{Equals}
 use Rattle.sql_values.specs.declared.operators.Operator.{Operator}
+use Rattle.sql_values.specs.declared.value.SqlType.{SqlType}
+use Rattle.sql_values.specs.declared.value.SqlType.TheVariants.{Boolean, Integer, Varchar}
 use Rattle.sql_values.specs.declared.value.Value.{Value}
-use Rattle.sql_values.specs.declared.value.Value.TheVariants.{Int, Null, Bool as Truth}
+use Rattle.sql_values.specs.declared.value.Value.TheVariants.{Int, Null, Str, Bool as Truth}
 use Rattle.row_types.specs.Rows.{Row}
 use Rattle.row_types.specs.declared.cell.Cell.{Cell}
 use Rattle.row_types.specs.declared.cell.Cell.TheVariants.{Cond, Val}
-use Rattle.rel_algebra.specs.Emit.{against, all_values, checks, checks_of, first_value, if_values, raising, row_stands}
-use Rattle.rel_algebra.specs.Endings.{Ending, after, cell_end, ending_of, equal_values, is_false, op_value, row_at, value_at}
+use Rattle.rel_algebra.specs.Emit.{against, all_values, assigning, assigning_first, checks, checks_of, computed, first_value, if_values, may_refuse, place_if, raising, row_stands}
+use Rattle.rel_algebra.specs.Endings.{Ending, after, cell_end, ending_of, equal_values, is_false, op_value, value_at}
 use Rattle.rel_algebra.specs.Groups.{finish, values_of_column}
+use Rattle.rel_algebra.specs.Meaning.{assigned_first}
 use Rattle.rel_algebra.specs.Joins.{finish_all, places}
-use Rattle.rel_algebra.specs.Plain.{Inputs, Scope, ev, ev_all, ev_and, ev_case, ev_coalesce, ev_or}
+use Rattle.rel_algebra.specs.Plain.{Inputs, Scope, ev, ev_all, ev_and, ev_args, ev_case, ev_coalesce, ev_or}
 use Rattle.rel_algebra.specs.Plan.{Scalar, Scalars, Sight, and_cell, case_cell, cell_at, cell_of, cells_at, cells_of, coalesce_cell, finish_cells, more, none, or_cell, shown, sight, strictly, values_of}
-use Rattle.rel_algebra.specs.Tree.{Aggregate, Arithmetic, Column, Comparing, Expr, Exprs, Literal, MoreExprs, Negation, NoExpr, NullTest, Variable, count}
-use Rattle.rel_algebra.proofs.Truths.{if_cells}
+use Rattle.rel_algebra.specs.Tree.{Aggregate, Arithmetic, Assign, Column, Comparing, Expr, Exprs, Literal, MoreExprs, NoExpr, NullTest, Variable, count}
+use Rattle.rel_algebra.proofs.Truths.{if_cells, left_false, never, right_false}
 use Rattle.rel_algebra.proofs.Rows.{AreCells}
 use Rattle.std.proofs.Common.{Err, Ok}
 
@@ -39,6 +42,44 @@ values_more (Err s) cs r h = refl
 pub values_ends : (es : Exprs) (w : Inputs) (f : Scope) → values_of (ends_of es w f) ≡ ev_all es w f
 values_ends NoExpr w f = refl
 values_ends (MoreExprs e es) w f = values_more (ev e w f) (ends_of es w f) (ev_all es w f) (values_ends es w f)
+
+-- what an argument is, as its parameter takes it
+abbrev pub arg_end : Expr → List SqlType → Inputs → Scope → Ending Value
+arg_end e types w f = after (ev e w f) (λ v. ending_of (assigned_first types v))
+
+abbrev pub arg_ends : Exprs → List SqlType → Inputs → Scope → List Cell
+arg_ends NoExpr types w f = []
+arg_ends (MoreExprs e es) types w f = cell_end (arg_end e types w f) ∷ arg_ends es (drop 1 types) w f
+
+after_after : {A B C : Type 0} (e : Ending A) (g : A → Ending B) (h : B → Ending C) → after (after e g) h ≡ after e (λ a. after (g a) h)
+after_after (Ok a) g h = refl
+after_after (Err s) g h = refl
+
+pub values_args : (es : Exprs) (types : List SqlType) (w : Inputs) (f : Scope) → values_of (arg_ends es types w f) ≡ ev_args es types w f
+values_args NoExpr types w f = refl
+values_args (MoreExprs e es) types w f =
+    values_more (arg_end e types w f) (arg_ends es (drop 1 types) w f) (ev_args es (drop 1 types) w f) (values_args es (drop 1 types) w f)
+    ∙ after_after (ev e w f) (λ v. ending_of (assigned_first types v)) (λ x. after (ev_args es (drop 1 types) w f) (λ xs. Ok (x ∷ xs)))
+
+assigned_ends : (t : SqlType) (e : Ending Value) →
+    strictly (op_value (Assign t)) (cell_end e ∷ []) ≡ cell_end (after e (λ v. ending_of (assigned t v)))
+assigned_ends t (Ok v) = refl
+assigned_ends t (Err s) = refl
+
+-- the cell of a scalar, as a target takes it
+pub assigning_cell : (t : SqlType) (x : Scalar) (s : Sight) (e : Ending Value) → cell_of x s ≡ cell_end e →
+    cell_of (assigning t x) s ≡ cell_end (after e (λ v. ending_of (assigned t v)))
+assigning_cell (Varchar n) x s e h = ap (λ (c : Cell). strictly (op_value (Assign (Varchar n))) (c ∷ [])) h ∙ assigned_ends (Varchar n) e
+assigning_cell Integer x s (Ok v) h = h
+assigning_cell Integer x s (Err a) h = h
+assigning_cell Boolean x s (Ok v) h = h
+assigning_cell Boolean x s (Err a) h = h
+
+pub assigning_first_cell : (types : List SqlType) (x : Scalar) (s : Sight) (e : Ending Value) → cell_of x s ≡ cell_end e →
+    cell_of (assigning_first types x) s ≡ cell_end (after e (λ v. ending_of (assigned_first types v)))
+assigning_first_cell [] x s (Ok v) h = h
+assigning_first_cell [] x s (Err a) h = h
+assigning_first_cell (t ∷ types) x s e h = assigning_cell t x s e h
 
 pub values_finished : (ags : List (Aggregate × ℕ)) (rs : List Row) → values_of (finish_cells ags rs) ≡ finish_all ags rs
 values_finished [] rs = refl
@@ -147,6 +188,7 @@ check_more : (c : Cell) (ds cs : List Cell) → and_cell (Truth true) ds ≡ gua
 check_more (Cond s) ds cs h = refl
 check_more (Val Null) ds cs h = h ∙ guard_more (values_of cs) Null
 check_more (Val (Int n)) ds cs h = h ∙ guard_more (values_of cs) (Int n)
+check_more (Val (Str s)) ds cs h = h ∙ guard_more (values_of cs) (Str s)
 check_more (Val (Truth b)) ds cs h = h ∙ guard_more (values_of cs) (Truth b)
 
 pub checks_guard : (ps : List ℕ) (w : Inputs) (o : List (List Cell)) (z : List Cell) →
@@ -168,23 +210,48 @@ keep_cell : (c : Cell) (cs ds : List Cell) → guard (values_of ds) ≡ guard (v
 keep_cell (Cond s) cs ds h = refl
 keep_cell (Val v) cs ds h = sym (guard_more (values_of ds) v) ∙ (h ∙ guard_more (values_of cs) v)
 
-pub ends_long : (es : Exprs) (w : Inputs) (f : Scope) → length (ends_of es w f) ≡ count es
-ends_long NoExpr w f = refl
-ends_long (MoreExprs e es) w f = ap suc (ends_long es w f)
+pub args_long : (es : Exprs) (types : List SqlType) (w : Inputs) (f : Scope) → length (arg_ends es types w f) ≡ count es
+args_long NoExpr types w f = refl
+args_long (MoreExprs e es) types w f = ap suc (args_long es (drop 1 types) w f)
 
--- in the columns from m on stand the cells of these expressions
-pub raising_guard : (es : Exprs) (w : Inputs) (f : Scope) (z : List Cell) (m : ℕ) → cells_at z (places m (count es)) ≡ ends_of es w f →
-    guard (values_of (cells_at z (raising es m))) ≡ guard (values_of (ends_of es w f))
-raising_guard NoExpr w f z m h = refl
-raising_guard (MoreExprs (Literal v) es) w f z m h = skip_value v (ends_of es w f) (cells_at z (raising es (suc m)))
-    (raising_guard es w f z (suc m) (ap tail_cells h))
-raising_guard (MoreExprs (Column d i) es) w f z m h = skip_value (value_at (row_at f.rows d) i) (ends_of es w f) (cells_at z (raising es (suc m)))
-    (raising_guard es w f z (suc m) (ap tail_cells h))
-raising_guard (MoreExprs (Variable i) es) w f z m h = skip_value (value_at f.params i) (ends_of es w f) (cells_at z (raising es (suc m)))
-    (raising_guard es w f z (suc m) (ap tail_cells h))
-raising_guard (MoreExprs x es) w f z m h =
-    ap (λ (c : Cell). guard (values_of (c ∷ cells_at z (raising es (suc m))))) (ap head_cell h)
-    ∙ keep_cell (cell_end (ev x w f)) (ends_of es w f) (cells_at z (raising es (suc m))) (raising_guard es w f z (suc m) (ap tail_cells h))
+abbrev pub IsValue : Ending Value → Type 0
+IsValue (Ok v) = Unit {0}
+IsValue (Err s) = ⊥
+
+named_value : (x : Expr) (w : Inputs) (f : Scope) → computed x ≡ false → IsValue (ev x w f)
+named_value (Literal v) w f h = tt
+named_value (Column d i) w f h = tt
+named_value (Variable i) w f h = tt
+named_value _ w f h = never (sym h)
+
+kept_value : (types : List SqlType) (e : Ending Value) → may_refuse types ≡ false → IsValue e → IsValue (after e (λ v. ending_of (assigned_first types v)))
+kept_value [] (Ok v) h k = tt
+kept_value (Integer ∷ types) (Ok v) h k = tt
+kept_value (Boolean ∷ types) (Ok v) h k = tt
+kept_value (Varchar n ∷ types) e h k = never (sym h)
+kept_value types (Err s) h k = absurd k
+
+-- an argument whose column is not checked is a value
+quiet_value : (x : Expr) (types : List SqlType) (w : Inputs) (f : Scope) → (may_refuse types || computed x) ≡ false → IsValue (arg_end x types w f)
+quiet_value x types w f h = kept_value types (ev x w f) (left_false (may_refuse types) (computed x) h)
+    (named_value x w f (right_false (may_refuse types) (computed x) h))
+
+-- a column that is checked where it must be
+place_guard : (b : Bool) (e : Ending Value) (cs : List Cell) (z : List Cell) (m : ℕ) (is : List ℕ) → (b ≡ false → IsValue e) →
+    cell_at z m ≡ cell_end e → guard (values_of (cells_at z is)) ≡ guard (values_of cs) →
+    guard (values_of (cells_at z (place_if b m is))) ≡ guard (values_of (cell_end e ∷ cs))
+place_guard true e cs z m is q h k = ap (λ (c : Cell). guard (values_of (c ∷ cells_at z is))) h ∙ keep_cell (cell_end e) cs (cells_at z is) k
+place_guard false (Ok v) cs z m is q h k = skip_value v cs (cells_at z is) k
+place_guard false (Err s) cs z m is q h k = absurd (q refl)
+
+-- in the columns from m on stand the cells of these arguments
+pub raising_guard : (es : Exprs) (types : List SqlType) (w : Inputs) (f : Scope) (z : List Cell) (m : ℕ) →
+    cells_at z (places m (count es)) ≡ arg_ends es types w f →
+    guard (values_of (cells_at z (raising es types m))) ≡ guard (values_of (arg_ends es types w f))
+raising_guard NoExpr types w f z m h = refl
+raising_guard (MoreExprs x es) types w f z m h =
+    place_guard (may_refuse types || computed x) (arg_end x types w f) (arg_ends es (drop 1 types) w f) z m (raising es (drop 1 types) (suc m))
+    (quiet_value x types w f) (ap head_cell h) (raising_guard es (drop 1 types) w f z (suc m) (ap tail_cells h))
 
 -- the same of scalars
 pub checks_of_guard : (ss : Scalars) (s : Sight) → and_cell (Truth true) (cells_of (checks_of ss) s) ≡ guard (values_of (cells_of ss s))
@@ -233,12 +300,19 @@ same_turned false false = refl
 pub equal_turned : (x y : Value) → equal_values x y ≡ equal_values y x
 equal_turned Null Null = refl
 equal_turned Null (Int y) = refl
+equal_turned Null (Str t) = refl
 equal_turned Null (Truth b) = refl
 equal_turned (Int x) Null = refl
+equal_turned (Int x) (Str t) = refl
 equal_turned (Int x) (Int y) = ap (λ t. Truth t) (ap (allows Equals) (int_cmp_total.antisymm x y) ∙ order_turned (int_cmp y x))
 equal_turned (Int x) (Truth b) = refl
+equal_turned (Str s) Null = refl
+equal_turned (Str s) (Int y) = refl
+equal_turned (Str s) (Str t) = ap (λ o. Truth o) (ap (allows Equals) (nat_list_cmp_total.antisymm s t) ∙ order_turned (text_cmp t s))
+equal_turned (Str s) (Truth b) = refl
 equal_turned (Truth a) Null = refl
 equal_turned (Truth a) (Int y) = refl
+equal_turned (Truth a) (Str t) = refl
 equal_turned (Truth a) (Truth b) = ap (λ t. Truth t) (same_turned a b)
 
 -- a scalar behind the guard
@@ -248,16 +322,6 @@ guarded_ends (Ok vs) cs x go a h = h vs a
 guarded_ends (Err s) cs x go a h = refl
 
 -- Operators.
-pub negation_ends : (e : Ending Value) → strictly (op_value Negation) (cell_end e ∷ []) ≡ cell_end (after e (λ v. ending_of (negation_of v)))
-negation_ends (Ok v) = refl
-negation_ends (Err s) = refl
-
-pub compared_ends : (comparison : Comparison) (e d : Ending Value) →
-    strictly (op_value (Comparing comparison)) (cell_end e ∷ cell_end d ∷ []) ≡ cell_end (after e (λ u. after d (λ v. Ok (compared comparison u v))))
-compared_ends comparison (Ok u) (Ok v) = refl
-compared_ends comparison (Ok u) (Err s) = refl
-compared_ends comparison (Err s) d = refl
-
 pub applied_ends : (operator : Operator) (e d : Ending Value) →
     strictly (op_value (Arithmetic operator)) (cell_end e ∷ cell_end d ∷ []) ≡ cell_end
     (after e (λ u. after d (λ v. ending_of (applied_value operator u v))))

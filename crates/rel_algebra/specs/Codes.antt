@@ -6,14 +6,14 @@ use Rattle.std.proofs.Common.{ap, ap₂, sym, ◌∙◌, refl}
 use Rattle.std.specs.Coded.{Coded}
 use base.Stored.{Gv, gnil, gnum, gcons}
 use Rattle.sql_values.specs.declared.value.Value.{Value}
-use Rattle.sql_values.specs.declared.value.Value.TheVariants.{Null, Int, Bool as Truth}
+use Rattle.sql_values.specs.declared.value.Value.TheVariants.{Null, Int, Str, Bool as Truth}
 use Rattle.sql_values.specs.declared.value.SqlType.{SqlType}
-use Rattle.sql_values.specs.declared.value.SqlType.TheVariants.{Integer}
+use Rattle.sql_values.specs.declared.value.SqlType.TheVariants.{Integer, Varchar, Boolean}
 use Rattle.sql_values.specs.declared.operators.Operator.{Operator}
-use Rattle.sql_values.specs.declared.operators.Operator.TheVariants.{Add, Subtract, Multiply, Divide}
+use Rattle.sql_values.specs.declared.operators.Operator.TheVariants.{Add, Subtract, Multiply, Divide, Concatenate}
 use Rattle.sql_values.specs.declared.operators.Comparison.{Comparison}
 use Rattle.sql_values.specs.declared.operators.Comparison.TheVariants.{Equals, NotEquals, LessThan, LessThanOrEquals, GreaterThan, GreaterThanOrEquals}
-use Rattle.rel_algebra.specs.Tree.{Operation, Negation, Arithmetic, Comparing, Opposite, NullTest, TrueTest, FalseTest, AnyOf, Aggregate, Count, Sum, Average, Min, Max, SortKey, Expr, Literal, Column, Variable, Negate, Compare, Chain, Operate, And, Or, Case, CaseOf, Coalesce, In, Exists, Single, Call, CallSelf, Links, NoLink, MoreLinks, Exprs, NoExpr, MoreExprs, Routine, Function, Rows, NoRow, MoreRows, From, Table, Derived, Cross, Inner, LeftOuter, Query, Select, Grouped, Values, Ordered}
+use Rattle.rel_algebra.specs.Tree.{Operation, Negation, Arithmetic, Comparing, Modulo, CharLength, Substring, Cast, Assign, Opposite, NullTest, TrueTest, FalseTest, AnyOf, Aggregate, Count, Sum, Average, Min, Max, SortKey, Expr, Literal, Column, Variable, Chain, Operate, And, Or, Case, CaseOf, Coalesce, In, Exists, Single, Call, CallSelf, Links, NoLink, MoreLinks, Exprs, NoExpr, MoreExprs, Routine, Function, Rows, NoRow, MoreRows, From, Table, Derived, Cross, Inner, LeftOuter, Query, Select, Grouped, Values, Ordered}
 
 -- a code that is read back
 abbrev pub coded_back : {A : Type 0} (code : A → Gv) (from : Gv → A) → ((a : A) → from (code a) ≡ a) → Coded A
@@ -38,7 +38,20 @@ right (gcons x y) = y
 abbrev pub by_number : {A : Type 0} → ℕ → A → A → A
 by_number n a b = if nat_eq n 0 then a else b
 
--- ---- values, types, operators
+-- ---- names and texts, values, types, operators
+
+abbrev pub name_code : List ℕ → Gv
+name_code [] = gnil
+name_code (b ∷ bs) = gcons (gnum b) (name_code bs)
+
+abbrev pub name_from : Gv → List ℕ
+name_from gnil = []
+name_from (gnum n) = []
+name_from (gcons b bs) = num b ∷ name_from bs
+
+pub name_back : (name : List ℕ) → name_from (name_code name) ≡ name
+name_back [] = refl
+name_back (b ∷ bs) = ap (λ (xs : List ℕ). b ∷ xs) (name_back bs)
 
 abbrev pub value_code : Value → Gv
 value_code Null = gnil
@@ -46,14 +59,17 @@ value_code (Int (pos n)) = gcons (gnum 0) (gnum n)
 value_code (Int (negsuc n)) = gcons (gnum 1) (gnum n)
 value_code (Truth false) = gcons (gnum 2) (gnum 0)
 value_code (Truth true) = gcons (gnum 2) (gnum 1)
+value_code (Str s) = gcons (gnum 3) (name_code s)
 
-abbrev pub value_by : ℕ → ℕ → Value
-value_by kind n = if nat_eq kind 0 then Int (pos n) else if nat_eq kind 1 then Int (negsuc n) else by_number n (Truth false) (Truth true)
+abbrev pub value_by : ℕ → Gv → Value
+value_by kind g =
+    if nat_eq kind 0 then Int (pos (num g)) else if nat_eq kind 1 then Int (negsuc (num g))
+    else if nat_eq kind 2 then by_number (num g) (Truth false) (Truth true) else Str (name_from g)
 
 abbrev pub value_from : Gv → Value
 value_from gnil = Null
 value_from (gnum n) = Null
-value_from (gcons kind n) = value_by (num kind) (num n)
+value_from (gcons kind g) = value_by (num kind) g
 
 pub value_back : (v : Value) → value_from (value_code v) ≡ v
 value_back Null = refl
@@ -61,18 +77,25 @@ value_back (Int (pos n)) = refl
 value_back (Int (negsuc n)) = refl
 value_back (Truth false) = refl
 value_back (Truth true) = refl
+value_back (Str s) = ap Str (name_back s)
 
 abbrev pub coded_value : Coded Value
 coded_value = coded_back value_code value_from value_back
 
 abbrev pub type_code : SqlType → Gv
 type_code Integer = gnum 0
+type_code Boolean = gnum 1
+type_code (Varchar n) = gcons (gnum n) gnil
 
 abbrev pub type_from : Gv → SqlType
-type_from g = Integer
+type_from gnil = Integer
+type_from (gnum n) = by_number n Integer Boolean
+type_from (gcons n rest) = Varchar (num n)
 
 pub type_back : (t : SqlType) → type_from (type_code t) ≡ t
 type_back Integer = refl
+type_back Boolean = refl
+type_back (Varchar n) = refl
 
 abbrev pub coded_type : Coded SqlType
 coded_type = coded_back type_code type_from type_back
@@ -90,33 +113,23 @@ pub types_back : (ts : List SqlType) → types_from (types_code ts) ≡ ts
 types_back [] = refl
 types_back (t ∷ ts) = ap₂ (λ (x : SqlType) (xs : List SqlType). x ∷ xs) (type_back t) (types_back ts)
 
-abbrev pub name_code : List ℕ → Gv
-name_code [] = gnil
-name_code (b ∷ bs) = gcons (gnum b) (name_code bs)
-
-abbrev pub name_from : Gv → List ℕ
-name_from gnil = []
-name_from (gnum n) = []
-name_from (gcons b bs) = num b ∷ name_from bs
-
-pub name_back : (name : List ℕ) → name_from (name_code name) ≡ name
-name_back [] = refl
-name_back (b ∷ bs) = ap (λ (xs : List ℕ). b ∷ xs) (name_back bs)
-
 abbrev pub operator_code : Operator → Gv
 operator_code Add = gnum 0
 operator_code Subtract = gnum 1
 operator_code Multiply = gnum 2
 operator_code Divide = gnum 3
+operator_code Concatenate = gnum 4
 
 abbrev pub operator_by : ℕ → Operator
-operator_by n = if nat_eq n 0 then Add else if nat_eq n 1 then Subtract else if nat_eq n 2 then Multiply else Divide
+operator_by n =
+    if nat_eq n 0 then Add else if nat_eq n 1 then Subtract else if nat_eq n 2 then Multiply else if nat_eq n 3 then Divide else Concatenate
 
 pub operator_back : (o : Operator) → operator_by (num (operator_code o)) ≡ o
 operator_back Add = refl
 operator_back Subtract = refl
 operator_back Multiply = refl
 operator_back Divide = refl
+operator_back Concatenate = refl
 
 abbrev pub comparison_code : Comparison → Gv
 comparison_code Equals = gnum 0
@@ -155,15 +168,22 @@ operation_code NullTest = gcons (gnum 4) gnil
 operation_code TrueTest = gcons (gnum 5) gnil
 operation_code FalseTest = gcons (gnum 6) gnil
 operation_code AnyOf = gcons (gnum 7) gnil
+operation_code Modulo = gcons (gnum 8) gnil
+operation_code CharLength = gcons (gnum 9) gnil
+operation_code Substring = gcons (gnum 10) gnil
+operation_code (Cast t) = gcons (gnum 11) (type_code t)
+operation_code (Assign t) = gcons (gnum 12) (type_code t)
 
-abbrev pub operation_by : ℕ → ℕ → Operation
-operation_by kind n =
-    if nat_eq kind 0 then Negation else if nat_eq kind 1 then Arithmetic (operator_by n) else if nat_eq kind 2 then Comparing (comparison_by n)
-    else if nat_eq kind 3 then Opposite else if nat_eq kind 4 then NullTest else if nat_eq kind 5 then TrueTest
-    else if nat_eq kind 6 then FalseTest else AnyOf
+abbrev pub operation_by : ℕ → Gv → Operation
+operation_by kind g =
+    if nat_eq kind 0 then Negation else if nat_eq kind 1 then Arithmetic (operator_by (num g))
+    else if nat_eq kind 2 then Comparing (comparison_by (num g)) else if nat_eq kind 3 then Opposite else if nat_eq kind 4 then NullTest
+    else if nat_eq kind 5 then TrueTest else if nat_eq kind 6 then FalseTest else if nat_eq kind 7 then AnyOf
+    else if nat_eq kind 8 then Modulo else if nat_eq kind 9 then CharLength else if nat_eq kind 10 then Substring
+    else if nat_eq kind 11 then Cast (type_from g) else Assign (type_from g)
 
 abbrev pub operation_from : Gv → Operation
-operation_from g = operation_by (num (left g)) (num (right g))
+operation_from g = operation_by (num (left g)) (right g)
 
 pub operation_back : (o : Operation) → operation_from (operation_code o) ≡ o
 operation_back Negation = refl
@@ -174,6 +194,11 @@ operation_back NullTest = refl
 operation_back TrueTest = refl
 operation_back FalseTest = refl
 operation_back AnyOf = refl
+operation_back Modulo = refl
+operation_back CharLength = refl
+operation_back Substring = refl
+operation_back (Cast t) = ap Cast (type_back t)
+operation_back (Assign t) = ap Assign (type_back t)
 
 abbrev pub aggregate_code : Aggregate → Gv
 aggregate_code Count = gnum 0
@@ -246,20 +271,18 @@ abbrev mutual
   expr_code (Literal v) = node 0 (value_code v) gnil gnil
   expr_code (Column level i) = node 1 (gcons (gnum level) (gnum i)) gnil gnil
   expr_code (Variable i) = node 2 (gnum i) gnil gnil
-  expr_code (Negate e) = node 3 gnil (expr_code e) gnil
-  expr_code (Compare comparison a b) = node 4 (comparison_code comparison) (expr_code a) (expr_code b)
-  expr_code (Chain e ls) = node 5 gnil (expr_code e) (links_code ls)
-  expr_code (Call name r es) = node 6 (name_code name) (routine_code r) (exprs_code es)
-  expr_code (CallSelf parameters es) = node 7 (types_code parameters) gnil (exprs_code es)
-  expr_code (Operate operation es) = node 8 (operation_code operation) gnil (exprs_code es)
-  expr_code (And es) = node 9 gnil gnil (exprs_code es)
-  expr_code (Or es) = node 10 gnil gnil (exprs_code es)
-  expr_code (Case arms) = node 11 gnil gnil (exprs_code arms)
-  expr_code (CaseOf e test result arms) = node 12 gnil (expr_code e) (gcons (expr_code test) (gcons (expr_code result) (exprs_code arms)))
-  expr_code (Coalesce es) = node 13 gnil gnil (exprs_code es)
-  expr_code (In e query) = node 14 gnil (expr_code e) (query_code query)
-  expr_code (Exists query) = node 15 gnil gnil (query_code query)
-  expr_code (Single query) = node 16 gnil gnil (query_code query)
+  expr_code (Chain e ls) = node 3 gnil (expr_code e) (links_code ls)
+  expr_code (Call name r es) = node 4 (name_code name) (routine_code r) (exprs_code es)
+  expr_code (CallSelf parameters es) = node 5 (types_code parameters) gnil (exprs_code es)
+  expr_code (Operate operation es) = node 6 (operation_code operation) gnil (exprs_code es)
+  expr_code (And es) = node 7 gnil gnil (exprs_code es)
+  expr_code (Or es) = node 8 gnil gnil (exprs_code es)
+  expr_code (Case arms) = node 9 gnil gnil (exprs_code arms)
+  expr_code (CaseOf e test result arms) = node 10 gnil (expr_code e) (gcons (expr_code test) (gcons (expr_code result) (exprs_code arms)))
+  expr_code (Coalesce es) = node 11 gnil gnil (exprs_code es)
+  expr_code (In e query) = node 12 gnil (expr_code e) (query_code query)
+  expr_code (Exists query) = node 13 gnil gnil (query_code query)
+  expr_code (Single query) = node 14 gnil gnil (query_code query)
 
   pub links_code : Links → Gv
   links_code NoLink = gnil
@@ -297,16 +320,15 @@ case_of e (MoreExprs test (MoreExprs result arms)) = CaseOf e test result arms
 case_of e _ = e
 
 -- an expression by its kind, what it has beside trees, and what its parts are, read in each way
-abbrev pub expr_by : ℕ → Gv → Expr → Routine → Expr → Links → Exprs → Query → Expr
-expr_by kind with_it a routine b ls es query =
+abbrev pub expr_by : ℕ → Gv → Expr → Routine → Links → Exprs → Query → Expr
+expr_by kind with_it a routine ls es query =
     if nat_eq kind 0 then Literal (value_from with_it) else if nat_eq kind 1 then Column (num (left with_it)) (num (right with_it))
-    else if nat_eq kind 2 then Variable (num with_it) else if nat_eq kind 3 then Negate a
-    else if nat_eq kind 4 then Compare (comparison_by (num with_it)) a b else if nat_eq kind 5 then Chain a ls
-    else if nat_eq kind 6 then Call (name_from with_it) routine es else if nat_eq kind 7 then CallSelf (types_from with_it) es
-    else if nat_eq kind 8 then Operate (operation_from with_it) es else if nat_eq kind 9 then And es
-    else if nat_eq kind 10 then Or es else if nat_eq kind 11 then Case es
-    else if nat_eq kind 12 then case_of a es else if nat_eq kind 13 then Coalesce es
-    else if nat_eq kind 14 then In a query else if nat_eq kind 15 then Exists query else Single query
+    else if nat_eq kind 2 then Variable (num with_it) else if nat_eq kind 3 then Chain a ls
+    else if nat_eq kind 4 then Call (name_from with_it) routine es else if nat_eq kind 5 then CallSelf (types_from with_it) es
+    else if nat_eq kind 6 then Operate (operation_from with_it) es else if nat_eq kind 7 then And es
+    else if nat_eq kind 8 then Or es else if nat_eq kind 9 then Case es
+    else if nat_eq kind 10 then case_of a es else if nat_eq kind 11 then Coalesce es
+    else if nat_eq kind 12 then In a query else if nat_eq kind 13 then Exists query else Single query
 
 abbrev pub from_by : ℕ → Gv → Query → From → From → Exprs → From
 from_by kind with_it query a b on =
@@ -326,7 +348,7 @@ abbrev mutual
   expr_from (gcons label gnil) = Literal Null
   expr_from (gcons label (gnum n)) = Literal Null
   expr_from (gcons label (gcons a b)) =
-      expr_by (num (left label)) (right label) (expr_from a) (routine_from a) (expr_from b) (links_from b) (exprs_from b) (query_from b)
+      expr_by (num (left label)) (right label) (expr_from a) (routine_from a) (links_from b) (exprs_from b) (query_from b)
 
   pub links_from : Gv → Links
   links_from gnil = NoLink
@@ -365,8 +387,6 @@ mutual
   expr_back (Literal v) = ap Literal (value_back v)
   expr_back (Column level i) = refl
   expr_back (Variable i) = refl
-  expr_back (Negate e) = ap Negate (expr_back e)
-  expr_back (Compare comparison a b) = λ i. Compare (comparison_back comparison i) (expr_back a i) (expr_back b i)
   expr_back (Chain e ls) = λ i. Chain (expr_back e i) (links_back ls i)
   expr_back (Call name r es) = λ i. Call (name_back name i) (routine_back r i) (exprs_back es i)
   expr_back (CallSelf parameters es) = λ i. CallSelf (types_back parameters i) (exprs_back es i)

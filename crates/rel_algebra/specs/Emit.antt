@@ -1,8 +1,10 @@
 -- The plan of a query.
-use Rattle.std.specs.Prelude.{ℕ, zero, suc, ◌+◌, ◌&&◌, Bool, true, false, if◌then◌else◌, List, [], ◌∷◌, ◌++◌, length, Option, Some, None, pos}
+use Rattle.std.specs.Prelude.{ℕ, zero, suc, ◌+◌, ◌&&◌, Bool, true, false, if◌then◌else◌, List, [], ◌∷◌, ◌++◌, length, Option, Some, None, pos, drop, ◌||◌}
 use Rattle.sql_values.specs.declared.value.Value.TheVariants.{Null, Int, Bool as Truth}
+use Rattle.sql_values.specs.declared.value.SqlType.{SqlType}
+use Rattle.sql_values.specs.declared.value.SqlType.TheVariants.{Varchar}
 use Rattle.sql_values.specs.declared.operators.Comparison.TheVariants.{Equals}
-use Rattle.rel_algebra.specs.Tree.{Negation, Arithmetic, Comparing, NullTest, TrueTest, AnyOf, Aggregate, Expr, Literal, Column, Variable, Negate, Compare, Chain, Operate, And, Or, Case, CaseOf, Coalesce, In, Exists, Single, Call, CallSelf, Links, NoLink, MoreLinks, Exprs, NoExpr, MoreExprs, Routine, Function, Rows, NoRow, MoreRows, From, Table, Derived, Cross, Inner, LeftOuter, Query, Select, Grouped, Values, Ordered, parameters_of}
+use Rattle.rel_algebra.specs.Tree.{Arithmetic, Comparing, NullTest, TrueTest, AnyOf, Aggregate, Expr, Literal, Column, Variable, Chain, Operate, And, Or, Case, CaseOf, Coalesce, In, Exists, Single, Call, CallSelf, Links, NoLink, MoreLinks, Exprs, NoExpr, MoreExprs, Routine, Function, Rows, NoRow, MoreRows, From, Table, Derived, Cross, Inner, LeftOuter, Query, Select, Grouped, Values, Ordered, parameters_of, Assign}
 use Rattle.rel_algebra.specs.Joins.{places, numbered, rows_width, from_width}
 use Rattle.rel_algebra.specs.Plan.{Word, strict, and_word, or_word, case_word, coalesce_word, Scalar, constant, column, argument, word, Scalars, none, more, Kind, single, exists, member, aggregate, kind_width, PlanTree, unit_row, scan, values, filter, keep, cross, left_outer, settle, group, sort, Nodes, no_node, extend_by, apply_by, on_each}
 
@@ -118,13 +120,41 @@ abbrev pub if_values : List ℕ → Scalar → Scalar
 if_values [] s = s
 if_values (i ∷ is) s = word case_word (more (all_values (i ∷ is)) (more s none))
 
--- the columns from m on of those arguments that may raise
-abbrev pub raising : Exprs → ℕ → List ℕ
-raising NoExpr m = []
-raising (MoreExprs (Literal v) es) m = raising es (suc m)
-raising (MoreExprs (Column d i) es) m = raising es (suc m)
-raising (MoreExprs (Variable i) es) m = raising es (suc m)
-raising (MoreExprs _ es) m = m ∷ raising es (suc m)
+-- What a target of a type takes of a scalar: a longer text is cut or refused, and all else stands as it is.
+abbrev pub assigning : SqlType → Scalar → Scalar
+assigning (Varchar n) s = word (strict (Assign (Varchar n))) (more s none)
+assigning _ s = s
+
+-- the same for the next of several targets; with no target left, the scalar itself
+abbrev pub assigning_first : List SqlType → Scalar → Scalar
+assigning_first [] s = s
+assigning_first (t ∷ types) s = assigning t s
+
+-- an emission whose scalar is as the next of several targets takes it
+abbrev pub assigning_in : List SqlType → Emitted → Emitted
+assigning_in types a = record { nodes = a.nodes; scalar = assigning_first types a.scalar }
+
+-- whether the next target may refuse what it is given
+abbrev pub may_refuse : List SqlType → Bool
+may_refuse (Varchar n ∷ types) = true
+may_refuse _ = false
+
+-- neither a literal nor a name
+abbrev pub computed : Expr → Bool
+computed (Literal v) = false
+computed (Column d i) = false
+computed (Variable i) = false
+computed _ = true
+
+-- a place in front, where it is wanted
+abbrev pub place_if : Bool → ℕ → List ℕ → List ℕ
+place_if true i is = i ∷ is
+place_if false i is = is
+
+-- the columns from m on of those arguments that may raise: what is computed, and what its parameter may refuse
+abbrev pub raising : Exprs → List SqlType → ℕ → List ℕ
+raising NoExpr types m = []
+raising (MoreExprs x es) types m = place_if (may_refuse types || computed x) m (raising es (drop 1 types) (suc m))
 
 -- the same for scalars
 abbrev pub checks_of : Scalars → Scalars
@@ -194,10 +224,10 @@ abbrev pub param_key : Env → ℕ → ℕ → Key
 param_key e i j = record { own = e.columns zero i; other = e.params j; of_column = false }
 
 abbrev pub key_of : Expr → Env → Option Key
-key_of (Compare Equals (Column zero i) (Column (suc d) j)) e = Some (column_key e i d j)
-key_of (Compare Equals (Column (suc d) j) (Column zero i)) e = Some (column_key e i d j)
-key_of (Compare Equals (Column zero i) (Variable j)) e = Some (param_key e i j)
-key_of (Compare Equals (Variable j) (Column zero i)) e = Some (param_key e i j)
+key_of (Operate (Comparing Equals) (MoreExprs (Column zero i) (MoreExprs (Column (suc d) j) NoExpr))) e = Some (column_key e i d j)
+key_of (Operate (Comparing Equals) (MoreExprs (Column (suc d) j) (MoreExprs (Column zero i) NoExpr))) e = Some (column_key e i d j)
+key_of (Operate (Comparing Equals) (MoreExprs (Column zero i) (MoreExprs (Variable j) NoExpr))) e = Some (param_key e i j)
+key_of (Operate (Comparing Equals) (MoreExprs (Variable j) (MoreExprs (Column zero i) NoExpr))) e = Some (param_key e i j)
 key_of _ e = None
 
 -- Such conjuncts raise nothing, so they may wait. Those whose names are parameters come first, and then those whose names are columns: so the
@@ -351,8 +381,6 @@ abbrev mutual
   emit (Literal v) S e n = plain (constant v)
   emit (Column d i) S e n = plain (read (e.columns d i))
   emit (Variable i) S e n = plain (read (e.params i))
-  emit (Negate x) S e n = word_on (strict Negation) (singly (emit x S e n))
-  emit (Compare comparison x y) S e n = word_on (strict (Comparing comparison)) (first_and (emit x S e n) (λ m. singly (emit y S e m)) n)
   emit (Chain x links) S e n = emit_links links (emit x S e n) S e n
   emit (Operate op es) S e n = word_on (strict op) (emit_all es S e n)
   emit (And es) S e n = word_on and_word (emit_all es S e n)
@@ -365,7 +393,9 @@ abbrev mutual
   emit (In x q) S e n = ask_member (folded q S e) (emit x S e n) (plan q S e) n
   emit (Exists q) S e n = ask (folded q S e) exists row_stands (plan q S e) n
   emit (Single q) S e n = ask (folded q S e) single first_value (plan q S e) n
-  emit (Call name r es) S e n = then_columns (emit_all es S e n) (λ m k. called (raising es m) (emit_body r S (passed m k) (m + k))) n
+  emit (Call name r es) S e n =
+      then_columns (emit_args es (parameters_of r) S e n)
+      (λ m k. called (raising es (parameters_of r) m) (emit_body r S (passed m k) (m + k))) n
   -- no planned expression calls the function in which it stands
   emit (CallSelf types es) S e n = plain (constant Null)
 
@@ -379,12 +409,18 @@ abbrev mutual
   emit_all NoExpr S e n = no_scalar
   emit_all (MoreExprs x es) S e n = first_and (emit x S e n) (emit_all es S e) n
 
+  -- each as its parameter takes it
+  pub emit_args : Exprs → List SqlType → (List ℕ → ℕ) → Env → ℕ → EmittedAll
+  emit_args NoExpr types S e n = no_scalar
+  emit_args (MoreExprs x es) types S e n = first_and (assigning_in types (emit x S e n)) (emit_args es (drop 1 types) S e) n
+
   pub emit_rows : Rows → (List ℕ → ℕ) → Env → ℕ → List EmittedAll
   emit_rows NoRow S e n = []
   emit_rows (MoreRows es rows) S e n = let a = emit_all es S e n in a ∷ emit_rows rows S e (width a.nodes n)
 
+  -- as the result's type takes it
   pub emit_body : Routine → (List ℕ → ℕ) → Env → ℕ → Emitted
-  emit_body (Function calls_itself types returns x) S e n = emit x S e n
+  emit_body (Function calls_itself types returns x) S e n = assigning_in (returns ∷ []) (emit x S e n)
 
   pub emit_tests : Exprs → (List ℕ → ℕ) → Env → Waiting → ℕ → List Emitted
   emit_tests NoExpr S e pending n = all_waiting pending

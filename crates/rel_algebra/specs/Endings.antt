@@ -1,16 +1,19 @@
--- How evaluations end that change nothing, and what operations give on values. ISO/IEC 9075-2, 6.27 (numeric value expression), 8.2 (comparison
--- predicate), 8.4 (in predicate), 8.8 (null predicate) and 6.39 (boolean value expression).
-use Rattle.std.specs.Prelude.{ℕ, zero, suc, Bool, false, not, if◌then◌else◌, List, [], ◌∷◌, Result, Ok, Err}
+-- How evaluations end that change nothing, and what operations give on values. ISO/IEC 9075-2, 6.13 (cast specification), 6.27 (numeric value
+-- expression), 6.28 (length expression, MOD), 6.32 (SUBSTRING), 8.2 (comparison predicate), 8.4 (in predicate), 8.8 (null predicate), 6.39 (boolean
+-- value expression) and 9.2 (store assignment).
+use Rattle.std.specs.Prelude.{ℕ, zero, suc, Bool, false, not, if◌then◌else◌, List, [], ◌∷◌, Some, None, Result, Ok, Err}
 use Rattle.sql_values.specs.declared.value.Value.{Value}
-use Rattle.sql_values.specs.declared.value.Value.TheVariants.{Null, Int, Bool as Truth}
+use Rattle.sql_values.specs.declared.value.Value.TheVariants.{Null, Bool as Truth}
 use Rattle.sql_values.specs.declared.operators.Comparison.TheVariants.{Equals}
-use Rattle.sql_values.specs.Values.{Outcome, negation_of, is_null, is_true}
+use Rattle.sql_values.specs.Values.{Outcome, negation_of, remainder_of, is_null, is_true}
+use Rattle.sql_values.specs.Texts.{length_of, substring_of}
+use Rattle.sql_values.specs.Casts.{cast_to, assigned}
 use Rattle.sql_values.specs.Operators.{applied, compared}
 use Rattle.sql_conditions.specs.Conditions.{Area, area_of}
 use Rattle.row_types.specs.Rows.{Row}
 use Rattle.row_types.specs.declared.cell.Cell.{Cell}
 use Rattle.row_types.specs.declared.cell.Cell.TheVariants.{Val, Cond}
-use Rattle.rel_algebra.specs.Tree.{Operation, Negation, Arithmetic, Comparing, Opposite, NullTest, TrueTest, FalseTest, AnyOf}
+use Rattle.rel_algebra.specs.Tree.{Operation, Negation, Arithmetic, Comparing, Modulo, CharLength, Substring, Cast, Assign, Opposite, NullTest, TrueTest, FalseTest, AnyOf}
 use Rattle.rel_algebra.specs.World.{condition_of}
 
 -- with what it gives, or with the conditions that it raises
@@ -36,9 +39,8 @@ cell_end (Ok v) = Val v
 cell_end (Err area) = Cond area
 
 abbrev pub is_false : Value → Bool
-is_false Null = false
-is_false (Int n) = false
 is_false (Truth p) = not p
+is_false _ = false
 
 -- unknown where an operand is NULL
 abbrev pub equal_values : Value → Value → Value
@@ -55,6 +57,12 @@ abbrev pub op_value : Operation → List Value → Ending Value
 op_value Negation (x ∷ []) = ending_of (negation_of x)
 op_value (Arithmetic operator) (x ∷ y ∷ []) = ending_of (applied operator x y)
 op_value (Comparing comparison) (x ∷ y ∷ []) = Ok (compared comparison x y)
+op_value Modulo (x ∷ y ∷ []) = ending_of (remainder_of x y)
+op_value CharLength (x ∷ []) = Ok (length_of x)
+op_value Substring (x ∷ from ∷ []) = ending_of (substring_of x from None)
+op_value Substring (x ∷ from ∷ count ∷ []) = ending_of (substring_of x from (Some count))
+op_value (Cast t) (x ∷ []) = ending_of (cast_to t x)
+op_value (Assign t) (x ∷ []) = ending_of (assigned t x)
 op_value Opposite (Truth p ∷ []) = Ok (Truth (not p))
 op_value NullTest (x ∷ []) = Ok (Truth (is_null x))
 op_value TrueTest (x ∷ []) = Ok (Truth (is_true x))

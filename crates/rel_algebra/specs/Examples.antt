@@ -3,13 +3,14 @@ use Rattle.std.specs.Prelude.{ℕ, Bool, true, false, pos, negsuc, ◌≡◌, Li
 use Rattle.sql_values.specs.declared.value.Value.{Value}
 use Rattle.sql_values.specs.declared.value.Value.TheVariants.{Null, Int, Bool as Truth}
 use Rattle.sql_values.specs.declared.operators.Operator.TheVariants.{Subtract, Divide}
+use Rattle.sql_values.specs.declared.operators.Comparison.{Comparison}
 use Rattle.sql_values.specs.declared.operators.Comparison.TheVariants.{NotEquals, LessThan}
 use Rattle.sql_conditions.specs.declared.condition.EngineCondition.TheVariants.{NumberOutOfRange, DivisionByZero, ConstraintViolated, RecursionTooDeep}
 use Rattle.sql_conditions.specs.Conditions.{area_of}
 use Rattle.sql_values.specs.declared.value.SqlType.TheVariants.{Integer}
 use Rattle.row_types.specs.declared.ColumnType.{ColumnType}
 use Rattle.row_types.specs.Rows.{Row}
-use Rattle.rel_algebra.specs.Tree.{Expr, Literal, Column, Variable, Negate, Compare, Chain, Call, CallSelf, NoLink, MoreLinks, Exprs, NoExpr, MoreExprs, Routine, Function, Query, Select, Values, Table, Rows, NoRow, MoreRows}
+use Rattle.rel_algebra.specs.Tree.{Negation, Comparing, Expr, Literal, Column, Variable, Chain, Operate, Call, CallSelf, NoLink, MoreLinks, Exprs, NoExpr, MoreExprs, Routine, Function, Query, Select, Values, Table, Rows, NoRow, MoreRows}
 use Rattle.rel_algebra.specs.World.{World, Gives, Raises, RunsOut, no_self, no_frame}
 use Rattle.rel_algebra.specs.Meaning.{ev, ask}
 use Rattle.rel_algebra.specs.Writing.{insert}
@@ -34,6 +35,12 @@ three = world (row 1 Null ∷ row 2 (Int (pos 10)) ∷ row 3 (Int (pos 0)) ∷ [
 abbrev pub number : ℕ → Expr
 number n = Literal (Int (pos n))
 
+abbrev pub opposite : Expr → Expr
+opposite x = Operate Negation (MoreExprs x NoExpr)
+
+abbrev pub comparing : Comparison → Expr → Expr → Expr
+comparing comparison x y = Operate (Comparing comparison) (MoreExprs x (MoreExprs y NoExpr))
+
 -- inv (x): RETURN 100 / x
 abbrev pub inv : Routine
 inv = Function false (Integer ∷ []) Integer (Chain (number 100) (MoreLinks Divide (Variable 0) NoLink))
@@ -48,7 +55,7 @@ inverses conjuncts = Select (MoreExprs (Column 0 0) (MoreExprs (call_inv (Column
 pub record InverseOfEachRow : Type 0 where
   pub raises : ask (inverses NoExpr) three ≡ Raises (area_of DivisionByZero) three
   -- WHERE a <> 0: unknown where a is NULL
-  pub gives : ask (inverses (MoreExprs (Compare NotEquals (Column 0 1) (number 0)) NoExpr)) three ≡ Gives (row 2 (Int (pos 10)) ∷ []) three
+  pub gives : ask (inverses (MoreExprs (comparing NotEquals (Column 0 1) (number 0)) NoExpr)) three ≡ Gives (row 2 (Int (pos 10)) ∷ []) three
 
 abbrev pub values : ℕ → Rows → Rows
 values k rows = MoreRows (MoreExprs (number k) (MoreExprs (Literal Null) NoExpr)) rows
@@ -61,14 +68,14 @@ pub record KeysStandOnce : Type 0 where
 
 -- -9223372036854775807 - 1
 abbrev pub least : Expr
-least = Chain (Negate (number 9223372036854775807)) (MoreLinks Subtract (number 1) NoLink)
+least = Chain (opposite (number 9223372036854775807)) (MoreLinks Subtract (number 1) NoLink)
 
 pub record LeastHasNoOpposite : Type 0 where
   pub gives : ev least no_self [] no_frame three ≡ Gives (Int (negsuc 9223372036854775807)) three
   -- (-9223372036854775807 - 1) / -1
-  pub divided : ev (Chain least (MoreLinks Divide (Negate (number 1)) NoLink)) no_self [] no_frame three ≡ Raises (area_of NumberOutOfRange) three
-  pub negated : ev (Negate least) no_self [] no_frame three ≡ Raises (area_of NumberOutOfRange) three
-  pub null : ev (Negate (Literal Null)) no_self [] no_frame three ≡ Gives Null three
+  pub divided : ev (Chain least (MoreLinks Divide (opposite (number 1)) NoLink)) no_self [] no_frame three ≡ Raises (area_of NumberOutOfRange) three
+  pub negated : ev (opposite least) no_self [] no_frame three ≡ Raises (area_of NumberOutOfRange) three
+  pub null : ev (opposite (Literal Null)) no_self [] no_frame three ≡ Gives Null three
 
 pub record RowsInTurn : Type 0 where
   -- VALUES (5, NULL), (4, NULL)
@@ -86,8 +93,8 @@ pub record NoValueLacks : Type 0 where
 pub record ColumnsByLevel : Type 0 where
   pub inner : ev (Column 0 1) no_self (row 1 (Int (pos 7)) ∷ row 2 Null ∷ []) no_frame three ≡ Gives (Int (pos 7)) three
   pub outer : ev (Column 1 0) no_self (row 1 (Int (pos 7)) ∷ row 2 Null ∷ []) no_frame three ≡ Gives (Int (pos 2)) three
-  pub less : ev (Compare LessThan (number 1) (number 2)) no_self [] no_frame three ≡ Gives (Truth true) three
-  pub unknown : ev (Compare LessThan (number 1) (Literal Null)) no_self [] no_frame three ≡ Gives Null three
+  pub less : ev (comparing LessThan (number 1) (number 2)) no_self [] no_frame three ≡ Gives (Truth true) three
+  pub unknown : ev (comparing LessThan (number 1) (Literal Null)) no_self [] no_frame three ≡ Gives Null three
 
 -- again (x): RETURN again(x)
 abbrev pub again : Expr

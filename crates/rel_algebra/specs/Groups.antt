@@ -5,7 +5,7 @@ use Rattle.std.specs.Ordering.{is_eq, is_lt, ordering_then}
 use Rattle.std.specs.declared.cmp.Ordering.{Ordering}
 use Rattle.std.specs.declared.cmp.Ordering.TheVariants.{Equal}
 use Rattle.sql_values.specs.declared.value.Value.{Value}
-use Rattle.sql_values.specs.declared.value.Value.TheVariants.{Null, Int, Bool as Truth}
+use Rattle.sql_values.specs.declared.value.Value.TheVariants.{Null, Int}
 use Rattle.sql_values.specs.Values.{ranged, is_null}
 use Rattle.row_types.specs.Rows.{Row, value_cmp}
 use Rattle.row_types.specs.Ordered as ordered
@@ -60,9 +60,8 @@ count_of [] = 0
 count_of (v ∷ vs) = if is_null v then count_of vs else suc (count_of vs)
 
 abbrev pub number_in : Value → ℤ
-number_in Null = pos 0
 number_in (Int n) = n
-number_in (Truth p) = pos 0
+number_in _ = pos 0
 
 abbrev pub total_of : List Value → ℤ
 total_of [] = pos 0

@@ -1,17 +1,22 @@
 -- Kinds of values, of columns and of scalars; and plans in which each operand has the kind that it is wanted to have. NULL fits each kind.
-use Rattle.std.specs.Prelude.{◌≡◌, ℕ, zero, suc, ◌&&◌, Bool, true, false, List, [], ◌∷◌, ◌++◌, length, replicate}
+use Rattle.std.specs.Prelude.{◌≡◌, ℕ, zero, suc, ◌&&◌, Bool, true, false, List, [], ◌∷◌, ◌++◌, length, replicate, drop}
 use Rattle.sql_values.specs.declared.value.Value.{Value}
-use Rattle.sql_values.specs.declared.value.Value.TheVariants.{Int, Null, Bool as Truth}
+use Rattle.sql_values.specs.declared.value.Value.TheVariants.{Int, Null, Str, Bool as Truth}
+use Rattle.sql_values.specs.declared.value.SqlType.{SqlType}
+use Rattle.sql_values.specs.declared.value.SqlType.TheVariants.{Integer, Varchar, Boolean}
+use Rattle.sql_values.specs.declared.operators.Operator.{Operator}
+use Rattle.sql_values.specs.declared.operators.Operator.TheVariants.{Concatenate}
 use Rattle.rel_algebra.specs.Emit.{plan, top}
 use Rattle.rel_algebra.specs.Joins.{numbered, places, rows_width}
 use Rattle.rel_algebra.specs.Plain.{all_even}
 use Rattle.rel_algebra.specs.Plan.{Kind, Nodes, PlanTree, Scalar, Scalars, Word, aggregate, and_word, apply, apply_by, argument, case_word, coalesce_word, column, constant, cross, exists, extend, extend_by, filter, group, keep, left_outer, member, more, no_node, none, or_word, scan, settle, single, sort, strict, unit_row, values, word}
-use Rattle.rel_algebra.specs.Tree.{Aggregate, And, AnyOf, Arithmetic, Average, Call, CallSelf, Case, CaseOf, Chain, Coalesce, Column, Compare, Comparing, Count, Cross, Derived, Exists, Expr, Exprs, FalseTest, From, Function, Grouped, In, Inner, LeftOuter, Links, Literal, Max, Min, MoreExprs, MoreLinks, MoreRows, Negate, Negation, NoExpr, NoLink, NoRow, NullTest, Operate, Operation, Opposite, Or, Ordered, Query, Routine, Rows, Select, Single, Sum, Table, TrueTest, Values, Variable}
+use Rattle.rel_algebra.specs.Tree.{Aggregate, And, AnyOf, Arithmetic, Assign, Average, Call, CallSelf, Case, CaseOf, Cast, Chain, CharLength, Coalesce, Column, Comparing, Count, Cross, Derived, Exists, Expr, Exprs, FalseTest, From, Function, Grouped, In, Inner, LeftOuter, Links, Literal, Max, Min, Modulo, MoreExprs, MoreLinks, MoreRows, Negation, NoExpr, NoLink, NoRow, NullTest, Operate, Operation, Opposite, Or, Ordered, Query, Routine, Rows, Select, Single, Substring, Sum, Table, TrueTest, Values, Variable, parameters_of}
 use Rattle.rel_algebra.specs.WellFormed.{HasRow}
 
 pub data DataKind : Type 0 where
   NullKind : DataKind
   IntegerKind : DataKind
+  TextKind : DataKind
   BooleanKind : DataKind
 
 abbrev pub Kinds : Type 0
@@ -20,6 +25,7 @@ Kinds = List DataKind
 abbrev pub value_kind : Value → DataKind
 value_kind Null = NullKind
 value_kind (Int n) = IntegerKind
+value_kind (Str s) = TextKind
 value_kind (Truth b) = BooleanKind
 
 -- of one kind, where NULL fits each
@@ -27,14 +33,18 @@ abbrev pub agree : DataKind → DataKind → Bool
 agree NullKind b = true
 agree IntegerKind NullKind = true
 agree IntegerKind IntegerKind = true
-agree IntegerKind BooleanKind = false
+agree IntegerKind _ = false
+agree TextKind NullKind = true
+agree TextKind TextKind = true
+agree TextKind _ = false
 agree BooleanKind NullKind = true
-agree BooleanKind IntegerKind = false
 agree BooleanKind BooleanKind = true
+agree BooleanKind _ = false
 
 abbrev pub joined_kind : DataKind → DataKind → DataKind
 joined_kind NullKind b = b
 joined_kind IntegerKind b = IntegerKind
+joined_kind TextKind b = TextKind
 joined_kind BooleanKind b = BooleanKind
 
 abbrev pub kind_at : Kinds → ℕ → DataKind
@@ -51,11 +61,27 @@ abbrev pub kinds_at : Kinds → List ℕ → Kinds
 kinds_at r [] = []
 kinds_at r (i ∷ is) = kind_at r i ∷ kinds_at r is
 
+-- of the values of a type
+abbrev pub type_kind : SqlType → DataKind
+type_kind Integer = IntegerKind
+type_kind (Varchar n) = TextKind
+type_kind Boolean = BooleanKind
+
+-- of both operands of an operator, and of what it gives
+abbrev pub operator_kind : Operator → DataKind
+operator_kind Concatenate = TextKind
+operator_kind _ = IntegerKind
+
 -- Words.
 abbrev pub op_kind : Operation → DataKind
 op_kind Negation = IntegerKind
-op_kind (Arithmetic operator) = IntegerKind
+op_kind (Arithmetic operator) = operator_kind operator
 op_kind (Comparing comparison) = BooleanKind
+op_kind Modulo = IntegerKind
+op_kind CharLength = IntegerKind
+op_kind Substring = TextKind
+op_kind (Cast t) = type_kind t
+op_kind (Assign t) = type_kind t
 op_kind Opposite = BooleanKind
 op_kind NullTest = BooleanKind
 op_kind TrueTest = BooleanKind
@@ -66,10 +92,22 @@ abbrev pub all_agree : DataKind → Kinds → Bool
 all_agree k [] = true
 all_agree k (j ∷ ks) = agree k j && all_agree k ks
 
+-- a value of a kind may be cast to a type of another, but for numbers and truth values
+abbrev pub castable : DataKind → DataKind → Bool
+castable IntegerKind BooleanKind = false
+castable BooleanKind IntegerKind = false
+castable _ _ = true
+
 abbrev pub op_good : Operation → Kinds → Bool
 op_good Negation (a ∷ []) = agree a IntegerKind
-op_good (Arithmetic operator) (a ∷ b ∷ []) = agree a IntegerKind && agree b IntegerKind
+op_good (Arithmetic operator) (a ∷ b ∷ []) = agree a (operator_kind operator) && agree b (operator_kind operator)
 op_good (Comparing comparison) (a ∷ b ∷ []) = agree a b
+op_good Modulo (a ∷ b ∷ []) = agree a IntegerKind && agree b IntegerKind
+op_good CharLength (a ∷ []) = agree a TextKind
+op_good Substring (a ∷ from ∷ []) = agree a TextKind && agree from IntegerKind
+op_good Substring (a ∷ from ∷ count ∷ []) = agree a TextKind && (agree from IntegerKind && agree count IntegerKind)
+op_good (Cast t) (a ∷ []) = castable a (type_kind t)
+op_good (Assign t) (a ∷ []) = agree a (type_kind t)
 op_good Opposite (a ∷ []) = agree a BooleanKind
 op_good NullTest (a ∷ []) = true
 op_good TrueTest (a ∷ []) = agree a BooleanKind
@@ -254,18 +292,46 @@ abbrev mutual
 abbrev pub group_kinds : ℕ → List Aggregate → Kinds → Kinds
 group_kinds k ags r = kinds_at r (places 0 k) ++ aggregate_kinds (numbered k ags) r
 
+-- the kind of what a target of a type takes of a value of this kind
+abbrev pub assigned_kind : SqlType → DataKind → DataKind
+assigned_kind (Varchar n) k = TextKind
+assigned_kind _ k = k
+
+-- only a text is cut
+abbrev pub takes : SqlType → DataKind → Bool
+takes (Varchar n) k = agree k TextKind
+takes _ k = true
+
+-- the same for the next of several targets; with no target left, each kind stands
+abbrev pub first_kind : List SqlType → DataKind → DataKind
+first_kind [] k = k
+first_kind (t ∷ types) k = assigned_kind t k
+
+-- and whether it takes the kind
+abbrev pub first_takes : List SqlType → DataKind → Bool
+first_takes [] k = true
+first_takes (t ∷ types) k = takes t k
+
+-- arguments of these kinds, as their parameters take them
+abbrev pub args_kinds : Kinds → List SqlType → Kinds
+args_kinds [] types = []
+args_kinds (k ∷ ks) types = first_kind types k ∷ args_kinds ks (drop 1 types)
+
+-- each is of a kind that its parameter takes
+abbrev pub args_good : Kinds → List SqlType → Bool
+args_good [] types = true
+args_good (k ∷ ks) types = first_takes types k && args_good ks (drop 1 types)
+
 -- a chain's kind, by that of what stands left
 abbrev pub links_kind : Links → DataKind → DataKind
 links_kind NoLink k = k
-links_kind (MoreLinks operator x links) k = links_kind links IntegerKind
+links_kind (MoreLinks operator x links) k = links_kind links (operator_kind operator)
 
 abbrev mutual
   pub expr_kind : Expr → (List ℕ → Kinds) → List Kinds → Kinds → DataKind
   expr_kind (Literal v) T g p = value_kind v
   expr_kind (Column d i) T g p = kind_at (kinds_row g d) i
   expr_kind (Variable i) T g p = kind_at p i
-  expr_kind (Negate x) T g p = IntegerKind
-  expr_kind (Compare comparison x y) T g p = BooleanKind
   expr_kind (Chain x links) T g p = links_kind links (expr_kind x T g p)
   expr_kind (Operate op es) T g p = op_kind op
   expr_kind (And es) T g p = BooleanKind
@@ -276,7 +342,7 @@ abbrev mutual
   expr_kind (In x q) T g p = BooleanKind
   expr_kind (Exists q) T g p = BooleanKind
   expr_kind (Single q) T g p = kind_at (query_kinds q T g p) 0
-  expr_kind (Call name r es) T g p = body_kind r T (exprs_kinds es T g p)
+  expr_kind (Call name r es) T g p = body_kind r T (args_kinds (exprs_kinds es T g p) (parameters_of r))
   expr_kind (CallSelf types es) T g p = NullKind
 
   pub exprs_kinds : Exprs → (List ℕ → Kinds) → List Kinds → Kinds → Kinds
@@ -289,7 +355,7 @@ abbrev mutual
   rows_kinds (MoreRows es rows) n T g p = join_kinds (exprs_kinds es T g p) (rows_kinds rows n T g p)
 
   pub body_kind : Routine → (List ℕ → Kinds) → Kinds → DataKind
-  body_kind (Function calls_itself types returns x) T p = expr_kind x T [] p
+  body_kind (Function calls_itself types returns x) T p = assigned_kind returns (expr_kind x T [] p)
 
   pub query_kinds : Query → (List ℕ → Kinds) → List Kinds → Kinds → Kinds
   query_kinds (Select items from tests) T g p = exprs_kinds items T (from_kinds from T g p ∷ g) p
@@ -311,8 +377,6 @@ abbrev mutual
   Typed (Literal v) T g p = Unit {0}
   Typed (Column d i) T g p = Unit {0}
   Typed (Variable i) T g p = Unit {0}
-  Typed (Negate x) T g p = Typed x T g p × (agree (expr_kind x T g p) IntegerKind ≡ true)
-  Typed (Compare comparison x y) T g p = Typed x T g p × Typed y T g p × (agree (expr_kind x T g p) (expr_kind y T g p) ≡ true)
   Typed (Chain x links) T g p = Typed x T g p × TypedLinks links (expr_kind x T g p) T g p
   Typed (Operate op es) T g p = TypedAll es T g p × (op_good op (exprs_kinds es T g p) ≡ true)
   Typed (And es) T g p = TypedAll es T g p × (tests_good (exprs_kinds es T g p) ≡ true)
@@ -325,21 +389,24 @@ abbrev mutual
   Typed (In x q) T g p = Typed x T g p × TypedQuery q T g p × (agree (expr_kind x T g p) (kind_at (query_kinds q T g p) 0) ≡ true)
   Typed (Exists q) T g p = TypedQuery q T g p
   Typed (Single q) T g p = TypedQuery q T g p
-  Typed (Call name r es) T g p = TypedBody r T (exprs_kinds es T g p) × TypedAll es T g p
+  Typed (Call name r es) T g p =
+      TypedBody r T (args_kinds (exprs_kinds es T g p) (parameters_of r)) × TypedAll es T g p
+      × (args_good (exprs_kinds es T g p) (parameters_of r) ≡ true)
   Typed (CallSelf types es) T g p = Unit {0}
 
   -- on from this kind
   pub TypedLinks : Links → DataKind → (List ℕ → Kinds) → List Kinds → Kinds → Type 0
   TypedLinks NoLink k T g p = Unit {0}
   TypedLinks (MoreLinks operator x links) k T g p =
-      (agree k IntegerKind ≡ true) × Typed x T g p × (agree (expr_kind x T g p) IntegerKind ≡ true) × TypedLinks links IntegerKind T g p
+      (agree k (operator_kind operator) ≡ true) × Typed x T g p × (agree (expr_kind x T g p) (operator_kind operator) ≡ true)
+      × TypedLinks links (operator_kind operator) T g p
 
   pub TypedAll : Exprs → (List ℕ → Kinds) → List Kinds → Kinds → Type 0
   TypedAll NoExpr T g p = Unit {0}
   TypedAll (MoreExprs x es) T g p = Typed x T g p × TypedAll es T g p
 
   pub TypedBody : Routine → (List ℕ → Kinds) → Kinds → Type 0
-  TypedBody (Function calls_itself types returns x) T p = Typed x T [] p
+  TypedBody (Function calls_itself types returns x) T p = Typed x T [] p × (takes returns (expr_kind x T [] p) ≡ true)
 
   pub TypedQuery : Query → (List ℕ → Kinds) → List Kinds → Kinds → Type 0
   TypedQuery (Select items from tests) T g p =

@@ -2,7 +2,7 @@
 -- the plan of its query while these have their columns.
 use Rattle.std.specs.Prelude.{◌≡◌, ℕ, List}
 use Rattle.rel_algebra.specs.Emit.{Env, emit_body, plan, routine_plan}
-use Rattle.rel_algebra.specs.Tree.{And, Call, CallSelf, Case, CaseOf, Chain, Coalesce, Column, Compare, Cross, Derived, Exists, Expr, Exprs, From, Function, Grouped, In, Inner, LeftOuter, Links, Literal, MoreExprs, MoreLinks, MoreRows, Negate, NoExpr, NoLink, NoRow, Operate, Or, Ordered, Query, Routine, Rows, Select, Single, Table, Values, Variable}
+use Rattle.rel_algebra.specs.Tree.{And, Call, CallSelf, Case, CaseOf, Chain, Coalesce, Column, Cross, Derived, Exists, Expr, Exprs, From, Function, Grouped, In, Inner, LeftOuter, Links, Literal, MoreExprs, MoreLinks, MoreRows, NoExpr, NoLink, NoRow, Operate, Or, Ordered, Query, Routine, Rows, Select, Single, Table, Values, Variable}
 
 -- the tables that a tree names have as many columns by S as by R
 abbrev mutual
@@ -10,8 +10,6 @@ abbrev mutual
   Lasts (Literal v) S R = Unit {0}
   Lasts (Column level i) S R = Unit {0}
   Lasts (Variable i) S R = Unit {0}
-  Lasts (Negate x) S R = Lasts x S R
-  Lasts (Compare comparison x y) S R = Lasts x S R × Lasts y S R
   Lasts (Chain x links) S R = Lasts x S R × LinksLast links S R
   Lasts (Operate op es) S R = AllLast es S R
   Lasts (And es) S R = AllLast es S R

@@ -17,6 +17,9 @@ pub mod WellFormed
 pub mod Kinds
 pub mod Merged
 pub mod Lasting
+pub mod Applies
 pub mod PlanExamples
+pub mod WordExamples
+pub mod CallExamples
 pub mod Writing
 pub mod Examples

@@ -4,11 +4,12 @@ use Rattle.std.specs.Prelude.{Bool, true, false, if◌then◌else◌, List, [], 
 use Rattle.sql_values.specs.declared.value.Value.{Value}
 use Rattle.sql_values.specs.declared.value.Value.TheVariants.{Null, Bool as Truth}
 use Rattle.sql_values.specs.declared.value.SqlType.{SqlType}
-use Rattle.sql_values.specs.Values.{Outcome, negation_of, assigned, is_null, is_true}
-use Rattle.sql_values.specs.Operators.{applied, compared}
+use Rattle.sql_values.specs.Values.{Outcome, is_null, is_true}
+use Rattle.sql_values.specs.Operators.{applied}
+use Rattle.sql_values.specs.Casts.{assigned}
 use Rattle.row_types.specs.Rows.{Row}
 use Rattle.row_types.specs.Tables.{rows_named}
-use Rattle.rel_algebra.specs.Tree.{Expr, Literal, Column, Variable, Negate, Compare, Chain, Operate, And, Or, Case, CaseOf, Coalesce, In, Exists, Single, Call, CallSelf, Links, NoLink, MoreLinks, Exprs, NoExpr, MoreExprs, Routine, Function, parameters_of, Rows, NoRow, MoreRows, From, Table, Derived, Cross, Inner, LeftOuter, Query, Select, Grouped, Values, Ordered}
+use Rattle.rel_algebra.specs.Tree.{Expr, Literal, Column, Variable, Chain, Operate, And, Or, Case, CaseOf, Coalesce, In, Exists, Single, Call, CallSelf, Links, NoLink, MoreLinks, Exprs, NoExpr, MoreExprs, Routine, Function, parameters_of, Rows, NoRow, MoreRows, From, Table, Derived, Cross, Inner, LeftOuter, Query, Select, Grouped, Values, Ordered}
 use Rattle.rel_algebra.specs.World.{Frame, Eval, Gives, Raises, ◌>>=◌, give, unit, outcome, choose, column_of, variable_of, frame_of, no_frame, tested, each_kept, each_listed, Called, no_self, call_of}
 use Rattle.rel_algebra.specs.Endings.{Ending, is_false, equal_values, op_value}
 use Rattle.rel_algebra.specs.Groups.{groups, in_order}
@@ -31,13 +32,6 @@ abbrev mutual
   ev (Literal v) self rows f = give v
   ev (Column level i) self rows f = give (column_of level i rows)
   ev (Variable i) self rows f = give (variable_of i f)
-  ev (Negate e) self rows f = do
-    v ← ev e self rows f
-    outcome (negation_of v)
-  ev (Compare comparison a b) self rows f = do
-    x ← ev a self rows f
-    y ← ev b self rows f
-    give (compared comparison x y)
   ev (Chain e links) self rows f = do
     v ← ev e self rows f
     ev_links links v self rows f

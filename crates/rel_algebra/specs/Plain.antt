@@ -1,16 +1,19 @@
 -- What planned expressions and queries mean by the tables alone: for given tables and rows outside a value or the rows, or the first condition.
 -- The law `means_passing` says that this is what they do.
-use Rattle.std.specs.Prelude.{ℕ, Bool, true, false, if◌then◌else◌, List, [], ◌∷◌, ◌++◌, nat_eq, ◌&&◌, not, Ok}
+use Rattle.std.specs.Prelude.{ℕ, Bool, true, false, if◌then◌else◌, List, [], ◌∷◌, ◌++◌, nat_eq, ◌&&◌, not, Ok, drop}
 use Rattle.sql_values.specs.declared.value.Value.{Value}
 use Rattle.sql_values.specs.declared.value.Value.TheVariants.{Null, Bool as Truth}
-use Rattle.sql_values.specs.Values.{negation_of, is_null, is_true}
-use Rattle.sql_values.specs.Operators.{applied, compared}
+use Rattle.sql_values.specs.declared.value.SqlType.{SqlType}
+use Rattle.sql_values.specs.Casts.{assigned}
+use Rattle.sql_values.specs.Values.{is_null, is_true}
+use Rattle.sql_values.specs.Operators.{applied}
 use Rattle.row_types.specs.Rows.{Row}
 use Rattle.row_types.specs.Tables.{Tables, rows_named}
-use Rattle.rel_algebra.specs.Tree.{Expr, Literal, Column, Variable, Negate, Compare, Chain, Operate, And, Or, Case, CaseOf, Coalesce, In, Exists, Single, Call, CallSelf, Links, NoLink, MoreLinks, Exprs, NoExpr, MoreExprs, count, Routine, Function, Rows, NoRow, MoreRows, From, Table, Derived, Cross, Inner, LeftOuter, Query, Select, Grouped, Values, Ordered}
+use Rattle.rel_algebra.specs.Tree.{Expr, Literal, Column, Variable, Chain, Operate, And, Or, Case, CaseOf, Coalesce, In, Exists, Single, Call, CallSelf, Links, NoLink, MoreLinks, Exprs, NoExpr, MoreExprs, count, Routine, Function, Rows, NoRow, MoreRows, From, Table, Derived, Cross, Inner, LeftOuter, Query, Select, Grouped, Values, Ordered, parameters_of}
 use Rattle.rel_algebra.specs.Endings.{Ending, ◌>>=◌, ending_of, is_false, equal_values, op_value, value_at, row_at}
 use Rattle.rel_algebra.specs.Groups.{groups, in_order}
 use Rattle.rel_algebra.specs.Joins.{places, numbered, pairs, or_nulls, single_of, exists_of, member_of, group_row, rows_width, from_width, table_width}
+use Rattle.rel_algebra.specs.Meaning.{assigned_first}
 
 -- the tables, and the arguments of the whole query
 pub record Inputs : Type 0 where
@@ -69,13 +72,6 @@ abbrev mutual
   ev (Literal v) w f = Ok v
   ev (Column d i) w f = Ok (value_at (row_at f.rows d) i)
   ev (Variable i) w f = Ok (value_at f.params i)
-  ev (Negate x) w f = do
-    v ← ev x w f
-    ending_of (negation_of v)
-  ev (Compare comparison x y) w f = do
-    u ← ev x w f
-    v ← ev y w f
-    Ok (compared comparison u v)
   ev (Chain x links) w f = do
     v ← ev x w f
     ev_links links v w f
@@ -101,7 +97,7 @@ abbrev mutual
     rows ← answer q w f
     single_of rows
   ev (Call name r es) w f = do
-    vs ← ev_all es w f
+    vs ← ev_args es (parameters_of r) w f
     call r vs w
   -- no planned expression calls the function in which it stands
   ev (CallSelf types es) w f = Ok Null
@@ -120,6 +116,15 @@ abbrev mutual
     v ← ev e w f
     vs ← ev_all es w f
     Ok (v ∷ vs)
+
+  -- each argument is evaluated and assigned to its parameter before the next
+  pub ev_args : Exprs → List SqlType → Inputs → Scope → Ending (List Value)
+  ev_args NoExpr types w f = Ok []
+  ev_args (MoreExprs e es) types w f = do
+    v ← ev e w f
+    x ← ending_of (assigned_first types v)
+    xs ← ev_args es (drop 1 types) w f
+    Ok (x ∷ xs)
 
   -- row by row
   pub ev_rows : Rows → Inputs → Scope → Ending (List Row)
@@ -157,9 +162,11 @@ abbrev mutual
     v ← ev e w f
     if is_null v then ev_coalesce es w f else Ok v
 
-  -- the body is run anew on parameters of its own; it sees no row
+  -- the body is run anew on parameters of its own, and sees no row; its value is assigned to the result's type
   pub call : Routine → List Value → Inputs → Ending Value
-  call (Function calls_itself types returns e) vs w = ev e w (record { rows = []; params = vs })
+  call (Function calls_itself types returns e) vs w = do
+    v ← ev e w (record { rows = []; params = vs })
+    ending_of (assigned returns v)
 
   -- whether all conjuncts are true: a row leaves at the first that isn't
   pub holds : Exprs → Inputs → Scope → Ending Bool
@@ -214,8 +221,6 @@ abbrev mutual
   planned_expr (Literal v) = true
   planned_expr (Column level i) = true
   planned_expr (Variable i) = true
-  planned_expr (Negate x) = planned_expr x
-  planned_expr (Compare comparison x y) = planned_expr x && planned_expr y
   planned_expr (Chain x links) = planned_expr x && planned_links links
   planned_expr (Operate op es) = planned_all es
   planned_expr (And es) = planned_all es

@@ -14,7 +14,7 @@ use Rattle.rel_algebra.specs.declared.plan.Leaf.TheVariants as leaf
 use Rattle.rel_algebra.specs.declared.plan.Node.{Node}
 use Rattle.rel_algebra.specs.declared.plan.Node.TheVariants as node
 use Rattle.rel_algebra.specs.declared.plan.Plan.{Plan}
-use Rattle.rel_algebra.specs.Tree.{Operation, Negation, Arithmetic, Comparing, Opposite, NullTest, TrueTest, FalseTest, AnyOf}
+use Rattle.rel_algebra.specs.Tree.{Operation, Negation, Arithmetic, Comparing, Modulo, CharLength, Substring, Cast, Assign, Opposite, NullTest, TrueTest, FalseTest, AnyOf}
 use Rattle.rel_algebra.specs.Plan.{Word, strict, and_word, or_word, case_word, coalesce_word, Scalar, constant, column, argument, word, Scalars, none, more, PlanTree, unit_row, scan, values, extend, filter, keep}
 
 -- an operator with the plain scalar right of it
@@ -37,8 +37,13 @@ unary_operation unary.Opposite = Opposite
 unary_operation unary.NullTest = NullTest
 unary_operation unary.TrueTest = TrueTest
 unary_operation unary.FalseTest = FalseTest
+unary_operation unary.CharLength = CharLength
+unary_operation (unary.Cast t) = Cast t
+unary_operation (unary.Assign t) = Assign t
 
 abbrev pub list_word : ListWord → Word
+list_word listed.Modulo = strict Modulo
+list_word listed.Substring = strict Substring
 list_word listed.AnyOf = strict AnyOf
 list_word listed.And = and_word
 list_word listed.Or = or_word

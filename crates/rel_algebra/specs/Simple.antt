@@ -6,7 +6,7 @@ use Rattle.rel_algebra.specs.Emit.{plan, routine_plan, top}
 use Rattle.rel_algebra.specs.Joins.{from_width, rows_width}
 use Rattle.rel_algebra.specs.Plain.{all_even}
 use Rattle.rel_algebra.specs.Removal.{all_removable, less, tree_within}
-use Rattle.rel_algebra.specs.Tree.{And, Call, CallSelf, Case, CaseOf, Chain, Coalesce, Column, Compare, Cross, Derived, Exists, Expr, Exprs, From, Function, Grouped, In, Inner, LeftOuter, Links, Literal, MoreExprs, MoreLinks, MoreRows, Negate, NoExpr, NoLink, NoRow, Operate, Or, Ordered, Query, Routine, Rows, Select, Single, Table, Values, Variable}
+use Rattle.rel_algebra.specs.Tree.{And, Call, CallSelf, Case, CaseOf, Chain, Coalesce, Column, Comparing, Cross, Derived, Exists, Expr, Exprs, From, Function, Grouped, In, Inner, LeftOuter, Links, Literal, MoreExprs, MoreLinks, MoreRows, NoExpr, NoLink, NoRow, Operate, Or, Ordered, Query, Routine, Rows, Select, Single, Table, Values, Variable}
 
 -- names columns of the k innermost rows alone, and parameters only where p is true
 abbrev mutual
@@ -14,8 +14,6 @@ abbrev mutual
   Names (Literal v) k p = Unit {0}
   Names (Column d i) k p = less d k ≡ true
   Names (Variable i) k p = p ≡ true
-  Names (Negate x) k p = Names x k p
-  Names (Compare comparison x y) k p = Names x k p × Names y k p
   Names (Chain x links) k p = Names x k p × NamesLinks links k p
   Names (Operate op es) k p = NamesAll es k p
   Names (And es) k p = NamesAll es k p
@@ -61,10 +59,10 @@ abbrev mutual
 
 -- column = name or name = column, in a row of n columns
 abbrev pub IsKeyed : Expr → ℕ → Type 0
-IsKeyed (Compare Equals (Column zero i) (Column (suc d) j)) n = less i n ≡ true
-IsKeyed (Compare Equals (Column (suc d) j) (Column zero i)) n = less i n ≡ true
-IsKeyed (Compare Equals (Column zero i) (Variable j)) n = less i n ≡ true
-IsKeyed (Compare Equals (Variable j) (Column zero i)) n = less i n ≡ true
+IsKeyed (Operate (Comparing Equals) (MoreExprs (Column zero i) (MoreExprs (Column (suc d) j) NoExpr))) n = less i n ≡ true
+IsKeyed (Operate (Comparing Equals) (MoreExprs (Column (suc d) j) (MoreExprs (Column zero i) NoExpr))) n = less i n ≡ true
+IsKeyed (Operate (Comparing Equals) (MoreExprs (Column zero i) (MoreExprs (Variable j) NoExpr))) n = less i n ≡ true
+IsKeyed (Operate (Comparing Equals) (MoreExprs (Variable j) (MoreExprs (Column zero i) NoExpr))) n = less i n ≡ true
 IsKeyed _ n = ⊥
 
 -- The run, and behind it conjuncts that name nothing outside. Where p is true parameters are arguments of the whole query, which a plan may use
@@ -92,8 +90,6 @@ abbrev mutual
   Simple (Literal v) S p = Unit {0}
   Simple (Column d i) S p = Unit {0}
   Simple (Variable i) S p = Unit {0}
-  Simple (Negate x) S p = Simple x S p
-  Simple (Compare comparison x y) S p = Simple x S p × Simple y S p
   Simple (Chain x links) S p = Simple x S p × SimpleLinks links S p
   Simple (Operate op es) S p = SimpleAll es S p
   Simple (And es) S p = SimpleAll es S p

@@ -5,12 +5,22 @@ use Rattle.sql_values.specs.declared.value.SqlType.{SqlType}
 use Rattle.sql_values.specs.declared.operators.Operator.{Operator}
 use Rattle.sql_values.specs.declared.operators.Comparison.{Comparison}
 
--- The operations that take all their operands, from left to right. ISO/IEC 9075-2, 6.27, 8.2, 8.4, 8.8 and 6.39.
+-- The operations that take all their operands, from left to right. ISO/IEC 9075-2, 6.13, 6.27, 6.28, 6.32, 8.2, 8.4, 8.8, 6.39 and 9.2.
 pub data Operation : Type 0 where
   -- the number with the other sign
   Negation : Operation
   Arithmetic : Operator → Operation
   Comparing : Comparison → Operation
+  -- MOD
+  Modulo : Operation
+  -- CHAR_LENGTH
+  CharLength : Operation
+  -- SUBSTRING: the text, the place, and perhaps the length
+  Substring : Operation
+  -- CAST
+  Cast : SqlType → Operation
+  -- the value that a target of the type takes
+  Assign : SqlType → Operation
   -- NOT
   Opposite : Operation
   -- IS NULL, IS TRUE, IS FALSE
@@ -40,11 +50,9 @@ mutual
     Column : ℕ → ℕ → Expr
     -- a parameter, by its place in the frame
     Variable : ℕ → Expr
-    -- the number with the other sign
-    Negate : Expr → Expr
-    Compare : Comparison → Expr → Expr → Expr
     -- a chain of operators, read from the left
     Chain : Expr → Links → Expr
+    -- an operation over its operands
     Operate : Operation → Exprs → Expr
     -- chains of AND and of OR
     And : Exprs → Expr

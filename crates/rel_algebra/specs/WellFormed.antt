@@ -6,7 +6,7 @@ use Rattle.rel_algebra.specs.Joins.{query_width, rows_width}
 use Rattle.rel_algebra.specs.Plain.{all_even}
 use Rattle.rel_algebra.specs.Plan.{Kind, Nodes, PlanTree, Scalar, Scalars, aggregate, apply, apply_by, argument, column, constant, cross, exists, extend, extend_by, filter, group, keep, kind_width, left_outer, member, more, no_node, none, scan, settle, single, sort, unit_row, values, word}
 use Rattle.rel_algebra.specs.Removal.{less, lists_width, tree_width}
-use Rattle.rel_algebra.specs.Tree.{Aggregate, And, Call, CallSelf, Case, CaseOf, Chain, Coalesce, Column, Compare, Cross, Derived, Exists, Expr, Exprs, From, Function, Grouped, In, Inner, LeftOuter, Links, Literal, MoreExprs, MoreLinks, MoreRows, Negate, NoExpr, NoLink, NoRow, Operate, Or, Ordered, Query, Routine, Rows, Select, Single, SortKey, Table, Values, Variable, count, parameters_of}
+use Rattle.rel_algebra.specs.Tree.{Aggregate, And, Call, CallSelf, Case, CaseOf, Chain, Coalesce, Column, Cross, Derived, Exists, Expr, Exprs, From, Function, Grouped, In, Inner, LeftOuter, Links, Literal, MoreExprs, MoreLinks, MoreRows, NoExpr, NoLink, NoRow, Operate, Or, Ordered, Query, Routine, Rows, Select, Single, SortKey, Table, Values, Variable, count, parameters_of}
 
 -- a column that a row has: the widths are those of the rows in sight, the innermost first
 abbrev pub has_column : List ℕ → ℕ → ℕ → Bool
@@ -87,8 +87,6 @@ abbrev mutual
   Shaped (Literal v) S = Unit {0}
   Shaped (Column d i) S = Unit {0}
   Shaped (Variable i) S = Unit {0}
-  Shaped (Negate x) S = Shaped x S
-  Shaped (Compare comparison x y) S = Shaped x S × Shaped y S
   Shaped (Chain x links) S = Shaped x S × ShapedLinks links S
   Shaped (Operate op es) S = ShapedAll es S
   Shaped (And es) S = ShapedAll es S

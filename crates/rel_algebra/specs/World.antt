@@ -3,10 +3,10 @@ use Rattle.std.specs.Prelude.{ℕ, zero, suc, ◌+◌, ◌-◌, Bool, true, fals
 use Rattle.sql_values.specs.declared.value.Value.{Value}
 use Rattle.sql_values.specs.declared.value.Value.TheVariants.{Null}
 use Rattle.sql_values.specs.declared.value.ValueFault.{ValueFault}
-use Rattle.sql_values.specs.declared.value.ValueFault.TheVariants.{OutOfRange, DivZero}
+use Rattle.sql_values.specs.declared.value.ValueFault.TheVariants.{TooLong, OutOfRange, DivZero, BadCast, BadSubstring, NoMemory as WantOfMemory}
 use Rattle.sql_values.specs.Values.{Outcome, is_true}
 use Rattle.sql_conditions.specs.declared.condition.EngineCondition.{EngineCondition}
-use Rattle.sql_conditions.specs.declared.condition.EngineCondition.TheVariants.{NumberOutOfRange, DivisionByZero, RecursionTooDeep}
+use Rattle.sql_conditions.specs.declared.condition.EngineCondition.TheVariants.{NumberOutOfRange, DivisionByZero, RecursionTooDeep, StringTooLong, SubstringError, InvalidTextForCast}
 use Rattle.sql_conditions.specs.Conditions.{Area, area_of}
 use Rattle.row_types.specs.Rows.{Row}
 use Rattle.row_types.specs.Tables.{Tables}
@@ -65,10 +65,14 @@ unit_of w (RunsOut w') = RunsOut w'
 abbrev pub unit : {A : Type 0} → Eval A → Eval A
 unit e = λ w. unit_of w (e w)
 
--- the condition that a fault raises
+-- the condition that a fault raises; no definition gives want of memory, so that of it is never asked
 abbrev pub condition_of : ValueFault → EngineCondition
+condition_of TooLong = StringTooLong
 condition_of OutOfRange = NumberOutOfRange
 condition_of DivZero = DivisionByZero
+condition_of BadCast = InvalidTextForCast
+condition_of BadSubstring = SubstringError
+condition_of WantOfMemory = NumberOutOfRange
 
 -- gives an operation's value, or raises its fault
 abbrev pub outcome : Outcome → Eval Value

@@ -1,6 +1,6 @@
 -- What INSERT does. ISO/IEC 9075-2, 14.11 (insert statement).
 use Rattle.std.specs.Prelude.{ℕ, List, [], ◌∷◌, length, Option, Some, None, if◌then◌else◌}
-use Rattle.sql_values.specs.Values.{assigned}
+use Rattle.sql_values.specs.Casts.{assigned}
 use Rattle.sql_conditions.specs.declared.condition.EngineCondition.TheVariants.{ConstraintViolated}
 use Rattle.row_types.specs.declared.ColumnType.{ColumnType}
 use Rattle.row_types.specs.Rows.{Row, fits}

@@ -2,19 +2,21 @@
 #![tactic(auto)]
 
 ghost use Rattle.std.specs.Prelude.{◌≡◌};
+ghost use Rattle.rel_algebra.specs.CallExamples.{CallsAssign};
 ghost use Rattle.rel_algebra.specs.Examples.{InverseOfEachRow, KeysStandOnce, LeastHasNoOpposite, RowsInTurn, NoValueLacks, ColumnsByLevel, SelfCalls};
 ghost use Rattle.rel_algebra.specs.Kinds.{KindedPlans};
 ghost use Rattle.rel_algebra.specs.Lasting.{LastingPlans};
 ghost use Rattle.rel_algebra.specs.Merged.{MergedPlans};
 ghost use Rattle.rel_algebra.specs.PlanExamples.{PlansWorked, QueriesWorked};
 ghost use Rattle.rel_algebra.specs.Simple.{ClosedPlans, RemovablePlans};
+ghost use Rattle.rel_algebra.specs.WordExamples.{WordsWorked};
 ghost use Rattle.rel_algebra.specs.Theorem.{FunctionPlans, KeptTablesFit, Means, MeansAsked, MeansPassing, MeansUnder};
 ghost use Rattle.rel_algebra.specs.WellFormed.{WellFormedPlans};
 
 mod plan;
 mod scalar;
 
-pub use plan::{Leaf, Node, Plan, ScalarRow};
+pub use plan::{Leaf, Node, Plan, ScalarRow, apply_count};
 pub use scalar::{ListWord, Scalar, ScalarLink, UnaryWord};
 
 /// The inverse of each row raises at the row with zero; where that row is left out it is a record.
@@ -82,6 +84,17 @@ pub fn means_under()
 /// Queries give the first condition in the order of their rows, or none that they don't come to; and their worked rows.
 pub fn queries_worked()
     ensures { QueriesWorked }
+{}
+
+/// Words over texts, numbers and truth values, what each gives and when it raises; and the same by plans.
+pub fn words_worked()
+    ensures { WordsWorked }
+{}
+
+/// Each argument of a call is assigned to its parameter before the next is evaluated, and the body's value to the result's type: worked rows, where
+/// these cut a text or raise, by plans too.
+pub fn calls_assign()
+    ensures { CallsAssign }
 {}
 
 /// The plans of worked queries, what is done by them, and how many steps they take.

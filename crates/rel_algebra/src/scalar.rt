@@ -1,6 +1,6 @@
 //! Scalars: what plans compute of a row. They name no routine, and columns by their places alone.
 
-use sql_values::{Comparison, Operator, Value};
+use sql_values::{Comparison, Operator, SqlType, Value};
 use sqlite_items::{Boxed, Items};
 
 /// An operation on one operand.
@@ -16,11 +16,21 @@ pub enum UnaryWord {
     TrueTest,
     /// IS FALSE (6.39).
     FalseTest,
+    /// CHAR_LENGTH (6.28).
+    CharLength,
+    /// CAST (6.13).
+    Cast(SqlType),
+    /// The value that a target of the type takes (9.2).
+    Assign(SqlType),
 }
 
 /// An operation on a list of operands.
 #[derive(Clone, Copy, Debug, PartialEq, Eq)]
 pub enum ListWord {
+    /// MOD (6.28): the dividend and the divisor.
+    Modulo,
+    /// SUBSTRING (6.32): the text, the place, and perhaps the length.
+    Substring,
     /// The first among the others: `x IN (a, b)` (8.4).
     AnyOf,
     /// AND, up to the first operand that is false (6.39).

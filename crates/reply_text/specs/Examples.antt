@@ -1,7 +1,9 @@
 -- Worked rows of the definitions on replies.
-use Rattle.std.specs.Prelude.{◌≡◌, true, false, [], ◌∷◌, Some, None, codes, refl}
+use Rattle.std.specs.Prelude.{◌≡◌, true, false, [], ◌∷◌, ◌++◌, Some, None, codes, refl}
 use Rattle.std.specs.Fmt.{digits}
-use Rattle.sql_values.specs.declared.value.Value.TheVariants.{Null, Bool}
+use lib.Utf8.{encode}
+use Rattle.csv.specs.Writing.{fields_text, escaped, is_blank}
+use Rattle.sql_values.specs.declared.value.Value.TheVariants.{Null, Str, Bool}
 use Rattle.sql_conditions.specs.declared.condition.EngineCondition.TheVariants.{DivisionByZero}
 use Rattle.sql_conditions.specs.Conditions.{own, area_of}
 use Rattle.name_faults.specs.declared.fault.FaultKind.TheVariants.{UnknownName}
@@ -12,7 +14,7 @@ pub no_row : rows_text [] ≡ codes "02000 rows 0\n"
 no_row = refl
 
 pub two_rows : rows_text ((Null ∷ []) ∷ (Bool true ∷ Bool false ∷ Null ∷ []) ∷ []) ≡ codes "NULL\nTRUE,FALSE,NULL\n00000 rows 2\n"
-unfolding digits
+unfolding digits fields_text escaped is_blank
 two_rows = refl
 
 pub done : done_text [] None ≡ codes "00000\n"
@@ -23,7 +25,18 @@ unfolding digits
 stored = refl
 
 pub handed_out : done_text (Null ∷ Bool true ∷ []) None ≡ codes "NULL,TRUE\n00000\n"
+unfolding fields_text escaped is_blank
 handed_out = refl
+
+-- 'a''b', "'a,b'", '' and a text with LF
+pub texts : done_text (Str (codes "a'b") ∷ Str (codes "a,b") ∷ Str [] ∷ Str (codes "a\nb") ∷ []) None ≡ codes "'a''b',\"'a,b'\",'',\"'a\nb'\"\n00000\n"
+unfolding fields_text escaped is_blank encode
+texts = refl
+
+-- a double quote, and a character of two bytes
+pub other_texts : done_text (Str (codes "\"") ∷ Str (233 ∷ []) ∷ []) None ≡ codes "\"'\"\"'\"," ++ (39 ∷ 195 ∷ 169 ∷ 39 ∷ []) ++ codes "\n00000\n"
+unfolding fields_text escaped is_blank encode
+other_texts = refl
 
 pub one_condition : area_text (area_of DivisionByZero) ≡ codes "! 22012 division by zero\n"
 one_condition = refl

@@ -1,9 +1,12 @@
 -- The text of replies. Each line ends in LF. States are those of ISO/IEC 9075-2, 24.1 (SQLSTATE).
-use Rattle.std.specs.Prelude.{ℕ, Bool, true, false, List, [], ◌∷◌, ◌++◌, length, codes, decimal, ◌==◌, if◌then◌else◌, Option, Some, None}
+use Rattle.std.specs.Prelude.{ℕ, Bool, true, false, List, [], ◌∷◌, ◌++◌, map, length, codes, decimal, ◌==◌, if◌then◌else◌, Option, Some, None}
 use Rattle.std.specs.List.{flat_map}
 use Rattle.std.specs.Fmt.{signed_decimal}
+use Rattle.std.specs.Str.{encode_utf8_all}
+use Rattle.csv.specs.declared.writer.WriterBuilder.{WriterBuilder}
+use Rattle.csv.specs.Writing.{default_writer, with_flexible, row_text}
 use Rattle.sql_values.specs.declared.value.Value.{Value}
-use Rattle.sql_values.specs.declared.value.Value.TheVariants.{Null, Int, Bool as Truth}
+use Rattle.sql_values.specs.declared.value.Value.TheVariants.{Null, Int, Str, Bool as Truth}
 use Rattle.sql_conditions.specs.Conditions.{Condition, Area}
 use Rattle.name_faults.specs.declared.fault.FaultKind.{FaultKind}
 use Rattle.name_faults.specs.declared.fault.FaultKind.TheVariants.{UnknownName, DuplicateName, TypeMismatch, WrongCount, NotPermitted, TooHigh}
@@ -14,23 +17,29 @@ abbrev pub truth_text : Bool → List ℕ
 truth_text true = codes "TRUE"
 truth_text false = codes "FALSE"
 
--- a field: a decimal integer, a truth value, or NULL
+-- each quote mark twice
+abbrev pub doubled : List ℕ → List ℕ
+doubled [] = []
+doubled (b ∷ bs) = if b == 39 then b ∷ b ∷ doubled bs else b ∷ doubled bs
+
+-- a text in UTF-8, in quote marks, those inside it doubled
+abbrev pub quoted : List ℕ → List ℕ
+quoted text = codes "'" ++ doubled (encode_utf8_all text) ++ codes "'"
+
+-- a field: a decimal integer, a text, a truth value, or NULL
 abbrev pub value_text : Value → List ℕ
 value_text Null = codes "NULL"
 value_text (Int n) = signed_decimal n
+value_text (Str text) = quoted text
 value_text (Truth p) = truth_text p
 
--- a field that comes after another
-abbrev pub next_field : Value → List ℕ
-next_field v = codes "," ++ value_text v
+-- Records are those of csv: fields separated by commas, in double quotes where one has a comma, a double quote, CR or LF, and LF last. Records of
+-- one reply may differ in length.
+abbrev pub record_writer : WriterBuilder
+record_writer = with_flexible default_writer true
 
-abbrev pub fields_text : List Value → List ℕ
-fields_text [] = []
-fields_text (v ∷ vs) = value_text v ++ flat_map next_field vs
-
--- a record: its fields, separated by commas
 abbrev pub record_text : List Value → List ℕ
-record_text values = fields_text values ++ codes "\n"
+record_text values = row_text record_writer (map value_text values)
 
 -- how many rows there were; none is the condition of no data
 abbrev pub count_text : ℕ → List ℕ

@@ -1,7 +1,6 @@
 //! Bytes and numbers, written after a text.
 
 ghost use Rattle.std.specs.Prelude.{◌≡◌, ◌++◌, OnOk, decimal};
-ghost use Rattle.std.specs.Fmt.{signed_decimal};
 
 use itoa::Buffer;
 use sql_values::NoMemory;
@@ -20,12 +19,4 @@ pub(crate) fn put_count(text: &mut Vec<u8>, count: u64) -> Result<(), NoMemory>
 {
     let mut buffer = Buffer::new();
     put(text, buffer.format(count).as_bytes())
-}
-
-/// Writes a number, with a sign where it is below zero.
-pub(crate) fn put_number(text: &mut Vec<u8>, number: i64) -> Result<(), NoMemory>
-    ensures { OnOk result (text.new.items ≡ text.old.items ++ signed_decimal number) }
-{
-    let mut buffer = Buffer::new();
-    put(text, buffer.format(number).as_bytes())
 }

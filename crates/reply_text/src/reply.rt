@@ -3,10 +3,12 @@
 ghost use Rattle.std.specs.Prelude.{◌≡◌, ◌≤◌, ◌+◌, [], ◌++◌, length, IfOk, OnOk};
 ghost use Rattle.std.specs.List.{flat_map};
 ghost use Rattle.row_types.specs.Cells.{row_end, with_values, value_rows};
+ghost use Rattle.reply_text.specs.Writers.{written, IsBetween};
 ghost use Rattle.reply_text.specs.Texts.{record_text, count_text, rows_text, values_text, end_text, done_text};
 
 use crate::put::{put, put_count};
-use crate::record::put_record;
+use crate::record::{put_values, record_writer, write_record, written_text};
+use csv::{ByteRecord, Writer};
 use row_types::{PlanRow, RowEnd, RowList, Steps};
 use sql_values::{NoMemory, Value};
 use std::alloc::Global;
@@ -55,33 +57,44 @@ fn put_total(text: &mut Vec<u8>, count: u64) -> Result<(), NoMemory>
     put(text, b"\n")
 }
 
-// Writes the record of a row that has values.
-fn put_row(text: &mut Vec<u8>, alloc: Global, row: PlanRow) -> Result<(), NoMemory>
-    ensures { OnOk result (text.new.items ≡ text.old.items ++ flat_map record_text (with_values (row_end row) [])) }
+// Writes the record of a row that has values, in the memory of `fields`.
+fn write_row(
+    writer: &mut Writer<Vec<u8>>,
+    fields: &mut ByteRecord,
+    alloc: Global,
+    row: PlanRow,
+) -> Result<(), NoMemory>
+    requires { IsBetween writer.old }
+    ensures between { OnOk result (IsBetween writer.new) }
+    ensures text { OnOk result (written writer.new ≡ written writer.old ++ flat_map record_text (with_values (row_end row) [])) }
 {
     match row.into_end(alloc)? {
-        RowEnd::Values(values) => put_record(text, values.as_slice()),
+        RowEnd::Values(values) => {
+            put_values(fields, alloc, values.as_slice())?;
+            write_record(writer, fields)
+        }
         RowEnd::Raised(_) => Ok(()),
     }
 }
 
-// Writes a record for each row.
-fn put_records<L: Ledger>(
-    text: &mut Vec<u8>,
+// The text of a record for each row.
+fn records_text<L: Ledger>(
     alloc: Global,
     rows: RowList,
     steps: &mut Steps<L>,
-) -> Result<(), NoMemory>
-    ensures text { OnOk result (text.new.items ≡ text.old.items ++ flat_map record_text (value_rows rows)) }
+) -> Result<Vec<u8>, NoMemory>
+    ensures text { IfOk result (λ text. text.items ≡ flat_map record_text (value_rows rows)) }
     ensures steps { steps.new ≤ steps.old + length rows }
 {
     let mut rows = rows;
+    let mut writer = record_writer(alloc);
+    let mut fields = ByteRecord::new(alloc);
     while rows.len() > 0 {
         if let Some(row) = rows.take_first(steps) {
-            put_row(text, alloc, row)?;
+            write_row(&mut writer, &mut fields, alloc, row)?;
         }
     }
-    Ok(())
+    written_text(writer)
 }
 
 /// The reply of a query whose rows all have values: a record for each of them, and how many there
@@ -95,21 +108,24 @@ pub fn rows_reply<L: Ledger>(
     ensures reply { IfOk result (λ r. r ≡ rows_text (value_rows rows)) }
     ensures steps { steps.new ≤ steps.old + length rows }
 {
-    let mut text = Vec::new(alloc);
     let total = rows.len() as u64;
-    put_records(&mut text, alloc, rows, steps)?;
+    let mut text = records_text(alloc, rows, steps)?;
     put_total(&mut text, total)?;
     Ok(Reply::of(text))
 }
 
-// Writes the values that a statement hands out.
-fn put_values(text: &mut Vec<u8>, values: &[Value]) -> Result<(), NoMemory>
-    ensures { OnOk result (text.new.items ≡ text.old.items ++ values_text values.now) }
+// The record of the values that a statement hands out, where there are any.
+fn handed_out(alloc: Global, values: &[Value]) -> Result<Vec<u8>, NoMemory>
+    ensures { IfOk result (λ text. text.items ≡ values_text values.now) }
 {
-    match values {
-        [_, ..] => put_record(text, values),
-        [] => Ok(()),
+    if values.is_empty() {
+        return Ok(Vec::new(alloc));
     }
+    let mut writer = record_writer(alloc);
+    let mut fields = ByteRecord::new(alloc);
+    put_values(&mut fields, alloc, values)?;
+    write_record(&mut writer, &fields)?;
+    written_text(writer)
 }
 
 // Writes the last line.
@@ -127,8 +143,7 @@ fn put_end(text: &mut Vec<u8>, rows: Option<u64>) -> Result<(), NoMemory>
 pub fn done_reply(alloc: Global, values: &[Value], rows: Option<u64>) -> Result<Reply, NoMemory>
     ensures { IfOk result (λ r. r ≡ done_text values.now rows) }
 {
-    let mut text = Vec::new(alloc);
-    put_values(&mut text, values)?;
+    let mut text = handed_out(alloc, values)?;
     put_end(&mut text, rows)?;
     Ok(Reply::of(text))
 }

@@ -19,39 +19,39 @@ module _ (name : List ℕ) (s : Stored) (ss : Tables) where
   place_here : bytes_eq s.name name ≡ true → place_named name (s ∷ ss) ≡ Some 0
   place_here e = ap (λ b. cond b (Some 0) (option_map suc (place_named name ss))) e
 
-  place_behind : bytes_eq s.name name ≡ false → place_named name (s ∷ ss) ≡ option_map suc (place_named name ss)
-  place_behind e = ap (λ b. cond b (Some 0) (option_map suc (place_named name ss))) e
+  place_after : bytes_eq s.name name ≡ false → place_named name (s ∷ ss) ≡ option_map suc (place_named name ss)
+  place_after e = ap (λ b. cond b (Some 0) (option_map suc (place_named name ss))) e
 
   table_here : bytes_eq s.name name ≡ true → table_named name (s ∷ ss) ≡ Some s.table
   table_here e = ap (λ b. cond b (Some s.table) (table_named name ss)) e
 
-  table_behind : bytes_eq s.name name ≡ false → table_named name (s ∷ ss) ≡ table_named name ss
-  table_behind e = ap (λ b. cond b (Some s.table) (table_named name ss)) e
+  table_after : bytes_eq s.name name ≡ false → table_named name (s ∷ ss) ≡ table_named name ss
+  table_after e = ap (λ b. cond b (Some s.table) (table_named name ss)) e
 
   less_here : bytes_eq s.name name ≡ true → without_table_named name (s ∷ ss) ≡ ss
   less_here e = ap (λ b. cond b ss (s ∷ without_table_named name ss)) e
 
-  less_behind : bytes_eq s.name name ≡ false → without_table_named name (s ∷ ss) ≡ s ∷ without_table_named name ss
-  less_behind e = ap (λ b. cond b ss (s ∷ without_table_named name ss)) e
+  less_after : bytes_eq s.name name ≡ false → without_table_named name (s ∷ ss) ≡ s ∷ without_table_named name ss
+  less_after e = ap (λ b. cond b ss (s ∷ without_table_named name ss)) e
 
   set_here : (t : Table) → bytes_eq s.name name ≡ true → with_table_named name t (s ∷ ss) ≡ record { name = s.name; table = t } ∷ ss
   set_here t e = ap (λ b. cond b (record { name = s.name; table = t } ∷ ss) (s ∷ with_table_named name t ss)) e
 
-  set_behind : (t : Table) → bytes_eq s.name name ≡ false → with_table_named name t (s ∷ ss) ≡ s ∷ with_table_named name t ss
-  set_behind t e = ap (λ b. cond b (record { name = s.name; table = t } ∷ ss) (s ∷ with_table_named name t ss)) e
+  set_after : (t : Table) → bytes_eq s.name name ≡ false → with_table_named name t (s ∷ ss) ≡ s ∷ with_table_named name t ss
+  set_after t e = ap (λ b. cond b (record { name = s.name; table = t } ∷ ss) (s ∷ with_table_named name t ss)) e
 
   rows_here : (rows : List Row) → bytes_eq s.name name ≡ true → with_rows_named name rows (s ∷ ss) ≡ record { name = s.name; table = with_rows rows s.table } ∷ ss
   rows_here rows e = ap (λ b. cond b (record { name = s.name; table = with_rows rows s.table } ∷ ss) (s ∷ with_rows_named name rows ss)) e
 
-  rows_behind : (rows : List Row) → bytes_eq s.name name ≡ false → with_rows_named name rows (s ∷ ss) ≡ s ∷ with_rows_named name rows ss
-  rows_behind rows e = ap (λ b. cond b (record { name = s.name; table = with_rows rows s.table } ∷ ss) (s ∷ with_rows_named name rows ss)) e
+  rows_after : (rows : List Row) → bytes_eq s.name name ≡ false → with_rows_named name rows (s ∷ ss) ≡ s ∷ with_rows_named name rows ss
+  rows_after rows e = ap (λ b. cond b (record { name = s.name; table = with_rows rows s.table } ∷ ss) (s ∷ with_rows_named name rows ss)) e
 
-  -- a name that stands behind stands one place further on
-  behind_some : (i : ℕ) → bytes_eq s.name name ≡ false → place_named name (s ∷ ss) ≡ Some i → (j : ℕ) × (place_named name ss ≡ Some j) × (i ≡ suc j)
-  behind_some i e h = some_past (place_named name ss) i (sym (place_behind e) ∙ h)
+  -- a name that stands further on stands one place further on
+  after_some : (i : ℕ) → bytes_eq s.name name ≡ false → place_named name (s ∷ ss) ≡ Some i → (j : ℕ) × (place_named name ss ≡ Some j) × (i ≡ suc j)
+  after_some i e h = some_past (place_named name ss) i (sym (place_after e) ∙ h)
 
-  behind_none : bytes_eq s.name name ≡ false → place_named name (s ∷ ss) ≡ None → place_named name ss ≡ None
-  behind_none e h = none_past (place_named name ss) (sym (place_behind e) ∙ h)
+  after_none : bytes_eq s.name name ≡ false → place_named name (s ∷ ss) ≡ None → place_named name ss ≡ None
+  after_none e h = none_past (place_named name ss) (sym (place_after e) ∙ h)
 
   here_first : (i : ℕ) → bytes_eq s.name name ≡ true → place_named name (s ∷ ss) ≡ Some i → 0 ≡ i
   here_first i e h = let z : Some 0 ≡ Some i = sym (place_here e) ∙ h in cc
@@ -65,14 +65,14 @@ pub place_named-within : (name : List ℕ) (ts : Tables) (i : ℕ) → place_nam
 place_named-within name [] i h = cc
 place_named-within name (s ∷ ss) i h = ⊎_elim
     (λ e. let at = here_first name s ss i e h in omega arith)
-    (λ e. let l = behind_some name s ss i e h in let w : l.0 < length ss = place_named-within name ss l.0 l.1 in let at = l.2 in omega arith)
+    (λ e. let l = after_some name s ss i e h in let w : l.0 < length ss = place_named-within name ss l.0 l.1 in let at = l.2 in omega arith)
     (cases_Bool (bytes_eq s.name name))
 
 pub table_named-at : (name : List ℕ) (ts : Tables) (i : ℕ) → place_named name ts ≡ Some i → table_named name ts ≡ Some (table_at ts i)
 table_named-at name [] i h = cc
 table_named-at name (s ∷ ss) i h = ⊎_elim
     (λ e. table_here name s ss e ∙ ap (λ j. Some (table_at (s ∷ ss) j)) (here_first name s ss i e h))
-    (λ e. let l = behind_some name s ss i e h in table_behind name s ss e ∙ table_named-at name ss l.0 l.1 ∙ ap (λ j. Some (table_at (s ∷ ss) j)) (sym l.2))
+    (λ e. let l = after_some name s ss i e h in table_after name s ss e ∙ table_named-at name ss l.0 l.1 ∙ ap (λ j. Some (table_at (s ∷ ss) j)) (sym l.2))
     (cases_Bool (bytes_eq s.name name))
 
 pub with_table_named-at : (name : List ℕ) (t : Table) (ts : Tables) (i : ℕ) → place_named name ts ≡ Some i → with_table_named name t ts ≡ with_table i t ts
@@ -80,8 +80,8 @@ with_table_named-at name t [] i h = cc
 with_table_named-at name t (s ∷ ss) i h = ⊎_elim
     (λ e. set_here name s ss t e ∙ ap (λ j. with_table j t (s ∷ ss)) (here_first name s ss i e h))
     (λ e.
-    let l = behind_some name s ss i e h in
-    set_behind name s ss t e ∙ ap (λ (xs : Tables). s ∷ xs) (with_table_named-at name t ss l.0 l.1) ∙ ap (λ j. with_table j t (s ∷ ss)) (sym l.2))
+    let l = after_some name s ss i e h in
+    set_after name s ss t e ∙ ap (λ (xs : Tables). s ∷ xs) (with_table_named-at name t ss l.0 l.1) ∙ ap (λ j. with_table j t (s ∷ ss)) (sym l.2))
     (cases_Bool (bytes_eq s.name name))
 
 pub with_rows_named-at : (name : List ℕ) (rows : List Row) (ts : Tables) (i : ℕ) → place_named name ts ≡ Some i → with_rows_named name rows ts ≡ with_rows_at i rows ts
@@ -89,8 +89,8 @@ with_rows_named-at name rows [] i h = cc
 with_rows_named-at name rows (s ∷ ss) i h = ⊎_elim
     (λ e. rows_here name s ss rows e ∙ ap (λ j. with_rows_at j rows (s ∷ ss)) (here_first name s ss i e h))
     (λ e.
-    let l = behind_some name s ss i e h in
-    rows_behind name s ss rows e ∙ ap (λ (xs : Tables). s ∷ xs) (with_rows_named-at name rows ss l.0 l.1) ∙ ap (λ j. with_rows_at j rows (s ∷ ss)) (sym l.2))
+    let l = after_some name s ss i e h in
+    rows_after name s ss rows e ∙ ap (λ (xs : Tables). s ∷ xs) (with_rows_named-at name rows ss l.0 l.1) ∙ ap (λ j. with_rows_at j rows (s ∷ ss)) (sym l.2))
     (cases_Bool (bytes_eq s.name name))
 
 pub without_table_named-at : (name : List ℕ) (ts : Tables) (i : ℕ) → place_named name ts ≡ Some i → without_table_named name ts ≡ remove ts i
@@ -98,8 +98,8 @@ without_table_named-at name [] i h = cc
 without_table_named-at name (s ∷ ss) i h = ⊎_elim
     (λ e. less_here name s ss e ∙ ap (remove (s ∷ ss)) (here_first name s ss i e h))
     (λ e.
-    let l = behind_some name s ss i e h in
-    less_behind name s ss e ∙ ap (λ (xs : Tables). s ∷ xs) (without_table_named-at name ss l.0 l.1) ∙ ap (remove (s ∷ ss)) (sym l.2))
+    let l = after_some name s ss i e h in
+    less_after name s ss e ∙ ap (λ (xs : Tables). s ∷ xs) (without_table_named-at name ss l.0 l.1) ∙ ap (remove (s ∷ ss)) (sym l.2))
     (cases_Bool (bytes_eq s.name name))
 
 -- ---- a name that stands nowhere
@@ -108,28 +108,28 @@ pub table_named-none : (name : List ℕ) (ts : Tables) → place_named name ts �
 table_named-none name [] h = refl
 table_named-none name (s ∷ ss) h = ⊎_elim
     (λ e. not_none name s ss e h)
-    (λ e. table_behind name s ss e ∙ table_named-none name ss (behind_none name s ss e h))
+    (λ e. table_after name s ss e ∙ table_named-none name ss (after_none name s ss e h))
     (cases_Bool (bytes_eq s.name name))
 
 pub with_table_named-none : (name : List ℕ) (t : Table) (ts : Tables) → place_named name ts ≡ None → with_table_named name t ts ≡ ts
 with_table_named-none name t [] h = refl
 with_table_named-none name t (s ∷ ss) h = ⊎_elim
     (λ e. not_none name s ss e h)
-    (λ e. set_behind name s ss t e ∙ ap (λ (xs : Tables). s ∷ xs) (with_table_named-none name t ss (behind_none name s ss e h)))
+    (λ e. set_after name s ss t e ∙ ap (λ (xs : Tables). s ∷ xs) (with_table_named-none name t ss (after_none name s ss e h)))
     (cases_Bool (bytes_eq s.name name))
 
 pub with_rows_named-none : (name : List ℕ) (rows : List Row) (ts : Tables) → place_named name ts ≡ None → with_rows_named name rows ts ≡ ts
 with_rows_named-none name rows [] h = refl
 with_rows_named-none name rows (s ∷ ss) h = ⊎_elim
     (λ e. not_none name s ss e h)
-    (λ e. rows_behind name s ss rows e ∙ ap (λ (xs : Tables). s ∷ xs) (with_rows_named-none name rows ss (behind_none name s ss e h)))
+    (λ e. rows_after name s ss rows e ∙ ap (λ (xs : Tables). s ∷ xs) (with_rows_named-none name rows ss (after_none name s ss e h)))
     (cases_Bool (bytes_eq s.name name))
 
 pub without_table_named-none : (name : List ℕ) (ts : Tables) → place_named name ts ≡ None → without_table_named name ts ≡ ts
 without_table_named-none name [] h = refl
 without_table_named-none name (s ∷ ss) h = ⊎_elim
     (λ e. not_none name s ss e h)
-    (λ e. less_behind name s ss e ∙ ap (λ (xs : Tables). s ∷ xs) (without_table_named-none name ss (behind_none name s ss e h)))
+    (λ e. less_after name s ss e ∙ ap (λ (xs : Tables). s ∷ xs) (without_table_named-none name ss (after_none name s ss e h)))
     (cases_Bool (bytes_eq s.name name))
 
 -- ---- names stay where a table is replaced

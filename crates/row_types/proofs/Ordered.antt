@@ -5,7 +5,7 @@ use Rattle.std.specs.Cmp.{IsTotalOrder}
 use Rattle.std.specs.Ordering.{match_ordering, ordering_reverse}
 use Rattle.std.proofs.lemmas.Cmp.{alike_right, tied_back}
 use Rattle.std.specs.List.{list_any, list_all}
-use Rattle.row_types.specs.Ordered.{is_below_first, rises, put, put_all, in_order, stands, first_repeat, first_repeat_behind, one_on, searched}
+use Rattle.row_types.specs.Ordered.{is_below_first, rises, put, put_all, in_order, stands, first_repeat, first_repeat_after, one_on, searched}
 use Rattle.std.proofs.lemmas.Bool.{and_parts, and_from, or_parts, or_from}
 use Rattle.std.proofs.lemmas.List.Folds.{list_all-append}
 use Rattle.std.proofs.Math.Bool.{or_assoc, or-false}
@@ -208,14 +208,14 @@ module _ {X : Type 0} (R : X → X → Ordering) (o : IsTotalOrder R) where
       put-past x y ys (ap is_lt (reversed y x Less (is_less (R y x) ((and_parts (is_lt (R y x)) (above_all x ys) h).0))))
       ∙ ap (λ (zs : List X). y ∷ zs) (put_last x ys ((and_parts (is_lt (R y x)) (above_all x ys) h).1))
 
-  -- in a list that rises, what stands behind is above all before
-  behind-above : (xs : List X) (x : X) (ys : List X) → rises R (xs ++ x ∷ ys) ≡ true → above_all x xs ≡ true
-  behind-above [] x ys h = refl
-  behind-above (z ∷ zs) x ys h =
+  -- in a list that rises, what stands after is above all before
+  after-above : (xs : List X) (x : X) (ys : List X) → rises R (xs ++ x ∷ ys) ≡ true → above_all x xs ≡ true
+  after-above [] x ys h = refl
+  after-above (z ∷ zs) x ys h =
       let b = sym (list_all-append (λ y. is_lt (R z y)) zs (x ∷ ys)) ∙ first-below z (zs ++ x ∷ ys) h in
       and_from (is_lt (R z x)) (above_all x zs)
       ((and_parts (is_lt (R z x)) (below_all z ys) ((and_parts (below_all z zs) (below_all z (x ∷ ys)) b).1)).0)
-      (behind-above zs x ys (tail-rises z (zs ++ x ∷ ys) h))
+      (after-above zs x ys (tail-rises z (zs ++ x ∷ ys) h))
 
   one_further : (xs : List X) (x : X) (ys : List X) → rises R (xs ++ x ∷ ys) ≡ true → rises R ((xs ++ x ∷ []) ++ ys) ≡ true
   one_further xs x ys h = ap (rises R) (append_assoc xs (x ∷ []) ys) ∙ h
@@ -223,34 +223,34 @@ module _ {X : Type 0} (R : X → X → Ordering) (o : IsTotalOrder R) where
   pub put_all-rises : (xs ys : List X) → rises R (xs ++ ys) ≡ true → put_all R xs ys ≡ xs ++ ys
   put_all-rises xs [] h = sym (append-nil xs)
   put_all-rises xs (y ∷ ys) h =
-      ap (λ (zs : List X). put_all R zs ys) (put_last y xs (behind-above xs y ys h))
+      ap (λ (zs : List X). put_all R zs ys) (put_last y xs (after-above xs y ys h))
       ∙ put_all-rises (xs ++ y ∷ []) ys (one_further xs y ys h) ∙ append_assoc xs (y ∷ []) ys
 
   pub in_order-rises : (xs : List X) → rises R xs ≡ true → in_order R xs ≡ xs
   in_order-rises xs h = put_all-rises [] xs h
 
-  -- old ones in order, and more behind them
+  -- old ones in order, and more after them
   pub in_order-append : (xs ys : List X) → rises R xs ≡ true → in_order R (xs ++ ys) ≡ put_all R xs ys
   in_order-append xs ys h = put_all-append [] xs ys ∙ ap (λ (zs : List X). put_all R zs ys) (in_order-rises xs h)
 
-  step_repeat : (seen : List X) (x : X) (xs : List X) → stands R x seen ≡ false → first_repeat_behind R seen (x ∷ xs) ≡ first_repeat_behind R (seen ++ x ∷ []) xs
-  step_repeat seen x xs h = ap (λ b. cond b (Some (length seen)) (first_repeat_behind R (seen ++ x ∷ []) xs)) h
+  step_repeat : (seen : List X) (x : X) (xs : List X) → stands R x seen ≡ false → first_repeat_after R seen (x ∷ xs) ≡ first_repeat_after R (seen ++ x ∷ []) xs
+  step_repeat seen x xs h = ap (λ b. cond b (Some (length seen)) (first_repeat_after R (seen ++ x ∷ []) xs)) h
 
-  pub repeat_none : (seen : List X) (x : X) (xs : List X) → stands R x seen ≡ false → first_repeat_behind R seen (x ∷ xs) ≡ first_repeat_behind R (seen ++ x ∷ []) xs
+  pub repeat_none : (seen : List X) (x : X) (xs : List X) → stands R x seen ≡ false → first_repeat_after R seen (x ∷ xs) ≡ first_repeat_after R (seen ++ x ∷ []) xs
   repeat_none seen x xs h = step_repeat seen x xs h
 
-  pub repeat_here : (seen : List X) (x : X) (xs : List X) → stands R x seen ≡ true → first_repeat_behind R seen (x ∷ xs) ≡ Some (length seen)
-  repeat_here seen x xs h = ap (λ b. cond b (Some (length seen)) (first_repeat_behind R (seen ++ x ∷ []) xs)) h
+  pub repeat_here : (seen : List X) (x : X) (xs : List X) → stands R x seen ≡ true → first_repeat_after R seen (x ∷ xs) ≡ Some (length seen)
+  repeat_here seen x xs h = ap (λ b. cond b (Some (length seen)) (first_repeat_after R (seen ++ x ∷ []) xs)) h
 
-  repeat_past : (seen xs ys : List X) → rises R (seen ++ xs) ≡ true → first_repeat_behind R seen (xs ++ ys) ≡ first_repeat_behind R (seen ++ xs) ys
-  repeat_past seen [] ys h = ap (λ (zs : List X). first_repeat_behind R zs ys) (sym (append-nil seen))
+  repeat_past : (seen xs ys : List X) → rises R (seen ++ xs) ≡ true → first_repeat_after R seen (xs ++ ys) ≡ first_repeat_after R (seen ++ xs) ys
+  repeat_past seen [] ys h = ap (λ (zs : List X). first_repeat_after R zs ys) (sym (append-nil seen))
   repeat_past seen (x ∷ xs) ys h =
-      step_repeat seen x (xs ++ ys) (not_tied_above x seen (behind-above seen x xs h))
+      step_repeat seen x (xs ++ ys) (not_tied_above x seen (after-above seen x xs h))
       ∙ repeat_past (seen ++ x ∷ []) xs ys (one_further seen x xs h)
-      ∙ ap (λ (zs : List X). first_repeat_behind R zs ys) (append_assoc seen (x ∷ []) xs)
+      ∙ ap (λ (zs : List X). first_repeat_after R zs ys) (append_assoc seen (x ∷ []) xs)
 
   -- among those that rise none ties with an earlier one
-  pub first_repeat-append : (xs ys : List X) → rises R xs ≡ true → first_repeat R (xs ++ ys) ≡ first_repeat_behind R xs ys
+  pub first_repeat-append : (xs ys : List X) → rises R xs ≡ true → first_repeat R (xs ++ ys) ≡ first_repeat_after R xs ys
   first_repeat-append xs ys h = repeat_past [] xs ys h
 
   pub first_repeat-rises : (xs : List X) → rises R xs ≡ true → first_repeat R xs ≡ None
@@ -382,7 +382,7 @@ module _ {X : Type 0} (R : X → X → Ordering) (o : IsTotalOrder R) where
       put_all-append [] xs (x ∷ ys) ∙ put_all-put x (in_order R xs) ys h ∙ ap (put R x) (sym (put_all-append [] xs ys))
 
   -- where all rise in the end, none ties with an earlier one
-  pub repeat_none-rises : (seen xs : List X) → rises R (put_all R (in_order R seen) xs) ≡ true → first_repeat_behind R seen xs ≡ None
+  pub repeat_none-rises : (seen xs : List X) → rises R (put_all R (in_order R seen) xs) ≡ true → first_repeat_after R seen xs ≡ None
   repeat_none-rises seen [] h = refl
   repeat_none-rises seen (x ∷ xs) h =
       let first = put_all-rises_first (put R x (in_order R seen)) xs h in
@@ -390,7 +390,7 @@ module _ {X : Type 0} (R : X → X → Ordering) (o : IsTotalOrder R) where
       step_repeat seen x xs s ∙ repeat_none-rises (seen ++ x ∷ []) xs (ap (λ (zs : List X). rises R (put_all R zs xs)) (put_all-append [] seen (x ∷ [])) ∙ h)
 
   -- and where none ties with an earlier one, all rise in the end
-  pub rises_from_none : (seen xs : List X) → rises R (in_order R seen) ≡ true → first_repeat_behind R seen xs ≡ None → rises R (put_all R (in_order R seen) xs) ≡ true
+  pub rises_from_none : (seen xs : List X) → rises R (in_order R seen) ≡ true → first_repeat_after R seen xs ≡ None → rises R (put_all R (in_order R seen) xs) ≡ true
   rises_from_none seen [] h n = h
   rises_from_none seen (x ∷ xs) h n = cases (stands R x seen)
       (λ t. let z : Some (length seen) ≡ None = sym (repeat_here seen x xs t) ∙ n in cc)

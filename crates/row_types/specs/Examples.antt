@@ -3,15 +3,15 @@
 use Rattle.std.specs.Prelude.{◌≡◌, pos, negsuc, true, false, List, [], ◌∷◌, Some, None, Ok, Err, codes}
 use Rattle.std.specs.declared.cmp.Ordering.TheVariants.{Less, Equal, Greater}
 use Rattle.std.proofs.Common.{refl}
-use Rattle.sql_values.specs.declared.value.Value.TheVariants.{Null, Int, Bool as Truth}
-use Rattle.sql_values.specs.declared.value.SqlType.TheVariants.{Integer}
+use Rattle.sql_values.specs.declared.value.Value.TheVariants.{Null, Int, Str, Bool as Truth}
+use Rattle.sql_values.specs.declared.value.SqlType.TheVariants.{Integer, Varchar, Boolean}
 use Rattle.row_types.specs.declared.ColumnType.{ColumnType}
 use Rattle.row_types.specs.Ordered.{in_order, first_repeat, searched, rises}
-use Rattle.row_types.specs.Rows.{Row, value_cmp, by_key, to_key, fits, has_key_columns, well_kept}
+use Rattle.row_types.specs.Rows.{Row, value_cmp, by_key, to_key, is_of, fits, has_key_columns, well_kept}
 use Rattle.row_types.specs.Tables.{Table, Tables, table_named, rows_named, with_rows_named, without_table_named, place_named, table_at, with_rows_at}
 use Rattle.row_types.specs.Writing.{refused_at, inserted}
 
--- ---- values: NULL, then truth values, then numbers
+-- ---- values: NULL, then truth values, then numbers, then texts
 
 null_first : value_cmp Null (Truth false) ≡ Less
 null_first = refl
@@ -24,6 +24,18 @@ truth_before_numbers = refl
 
 negative_first : value_cmp (Int (negsuc 0)) (Int (pos 0)) ≡ Less
 negative_first = refl
+
+numbers_before_texts : value_cmp (Str (codes "1")) (Int (pos 2)) ≡ Greater
+numbers_before_texts = refl
+
+first_difference_decides : value_cmp (Str (codes "b")) (Str (codes "aa")) ≡ Greater
+first_difference_decides = refl
+
+shorter_first : value_cmp (Str (codes "a")) (Str (codes "a ")) ≡ Less
+shorter_first = refl
+
+by_code_point : value_cmp (Str (codes "Z")) (Str (codes "a")) ≡ Less
+by_code_point = refl
 
 -- ---- keys: of one column, and of two, the second of them first
 
@@ -79,6 +91,43 @@ too_long = refl
 
 truth_value_in_integer : fits columns (0 ∷ []) (Int (pos 1) ∷ Truth true ∷ []) ≡ false
 truth_value_in_integer = refl
+
+-- ---- values of types
+
+text_within : is_of (Varchar 2) (Str (codes "ab")) ≡ true
+text_within = refl
+
+text_too_long : is_of (Varchar 2) (Str (codes "ab ")) ≡ false
+text_too_long = refl
+
+number_in_text : is_of (Varchar 2) (Int (pos 1)) ≡ false
+number_in_text = refl
+
+text_in_integer : is_of Integer (Str (codes "1")) ≡ false
+text_in_integer = refl
+
+number_in_boolean : is_of Boolean (Int (pos 1)) ≡ false
+number_in_boolean = refl
+
+null_of_each : is_of (Varchar 1) Null ≡ true
+null_of_each = refl
+
+-- ---- keys with texts
+
+abbrev ab_two : Row
+ab_two = Str (codes "ab") ∷ Int (pos 2) ∷ []
+
+abbrev b_one : Row
+b_one = Str (codes "b") ∷ Int (pos 1) ∷ []
+
+by_text : by_key (0 ∷ []) b_one ab_two ≡ Greater
+by_text = refl
+
+by_number_and_text : by_key (1 ∷ 0 ∷ []) b_one ab_two ≡ Less
+by_number_and_text = refl
+
+to_a_text_key : to_key (0 ∷ []) (Str (codes "a") ∷ []) ab_two ≡ Greater
+to_a_text_key = refl
 
 -- ---- rows in order
 

@@ -1,16 +1,15 @@
 -- Rows of values, their keys and the order of keys.
 -- ISO/IEC 9075-2, 4.14 (tables) and 8.2 (comparison predicate).
-use Rattle.std.specs.Prelude.{ℕ, ◌&&◌, Bool, true, false, not, List, [], ◌∷◌, map, slice_index_or, length, nat_lt}
+use Rattle.std.specs.Prelude.{ℕ, ◌&&◌, Bool, true, false, not, List, [], ◌∷◌, map, slice_index_or, length, nat_le, nat_lt}
 use Rattle.std.specs.List.{list_all}
-use Rattle.std.specs.Ordering.{int_cmp, bool_cmp}
+use Rattle.std.specs.Ordering.{int_cmp, bool_cmp, nat_cmp}
 use Rattle.std.specs.Cmp.Lexicographic.{slice_cmp}
 use Rattle.std.specs.declared.cmp.Ordering.{Ordering}
-use Rattle.std.specs.declared.cmp.Ordering.TheVariants.{Less, Equal, Greater}
 use Rattle.sql_values.specs.declared.value.Value.{Value}
-use Rattle.sql_values.specs.declared.value.Value.TheVariants.{Null, Int, Bool as Truth}
+use Rattle.sql_values.specs.declared.value.Value.TheVariants.{Null, Int, Str, Bool as Truth}
 use Rattle.sql_values.specs.declared.value.SqlType.{SqlType}
-use Rattle.sql_values.specs.declared.value.SqlType.TheVariants.{Integer}
-use Rattle.sql_values.specs.Values.{is_null}
+use Rattle.sql_values.specs.declared.value.SqlType.TheVariants.{Integer, Varchar, Boolean}
+use Rattle.sql_values.specs.Values.{is_null, text_cmp}
 use Rattle.row_types.specs.declared.ColumnType.{ColumnType}
 use Rattle.row_types.specs.Ordered.{rises}
 
@@ -18,17 +17,19 @@ use Rattle.row_types.specs.Ordered.{rises}
 abbrev pub Row : Type 0
 Row = List Value
 
--- All values in one order: NULL, then truth values, then numbers. No key has NULL.
+-- which kinds of values come first: NULL, then truth values, then numbers, then texts
+abbrev pub rank : Value → ℕ
+rank Null = 0
+rank (Truth p) = 1
+rank (Int n) = 2
+rank (Str s) = 3
+
+-- All values in one order: those of one kind in the order of the kind, and others by their kinds. No key has NULL.
 abbrev pub value_cmp : Value → Value → Ordering
-value_cmp Null Null = Equal
-value_cmp Null (Truth q) = Less
-value_cmp Null (Int n) = Less
-value_cmp (Truth p) Null = Greater
 value_cmp (Truth p) (Truth q) = bool_cmp p q
-value_cmp (Truth p) (Int n) = Less
-value_cmp (Int m) Null = Greater
-value_cmp (Int m) (Truth q) = Greater
 value_cmp (Int m) (Int n) = int_cmp m n
+value_cmp (Str s) (Str t) = text_cmp s t
+value_cmp a b = nat_cmp (rank a) (rank b)
 
 -- the values at the places of the key columns
 abbrev pub key_of : List ℕ → Row → List Value
@@ -42,11 +43,13 @@ by_key key a b = slice_cmp value_cmp (key_of key a) (key_of key b)
 abbrev pub to_key : List ℕ → List Value → Row → Ordering
 to_key key sought row = slice_cmp value_cmp (key_of key row) sought
 
--- the value is one of the type; NULL is one of each
+-- the value is one of the type, a text where it is not too long; NULL is one of each
 abbrev pub is_of : SqlType → Value → Bool
-is_of Integer Null = true
+is_of t Null = true
 is_of Integer (Int n) = true
-is_of Integer (Truth p) = false
+is_of (Varchar most) (Str s) = nat_le (length s) most
+is_of Boolean (Truth p) = true
+is_of t v = false
 
 -- a column takes the value
 abbrev pub takes : ColumnType → Value → Bool

@@ -2,7 +2,6 @@
 
 ghost use Rattle.std.specs.Prelude.{◌≡◌, IfOk};
 
-use crate::row::copied_value;
 use sql_conditions::Area;
 use sql_values::{NoMemory, Value};
 use sqlite_items::Boxed;
@@ -31,7 +30,7 @@ pub fn copied_cell(alloc: Global, cell: &Cell) -> Result<Cell, NoMemory>
     ensures { IfOk result (λ c. c ≡ cell.now) }
 {
     match cell {
-        Cell::Val(value) => Ok(Cell::Val(copied_value(value)?)),
+        Cell::Val(value) => Ok(Cell::Val(value.copied()?)),
         Cell::Cond(area) => Ok(Cell::Cond(copied_area(alloc, area.get())?)),
     }
 }

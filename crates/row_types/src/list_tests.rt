@@ -87,6 +87,7 @@ fn rows_come_in_order(rt: HostRuntime) -> Result<(), Fail> {
     let told_by = read_branded(rt.alloc()).ok().ok_or("no memory")?;
     assert!(rt; told_by.as_slice() == [100, 7, -1, -1, 50].as_slice());
     assert!(rt; matches!(column(rt.alloc()), Ok(Cell::Val(Value::Int(3)))));
+    assert!(rt; size_of::<Value>() <= 16);
     assert!(rt; size_of::<Cell>() <= 32);
     Ok(())
 }

@@ -2,26 +2,54 @@
 
 ghost use Rattle.std.specs.Prelude.{◌≡◌, length, slice_index_or};
 ghost use Rattle.sql_values.specs.declared.value.Value.TheVariants.{Null};
-ghost use Rattle.row_types.specs.Rows.{value_cmp, by_key, to_key};
+ghost use Rattle.row_types.specs.Rows.{rank as rank_by, value_cmp, by_key, to_key};
 
 use crate::row::Row;
 use sql_values::Value;
 use std::cmp::Ordering;
 
-/// The order of two values: NULL, then truth values, then numbers.
+// Which kinds of values come first: NULL, then truth values, then numbers, then texts.
+fn rank(value: &Value) -> u8
+    ensures { result ≡ rank_by value.now }
+{
+    match value {
+        Value::Null => 0,
+        Value::Bool(_) => 1,
+        Value::Int(_) => 2,
+        Value::Str(_) => 3,
+    }
+}
+
+/// The order of two values: NULL, then truth values, then numbers, then texts; those of one kind in
+/// the order of the kind (ISO/IEC 9075-2, 8.2).
 pub fn order_of(a: &Value, b: &Value) -> Ordering
     ensures { result ≡ value_cmp a.now b.now }
 {
     match (a, b) {
-        (Value::Null, Value::Null) => Ordering::Equal,
-        (Value::Null, Value::Bool(_)) => Ordering::Less,
-        (Value::Null, Value::Int(_)) => Ordering::Less,
-        (Value::Bool(_), Value::Null) => Ordering::Greater,
-        (Value::Bool(p), Value::Bool(q)) => p.cmp(q),
-        (Value::Bool(_), Value::Int(_)) => Ordering::Less,
-        (Value::Int(_), Value::Null) => Ordering::Greater,
-        (Value::Int(_), Value::Bool(_)) => Ordering::Greater,
         (Value::Int(x), Value::Int(y)) => x.cmp(y),
+        (Value::Str(s), Value::Str(t)) => s.order(t),
+        (Value::Bool(p), Value::Bool(q)) => p.cmp(q),
+        _ => rank(a).cmp(&rank(b)),
+    }
+}
+
+// How a value stands to NULL.
+fn order_to_null(value: &Value) -> Ordering
+    ensures { result ≡ value_cmp value.now Null }
+{
+    match value {
+        Value::Null => Ordering::Equal,
+        _ => Ordering::Greater,
+    }
+}
+
+// How NULL stands to a value.
+fn order_of_null(value: &Value) -> Ordering
+    ensures { result ≡ value_cmp Null value.now }
+{
+    match value {
+        Value::Null => Ordering::Equal,
+        _ => Ordering::Less,
     }
 }
 
@@ -29,11 +57,10 @@ pub fn order_of(a: &Value, b: &Value) -> Ordering
 fn order_at(a: &Row, b: &Row, place: usize) -> Ordering
     ensures { result ≡ value_cmp (slice_index_or a.now place Null) (slice_index_or b.now place Null) }
 {
-    let null = Value::Null;
     match (a.get(place), b.get(place)) {
         (Some(x), Some(y)) => order_of(x, y),
-        (Some(x), None) => order_of(x, &null),
-        (None, Some(y)) => order_of(&null, y),
+        (Some(x), None) => order_to_null(x),
+        (None, Some(y)) => order_of_null(y),
         (None, None) => Ordering::Equal,
     }
 }
@@ -55,10 +82,9 @@ pub fn order_by_key(a: &Row, b: &Row, key: &[usize]) -> Ordering
 fn order_to(row: &Row, place: usize, value: &Value) -> Ordering
     ensures { result ≡ value_cmp (slice_index_or row.now place Null) value.now }
 {
-    let null = Value::Null;
     match row.get(place) {
         Some(x) => order_of(x, value),
-        None => order_of(&null, value),
+        None => order_of_null(value),
     }
 }
 

@@ -7,7 +7,7 @@ ghost use Rattle.row_types.specs.Cells.{Whole, Poisoned, area_in, row_area, row_
 ghost use Rattle.row_types.specs.Forms.{end_of};
 
 use crate::cell::{Cell, copied_area};
-use crate::row::{Row, copied_value};
+use crate::row::Row;
 use crate::row_in_sight::RowInSight;
 use sql_conditions::Area;
 use sql_values::NoMemory;
@@ -136,7 +136,7 @@ fn end_of_cells(alloc: Global, cells: &[Cell]) -> Result<RowEnd, NoMemory>
     let mut values = Items::from_vec(Vec::with_capacity(alloc, cells.len())?);
     for cell in cells {
         match cell {
-            Cell::Val(value) => values.push(copied_value(value)?)?,
+            Cell::Val(value) => values.push(value.copied()?)?,
             Cell::Cond(area) => return Ok(RowEnd::Raised(copied_area(alloc, area.get())?)),
         }
     }

@@ -14,15 +14,11 @@ use std::alloc::Global;
 /// A row: a value for each column of its table, in the table's order.
 pub type Row = Items<Value>;
 
-/// The same value once more.
+/// The same value once more; a text shares its characters.
 pub fn copied_value(value: &Value) -> Result<Value, NoMemory>
     ensures { IfOk result (λ v. v ≡ value.now) }
 {
-    match value {
-        Value::Null => Ok(Value::Null),
-        Value::Bool(truth) => Ok(Value::Bool(*truth)),
-        Value::Int(number) => Ok(Value::Int(*number)),
-    }
+    value.copied()
 }
 
 /// The same row once more.
@@ -31,19 +27,21 @@ pub fn copied_row(alloc: Global, row: &Row) -> Result<Row, NoMemory>
 {
     let mut copy = Items::new(alloc);
     for value in row.as_slice() {
-        copy.push(copied_value(value)?)?;
+        copy.push(value.copied()?)?;
     }
     Ok(copy)
 }
 
-// Whether a value is one of a type; NULL is one of each.
+// Whether a value is one of a type, a text where it is not too long; NULL is one of each.
 fn is_of(data_type: SqlType, value: &Value) -> bool
     ensures { result ≡ is_of_by data_type value.now }
 {
     match (data_type, value) {
-        (SqlType::Integer, Value::Null) => true,
+        (_, Value::Null) => true,
         (SqlType::Integer, Value::Int(_)) => true,
-        (SqlType::Integer, Value::Bool(_)) => false,
+        (SqlType::Varchar(most), Value::Str(text)) => text.len() <= most,
+        (SqlType::Boolean, Value::Bool(_)) => true,
+        _ => false,
     }
 }
 
@@ -53,8 +51,7 @@ fn is_null(value: &Value) -> bool
 {
     match value {
         Value::Null => true,
-        Value::Int(_) => false,
-        Value::Bool(_) => false,
+        _ => false,
     }
 }
 

@@ -6,7 +6,6 @@ ghost use Rattle.row_types.specs.Cells.{cell_at, row_of_level};
 ghost use Rattle.row_types.specs.OuterRows.{outer_rows};
 
 use crate::cell::{Cell, copied_cell};
-use crate::row::copied_value;
 use sql_values::{NoMemory, Value};
 use std::alloc::Global;
 use std::marker::Model;
@@ -64,7 +63,7 @@ impl<'a> RowInSight<'a> {
     {
         let values = self.values;
         if place < values.len() {
-            Ok(Cell::Val(copied_value(&values[place])?))
+            Ok(Cell::Val(values[place].copied()?))
         } else {
             later_cell(alloc, self.cells, place - values.len())
         }

@@ -1,8 +1,8 @@
 -- What evaluating several scalars tells.
 use Rattle.std.specs.Prelude.{List, Ok, Err}
 use Rattle.sql_values.specs.declared.value.Value.{Value}
-use Rattle.scalar_eval.specs.declared.scalars.Told.{Told}
-use Rattle.scalar_eval.specs.declared.scalars.Told.TheVariants.{Values, Raised}
+use Rattle.scalar_eval.specs.declared.cells.Told.{Told}
+use Rattle.scalar_eval.specs.declared.cells.Told.TheVariants.{Values, Raised}
 use Rattle.rel_algebra.specs.Endings.{Ending}
 
 -- values, or the area that was raised

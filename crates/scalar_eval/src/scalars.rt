@@ -1,28 +1,31 @@
 //! Scalars, read on a row.
 
 ghost use Rattle.std.specs.Prelude.{◌≡◌, [], ◌∷◌, IfOk, true, false, map};
-ghost use Rattle.sql_values.specs.declared.value.Value.TheVariants.{Bool as Truth};
+ghost use Rattle.sql_values.specs.declared.value.Value.TheVariants.{Bool as TruthValue};
 ghost use Rattle.row_types.specs.Cells.{row_cells};
 ghost use Rattle.row_types.specs.OuterRows.{outer_rows};
-ghost use Rattle.rel_algebra.specs.Tree.{AnyOf, Arithmetic};
+ghost use Rattle.rel_algebra.specs.Tree.{Arithmetic};
 ghost use Rattle.rel_algebra.specs.Endings.{op_value};
-ghost use Rattle.rel_algebra.specs.Plan.{cell_of, cells_of, strictly, values_of as values_by, and_cell, or_cell, case_cell, coalesce_cell};
-ghost use Rattle.rel_algebra.specs.PlanView.{scalar_of, scalars_of, chained, link_of};
+ghost use Rattle.rel_algebra.specs.Plan.{cell_of, cells_of, strictly, values_of as values_by, and_cell, or_cell, case_cell, coalesce_cell, word_cell};
+ghost use Rattle.rel_algebra.specs.PlanView.{scalar_of, scalars_of, chained, link_of, unary_operation, list_word};
 ghost use Rattle.scalar_eval.specs.Sights.{sight_of, chained_cell, is_null_cell as is_null_by};
 ghost use Rattle.scalar_eval.specs.Told.{told_of};
 
 use crate::cells::{
-    among, arithmetic_cell, compared_cell, is_false, is_null, is_true, outcome_cell, unary_cell,
+    Told, any_of, arithmetic_cell, compared_cell, is_true, outcome_cell, part, remainder,
+    unary_cell,
 };
-use crate::places::{applied_in_place, argument, column, value_in_place};
-use rel_algebra::{ListWord, Scalar, ScalarLink};
-use row_types::{Cell, Outer, PlanRow, RowInSight, Steps, copied_value};
+use crate::places::{
+    among_in_place, applied_in_place, argument, column, compared_in_place, unary_in_place,
+    value_in_place,
+};
+use rel_algebra::{ListWord, Scalar, ScalarLink, UnaryWord};
+use row_types::{Cell, Outer, PlanRow, RowInSight, Steps};
 use smallvec::SmallVec;
-use sql_conditions::Area;
 use sql_values::{NoMemory, Value};
-use sqlite_items::Boxed;
 use std::alloc::Global;
 use std::sync::ledger::Ledger;
+use three_valued::Truth;
 
 /// The cell of a scalar on a row, under the rows outside it, the innermost first, and the arguments:
 /// its value, or the area that it raises, which stands in the cell. Where a column, an outer column
@@ -53,7 +56,7 @@ pub fn eval_on(
     ensures { IfOk result (λ c. c ≡ cell_of (scalar_of scalar.now) (sight_of row.now (outer_rows outer.now) args.now)) }
 {
     match value_in_place(scalar, row, args) {
-        Some(value) => Ok(Cell::Val(copied_value(value)?)),
+        Some(value) => Ok(Cell::Val(value.copied()?)),
         None => eval_any(alloc, scalar, row, outer, args),
     }
 }
@@ -70,14 +73,20 @@ fn eval_any(
     ensures { IfOk result (λ c. c ≡ cell_of (scalar_of scalar.now) (sight_of row.now (outer_rows outer.now) args.now)) }
 {
     match scalar {
-        Scalar::Constant(value) => Ok(Cell::Val(copied_value(value)?)),
+        Scalar::Constant(value) => Ok(Cell::Val(value.copied()?)),
         Scalar::Column(level, place) => column(alloc, row, outer, *level, *place),
         Scalar::Argument(place) => Ok(Cell::Val(argument(args, *place)?)),
-        Scalar::Unary(word, operand) => {
-            let cell = eval_any(alloc, operand.get(), row, outer, args)?;
-            unary_cell(alloc, *word, cell)
-        }
+        Scalar::Unary(word, operand) => unary(operand.get(), *word, alloc, row, outer, args),
         Scalar::Compare(comparison, left, right) => {
+            if let Some(value) = compared_in_place(
+                *comparison,
+                left.get(),
+                right.get(),
+                row,
+                args,
+            ) {
+                return Ok(Cell::Val(value));
+            }
             let a = eval_any(alloc, left.get(), row, outer, args)?;
             let b = eval_any(alloc, right.get(), row, outer, args)?;
             Ok(compared_cell(*comparison, a, b))
@@ -87,15 +96,53 @@ fn eval_any(
             eval_links(links.as_slice(), cell, alloc, row, outer, args)
         }
         Scalar::Listed(word, operands) => {
-            let operands = operands.as_slice();
-            match word {
-                ListWord::AnyOf => any_of(operands, alloc, row, outer, args),
-                ListWord::And => and(operands, alloc, row, outer, args),
-                ListWord::Or => or(operands, alloc, row, outer, args),
-                ListWord::Case => case(operands, alloc, row, outer, args),
-                ListWord::Coalesce => coalesce(operands, alloc, row, outer, args),
-            }
+            listed(operands.as_slice(), *word, alloc, row, outer, args)
         }
+    }
+}
+
+// An operation on one operand, which is read where it lies if it is a value there.
+#[cycle(eval)]
+fn unary(
+    operand: &Scalar,
+    word: UnaryWord,
+    alloc: Global,
+    row: &RowInSight,
+    outer: &Outer,
+    args: &[Value],
+) -> Result<Cell, NoMemory>
+    ensures { IfOk result (λ c. c ≡ strictly (op_value (unary_operation word)) (cell_of (scalar_of operand.now) (sight_of row.now (outer_rows outer.now) args.now) ∷ [])) }
+{
+    if let Some(outcome) = unary_in_place(alloc, word, operand, row, args) {
+        return outcome;
+    }
+    let cell = eval_any(alloc, operand, row, outer, args)?;
+    unary_cell(alloc, word, cell)
+}
+
+// An operation on a list of operands.
+#[cycle(eval)]
+fn listed(
+    operands: &[Scalar],
+    word: ListWord,
+    alloc: Global,
+    row: &RowInSight,
+    outer: &Outer,
+    args: &[Value],
+) -> Result<Cell, NoMemory>
+    ensures { IfOk result (λ c. c ≡ word_cell (list_word word) (cells_of (scalars_of operands.now) (sight_of row.now (outer_rows outer.now) args.now))) }
+{
+    match word {
+        ListWord::AnyOf => match among_in_place(operands, row, args) {
+            Some(value) => Ok(Cell::Val(value)),
+            None => Ok(any_of(eval_all(operands, alloc, row, outer, args)?)),
+        },
+        ListWord::Modulo => remainder(alloc, eval_all(operands, alloc, row, outer, args)?),
+        ListWord::Substring => part(alloc, eval_all(operands, alloc, row, outer, args)?),
+        ListWord::And => and(operands, alloc, row, outer, args),
+        ListWord::Or => or(operands, alloc, row, outer, args),
+        ListWord::Case => case(operands, alloc, row, outer, args),
+        ListWord::Coalesce => coalesce(operands, alloc, row, outer, args),
     }
 }
 
@@ -132,7 +179,7 @@ fn eval_link(
     ensures { IfOk result (λ c. c ≡ strictly (op_value (Arithmetic link.now.operator)) (left ∷ cell_of (scalar_of link.now.operand) (sight_of row.now (outer_rows outer.now) args.now) ∷ [])) }
 {
     if let Cell::Val(value) = &left {
-        if let Some(outcome) = applied_in_place(link, value, row, args) {
+        if let Some(outcome) = applied_in_place(alloc, link, value, row, args) {
             return outcome_cell(alloc, outcome);
         }
     }
@@ -140,13 +187,7 @@ fn eval_link(
     arithmetic_cell(alloc, link.operator, left, right)
 }
 
-// The values of scalars, or the first area among their cells.
-#[derive(Drop)]
-enum Told {
-    Values(SmallVec<Value, 4>),
-    Raised(Boxed<Area>),
-}
-
+// The values of scalars, from left to right.
 #[cycle(eval)]
 #[tactic(auto, using(crate::proofs::Ends::with_values_push, crate::proofs::Ends::with_values_ok, crate::proofs::Ends::with_values_err, std::proofs::lemmas::Grind::common_steps))]
 fn eval_all(
@@ -168,28 +209,9 @@ fn eval_all(
     Ok(Told::Values(values))
 }
 
-// The first among the others.
-#[cycle(eval)]
-fn any_of(
-    operands: &[Scalar],
-    alloc: Global,
-    row: &RowInSight,
-    outer: &Outer,
-    args: &[Value],
-) -> Result<Cell, NoMemory>
-    ensures { IfOk result (λ c. c ≡ strictly (op_value AnyOf) (cells_of (scalars_of operands.now) (sight_of row.now (outer_rows outer.now) args.now))) }
-{
-    match eval_all(operands, alloc, row, outer, args)? {
-        Told::Values(values) => match values.as_slice() {
-            [value, list @ ..] => Ok(Cell::Val(among(value, list))),
-            [] => Ok(Cell::Val(Value::Null)),
-        },
-        Told::Raised(area) => Ok(Cell::Cond(area)),
-    }
-}
-
 // AND, up to the first operand that is false.
 #[cycle(eval)]
+#[tactic(auto, using(crate::proofs::Connectives::and_decided, crate::proofs::Connectives::and_open, std::proofs::lemmas::Grind::common_steps))]
 fn and(
     operands: &[Scalar],
     alloc: Global,
@@ -197,27 +219,24 @@ fn and(
     outer: &Outer,
     args: &[Value],
 ) -> Result<Cell, NoMemory>
-    ensures { IfOk result (λ c. c ≡ and_cell (Truth true) (cells_of (scalars_of operands.now) (sight_of row.now (outer_rows outer.now) args.now))) }
+    ensures { IfOk result (λ c. c ≡ and_cell (TruthValue true) (cells_of (scalars_of operands.now) (sight_of row.now (outer_rows outer.now) args.now))) }
 {
-    let mut so_far = Value::Bool(true);
+    let mut so_far = Truth::True;
     for operand in operands {
         match eval_any(alloc, operand, row, outer, args)? {
-            Cell::Val(value) => {
-                if is_false(&value) {
-                    return Ok(Cell::Val(Value::Bool(false)));
-                }
-                if !is_true(&value) {
-                    so_far = Value::Null;
-                }
-            }
+            Cell::Val(value) => so_far = three_valued::and(so_far, Truth::of_value(&value)),
             Cell::Cond(area) => return Ok(Cell::Cond(area)),
         }
+        if let Truth::False = so_far {
+            return Ok(Cell::Val(Value::Bool(false)));
+        }
     }
-    Ok(Cell::Val(so_far))
+    Ok(Cell::Val(so_far.to_value()))
 }
 
 // OR, up to the first operand that is true.
 #[cycle(eval)]
+#[tactic(auto, using(crate::proofs::Connectives::or_decided, crate::proofs::Connectives::or_open, std::proofs::lemmas::Grind::common_steps))]
 fn or(
     operands: &[Scalar],
     alloc: Global,
@@ -225,23 +244,19 @@ fn or(
     outer: &Outer,
     args: &[Value],
 ) -> Result<Cell, NoMemory>
-    ensures { IfOk result (λ c. c ≡ or_cell (Truth false) (cells_of (scalars_of operands.now) (sight_of row.now (outer_rows outer.now) args.now))) }
+    ensures { IfOk result (λ c. c ≡ or_cell (TruthValue false) (cells_of (scalars_of operands.now) (sight_of row.now (outer_rows outer.now) args.now))) }
 {
-    let mut so_far = Value::Bool(false);
+    let mut so_far = Truth::False;
     for operand in operands {
         match eval_any(alloc, operand, row, outer, args)? {
-            Cell::Val(value) => {
-                if is_true(&value) {
-                    return Ok(Cell::Val(Value::Bool(true)));
-                }
-                if !is_false(&value) {
-                    so_far = Value::Null;
-                }
-            }
+            Cell::Val(value) => so_far = three_valued::or(so_far, Truth::of_value(&value)),
             Cell::Cond(area) => return Ok(Cell::Cond(area)),
         }
+        if let Truth::True = so_far {
+            return Ok(Cell::Val(Value::Bool(true)));
+        }
     }
-    Ok(Cell::Val(so_far))
+    Ok(Cell::Val(so_far.to_value()))
 }
 
 // Tests and results in turn, up to the first test that is true or raises, and perhaps a last result.
@@ -298,7 +313,7 @@ fn is_null_cell(cell: &Cell) -> bool
     ensures { result ≡ is_null_by cell.now }
 {
     match cell {
-        Cell::Val(value) => is_null(value),
+        Cell::Val(value) => value.is_null(),
         Cell::Cond(_) => false,
     }
 }

@@ -1,7 +1,7 @@
 -- Conditions and areas. ISO/IEC 9075-2, 24.1 (SQLSTATE) and 4.33 (diagnostics area); the texts are this engine's own.
 use Rattle.std.specs.Prelude.{ℕ, List, [], ◌∷◌, codes, take}
 use Rattle.sql_conditions.specs.declared.condition.EngineCondition.{EngineCondition}
-use Rattle.sql_conditions.specs.declared.condition.EngineCondition.TheVariants.{NumberOutOfRange, DivisionByZero, ConstraintViolated, RecursionTooDeep, SeveralRows}
+use Rattle.sql_conditions.specs.declared.condition.EngineCondition.TheVariants.{NumberOutOfRange, DivisionByZero, ConstraintViolated, RecursionTooDeep, SeveralRows, StringTooLong, SubstringError, InvalidTextForCast}
 
 -- a state and a message text
 pub record Condition : Type 0 where
@@ -14,6 +14,9 @@ state_of DivisionByZero = codes "22012"
 state_of ConstraintViolated = codes "23000"
 state_of RecursionTooDeep = codes "PS002"
 state_of SeveralRows = codes "21000"
+state_of StringTooLong = codes "22001"
+state_of SubstringError = codes "22011"
+state_of InvalidTextForCast = codes "22018"
 
 abbrev pub text_of : EngineCondition → List ℕ
 text_of NumberOutOfRange = codes "number out of range"
@@ -21,6 +24,9 @@ text_of DivisionByZero = codes "division by zero"
 text_of ConstraintViolated = codes "constraint violated"
 text_of RecursionTooDeep = codes "recursion too deep"
 text_of SeveralRows = codes "more than one row"
+text_of StringTooLong = codes "string too long"
+text_of SubstringError = codes "substring error"
+text_of InvalidTextForCast = codes "invalid text for cast"
 
 abbrev pub own : EngineCondition → Condition
 own c = record { state = state_of c; message = text_of c }

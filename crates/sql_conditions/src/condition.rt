@@ -19,6 +19,12 @@ pub enum EngineCondition {
     RecursionTooDeep,
     /// A query that is to give one row gives several.
     SeveralRows,
+    /// A text is longer than its type, or than a text may be.
+    StringTooLong,
+    /// The length of a substring is below zero.
+    SubstringError,
+    /// A text doesn't spell a value of the type that it is cast to.
+    InvalidTextForCast,
 }
 
 impl EngineCondition {
@@ -32,6 +38,9 @@ impl EngineCondition {
             EngineCondition::ConstraintViolated => "23000",
             EngineCondition::RecursionTooDeep => "PS002",
             EngineCondition::SeveralRows => "21000",
+            EngineCondition::StringTooLong => "22001",
+            EngineCondition::SubstringError => "22011",
+            EngineCondition::InvalidTextForCast => "22018",
         }
     }
 
@@ -45,6 +54,9 @@ impl EngineCondition {
             EngineCondition::ConstraintViolated => "constraint violated",
             EngineCondition::RecursionTooDeep => "recursion too deep",
             EngineCondition::SeveralRows => "more than one row",
+            EngineCondition::StringTooLong => "string too long",
+            EngineCondition::SubstringError => "substring error",
+            EngineCondition::InvalidTextForCast => "invalid text for cast",
         }
     }
 }

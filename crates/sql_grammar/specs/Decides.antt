@@ -4,9 +4,10 @@ use Rattle.std.specs.Prelude.{◌≡◌, true, false, refl, []}
 use Rattle.std.proofs.Common.{sym, ◌∙◌}
 use Rattle.token_grammar.specs.Grammar.{Grammar}
 use Rattle.token_grammar.specs.Reading.{decides, goes_on, nullable, same_kind}
-use Rattle.sql_grammar.specs.Trees.{Rule, Tree, Columns, Parameters, Arguments, RowValues, Bracketed, bracketed, ident, data_type}
-use Rattle.sql_grammar.specs.Expressions.{named, primary, unary_sign, if_sign, signed, factor_operator, factor, factors, term, addend_operator, addend, addends, expr, more_exprs, exprs, comparison, predicate}
-use Rattle.sql_grammar.specs.Queries.{conjuncts, conditions, from_item, from_items, from_clause, source, selection, select_word, select, row, more_rows, rows, values_word, values, query}
+use Rattle.sql_grammar.specs.declared.function_word.FunctionWord.TheVariants.{Coalesce, Modulo, CharLength, Substring, Cast}
+use Rattle.sql_grammar.specs.Trees.{Rule, Tree, Columns, Parameters, Length, Arguments, Exprs, Bracketed, Operands, Cases, bracketed, ident, varchar_length, plain_type, varchar, data_type}
+use Rattle.sql_grammar.specs.Expressions.{constant, literal, named, function_call, function, case_expression, primary, unary_sign, factor, operator, term, sum, comparison, compared, truth_test, asked, tested, in_word, among, predicate_part, predicate, not_word, negation, conjunction, expr, after, more_exprs, exprs, for_length, as_type, operands, when_clause, more_when_clauses, when_clauses, else_clause, arms, cases}
+use Rattle.sql_grammar.specs.Queries.{filter, from_item, from_items, from_clause, source, selection, select_word, select, row, more_rows, rows, values_word, values, query}
 use Rattle.sql_grammar.specs.Writing.{insert_source, insertion, into_table, insert_word, insert, dml}
 use Rattle.sql_grammar.specs.Definitions.{not_null, primary_key, column_constraint, constraints, column, more_columns, columns, parameter, more_parameters, parameters, table_definition, create_table, returns_type, return_value, body, function_definition, create_function, create_word, created, ddl}
 use Rattle.sql_grammar.specs.Sql.{unended, statement, rules, shut}
@@ -25,9 +26,16 @@ PartIsSound g = (is_sound shut false g ≡ true) × ((summary shut false g).null
 record AllAreSound : Type 0 where
   columns_rule : RuleIsSound Columns
   parameters_rule : RuleIsSound Parameters
+  length_rule : RuleIsSound Length
   arguments_rule : RuleIsSound Arguments
-  row_values_rule : RuleIsSound RowValues
+  exprs_rule : RuleIsSound Exprs
   bracketed_rule : RuleIsSound Bracketed
+  coalesce_rule : RuleIsSound (Operands Coalesce)
+  modulo_rule : RuleIsSound (Operands Modulo)
+  char_length_rule : RuleIsSound (Operands CharLength)
+  substring_rule : RuleIsSound (Operands Substring)
+  cast_rule : RuleIsSound (Operands Cast)
+  cases_rule : RuleIsSound Cases
   statement_part : PartIsSound statement
   query_part : PartIsSound query
   dml_part : PartIsSound dml
@@ -36,13 +44,20 @@ record AllAreSound : Type 0 where
   statement_end : (summary shut false statement).goes_on ≡ []
 
 all_are_sound : AllAreSound
-unfolding same_kind bracketed ident data_type named primary unary_sign if_sign signed factor_operator factor factors term addend_operator addend addends expr more_exprs exprs comparison predicate conjuncts conditions from_item from_items from_clause source selection select_word select row more_rows rows values_word values query insert_source insertion into_table insert_word insert dml not_null primary_key column_constraint constraints column more_columns columns parameter more_parameters parameters table_definition create_table returns_type return_value body function_definition create_function create_word created ddl unended statement
+unfolding same_kind bracketed ident varchar_length plain_type varchar data_type constant literal named function_call function case_expression primary unary_sign factor operator term sum comparison compared truth_test asked tested in_word among predicate_part predicate not_word negation conjunction expr after more_exprs exprs for_length as_type operands when_clause more_when_clauses when_clauses else_clause arms cases filter from_item from_items from_clause source selection select_word select row more_rows rows values_word values query insert_source insertion into_table insert_word insert dml not_null primary_key column_constraint constraints column more_columns columns parameter more_parameters parameters table_definition create_table returns_type return_value body function_definition create_function create_word created ddl unended statement
 all_are_sound = record {
   columns_rule = refl;
   parameters_rule = refl;
+  length_rule = refl;
   arguments_rule = refl;
-  row_values_rule = refl;
+  exprs_rule = refl;
   bracketed_rule = refl;
+  coalesce_rule = refl;
+  modulo_rule = refl;
+  char_length_rule = refl;
+  substring_rule = refl;
+  cast_rule = refl;
+  cases_rule = refl;
   statement_part = (refl, refl, refl);
   query_part = (refl, refl, refl);
   dml_part = (refl, refl, refl);
@@ -53,9 +68,16 @@ all_are_sound = record {
 pub rules_sound : (r : Rule) → rule_sound shut rules r ≡ true
 rules_sound Columns = all_are_sound.columns_rule
 rules_sound Parameters = all_are_sound.parameters_rule
+rules_sound Length = all_are_sound.length_rule
 rules_sound Arguments = all_are_sound.arguments_rule
-rules_sound RowValues = all_are_sound.row_values_rule
+rules_sound Exprs = all_are_sound.exprs_rule
 rules_sound Bracketed = all_are_sound.bracketed_rule
+rules_sound (Operands Coalesce) = all_are_sound.coalesce_rule
+rules_sound (Operands Modulo) = all_are_sound.modulo_rule
+rules_sound (Operands CharLength) = all_are_sound.char_length_rule
+rules_sound (Operands Substring) = all_are_sound.substring_rule
+rules_sound (Operands Cast) = all_are_sound.cast_rule
+rules_sound Cases = all_are_sound.cases_rule
 
 pub all_decide : (r : Rule) → decides rules (rules r) ≡ true
 all_decide = decide_all shut rules rules_sound

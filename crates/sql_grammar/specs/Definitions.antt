@@ -1,6 +1,7 @@
 -- Definitions: ISO/IEC 9075-2, 11.3 and 11.4 (CREATE TABLE, its columns and constraints), and
 -- ISO/IEC 9075-4, 9.20 (CREATE FUNCTION).
 use Rattle.std.specs.Prelude.{List, ◌∷◌}
+use Rattle.sql_lex.specs.declared.token.Kind.TheVariants as kind
 use Rattle.sql_lex.specs.declared.word.Word.TheVariants as w
 use Rattle.sql_lex.specs.declared.sign.Sign.TheVariants as s
 use Rattle.syntax_trees.specs.declared.anchor.Anchor.{Anchor}
@@ -16,7 +17,7 @@ use Rattle.syntax_trees.specs.declared.statement.Parameter.{Parameter}
 use Rattle.token_grammar.specs.Grammar.{many}
 use Rattle.token_grammar.specs.Notation.{word, sign, ◌~◌, ◌~>◌, ◌<~◌, ◌or◌, ◌=>◌}
 use Rattle.sql_grammar.specs.Trees.{G, anchor_of, bracketed, ident, data_type, Columns, Parameters}
-use Rattle.sql_grammar.specs.Expressions.{expr}
+use Rattle.sql_grammar.specs.Expressions.{after}
 
 unfoldable pub not_null : G Constraint
 not_null = (λ t. constraint.NotNull) => word w.Not ~> word w.Null
@@ -64,7 +65,7 @@ unfoldable pub returns_type : G DataType
 returns_type = word w.Returns ~> data_type
 
 unfoldable pub return_value : G Expr
-return_value = word w.Return ~> expr
+return_value = after (kind.Word w.Return)
 
 -- RETURNS type RETURN e
 unfoldable pub body : G (DataType × Expr)

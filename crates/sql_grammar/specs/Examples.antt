@@ -1,5 +1,5 @@
 -- Worked rows: what the grammar reads, and which constructs are open by the tokens alone.
-use Rattle.std.specs.Prelude.{◌≡◌, ℕ, ◌+◌, List, [], ◌∷◌, Ok, Err, pos, codes, drop, refl}
+use Rattle.std.specs.Prelude.{◌≡◌, ℕ, zero, suc, ◌+◌, ◌-◌, ◌*◌, List, [], ◌∷◌, ◌++◌, Some, Ok, Err, pos, codes, drop, refl}
 use Rattle.sql_lex.specs.declared.sign.Sign.{Sign}
 use Rattle.sql_lex.specs.declared.sign.Sign.TheVariants as s
 use Rattle.sql_lex.specs.declared.token.Lexeme.{Lexeme}
@@ -12,11 +12,16 @@ use Rattle.sql_values.specs.declared.operators.Operator.TheVariants as op
 use Rattle.syntax_trees.specs.declared.anchor.Anchor.{Anchor}
 use Rattle.syntax_trees.specs.declared.anchor.Ident.{Ident}
 use Rattle.syntax_trees.specs.declared.data_type.DataType.{DataType}
+use Rattle.syntax_trees.specs.declared.data_type.TypeName.{TypeName}
 use Rattle.syntax_trees.specs.declared.data_type.TypeName.TheVariants as type
+use Rattle.syntax_trees.specs.declared.expr.ChainOperator.{ChainOperator}
+use Rattle.syntax_trees.specs.declared.expr.ChainOperator.TheVariants as chain_operator
 use Rattle.syntax_trees.specs.declared.expr.Expr.{Expr}
 use Rattle.syntax_trees.specs.declared.expr.Expr.TheVariants as e
-use Rattle.syntax_trees.specs.declared.expr.Link.{roll-Link}
-use Rattle.syntax_trees.specs.declared.expr.UnarySign.TheVariants as unary
+use Rattle.syntax_trees.specs.declared.expr.Link.{Link, roll-Link}
+use Rattle.syntax_trees.specs.declared.expr.Literal.TheVariants as literal_of
+use Rattle.syntax_trees.specs.declared.expr.Operation.TheVariants as operation
+use Rattle.syntax_trees.specs.declared.expr.TruthTest.TheVariants as test
 use Rattle.syntax_trees.specs.declared.query.FromItem.TheVariants as from
 use Rattle.syntax_trees.specs.declared.query.Query.TheVariants as q
 use Rattle.syntax_trees.specs.declared.query.ValueRow.TheVariants as value_row
@@ -26,9 +31,9 @@ use Rattle.token_grammar.specs.Examples.{tokens_of}
 use Rattle.token_grammar.specs.Reading.{same_kind, reading, NoSpelling, TooDeep}
 use Rattle.token_grammar.specs.Statement.{most_open}
 use Rattle.sql_grammar.specs.Constructs.{open_after}
-use Rattle.sql_grammar.specs.Trees.{bracketed, ident, data_type}
-use Rattle.sql_grammar.specs.Expressions.{named, primary, unary_sign, if_sign, signed, factor_operator, factor, factors, term, addend_operator, addend, addends, expr, more_exprs, exprs, comparison, predicate}
-use Rattle.sql_grammar.specs.Queries.{conjuncts, conditions, from_item, from_items, from_clause, source, selection, select_word, select, row, more_rows, rows, values_word, values, query}
+use Rattle.sql_grammar.specs.Trees.{bracketed, ident, varchar_length, plain_type, varchar, data_type}
+use Rattle.sql_grammar.specs.Expressions.{constant, literal, named, function_call, function, case_expression, primary, unary_sign, factor, operator, term, sum, comparison, compared, truth_test, asked, tested, in_word, among, predicate_part, predicate, not_word, negation, conjunction, expr, after, more_exprs, exprs, for_length, as_type, operands, when_clause, more_when_clauses, when_clauses, else_clause, arms, cases}
+use Rattle.sql_grammar.specs.Queries.{filter, from_item, from_items, from_clause, source, selection, select_word, select, row, more_rows, rows, values_word, values, query}
 use Rattle.sql_grammar.specs.Writing.{insert_source, insertion, into_table, insert_word, insert, dml}
 use Rattle.sql_grammar.specs.Definitions.{not_null, primary_key, column_constraint, constraints, column, more_columns, columns, parameter, more_parameters, parameters, table_definition, create_table, returns_type, return_value, body, function_definition, create_function, create_word, created, ddl}
 use Rattle.sql_grammar.specs.Sql.{unended, statement, rules}
@@ -62,10 +67,19 @@ abbrev name_k : ℕ → Expr
 name_k n = e.Name (id_k n)
 
 abbrev number_one : ℕ → Expr
-number_one n = e.Number (at n) (pos 1)
+number_one n = e.Literal (at n) (literal_of.Number (pos 1))
+
+abbrev name_t : ℕ → Expr
+name_t n = e.Name (id_t n)
+
+abbrev link : ChainOperator → ℕ → Expr → Link
+link operator n x = roll-Link (record { operator = operator; anchor = at n; operand = x })
+
+abbrev type_at : ℕ → TypeName → DataType
+type_at n name = record { anchor = at n; name = name }
 
 abbrev integer_at : ℕ → DataType
-integer_at n = record { anchor = at n; name = type.Integer }
+integer_at n = type_at n type.Integer
 
 -- ---- reading
 
@@ -78,9 +92,10 @@ abbrev an_insert : List Token
 an_insert = tokens_of (wd w.Insert ∷ wd w.Into ∷ t ∷ wd w.Values ∷ sg s.LeftParen ∷ one ∷ sg s.Comma ∷ sg s.Minus ∷ one ∷ sg s.RightParen ∷ sg s.Comma
     ∷ sg s.LeftParen ∷ sg s.LeftParen ∷ k ∷ sg s.RightParen ∷ sg s.RightParen ∷ sg s.Semicolon ∷ [])
 
--- CREATE TABLE t (k INT PRIMARY KEY NOT NULL);
+-- CREATE TABLE t (k INT PRIMARY KEY NOT NULL, t VARCHAR (1), k BOOLEAN);
 abbrev a_table : List Token
-a_table = tokens_of (wd w.Create ∷ wd w.Table ∷ t ∷ sg s.LeftParen ∷ k ∷ wd w.Int ∷ wd w.Primary ∷ wd w.Key ∷ wd w.Not ∷ wd w.Null ∷ sg s.RightParen ∷ sg s.Semicolon ∷ [])
+a_table = tokens_of (wd w.Create ∷ wd w.Table ∷ t ∷ sg s.LeftParen ∷ k ∷ wd w.Int ∷ wd w.Primary ∷ wd w.Key ∷ wd w.Not ∷ wd w.Null ∷ sg s.Comma
+    ∷ t ∷ wd w.Varchar ∷ sg s.LeftParen ∷ one ∷ sg s.RightParen ∷ sg s.Comma ∷ k ∷ wd w.Boolean ∷ sg s.RightParen ∷ sg s.Semicolon ∷ [])
 
 -- CREATE FUNCTION t (k INTEGER) RETURNS INTEGER RETURN k;
 abbrev a_function : List Token
@@ -94,9 +109,9 @@ pub record Rows : Type 0 where
   pub select_is_read : reading rules most_open statement a_select ≡ Ok (
     stmt.Query (q.Select (record {
       anchor = at 0;
-      items = e.Chain (name_k 1) (roll-Link (record { operator = op.Add; anchor = at 2; operand = number_one 3 }) ∷ []) ∷ e.Call (id_t 5) [] ∷ [];
+      items = e.Chain (name_k 1) (link (chain_operator.Value op.Add) 2 (number_one 3) ∷ []) ∷ e.Call (id_t 5) [] ∷ [];
       from = from.Table (id_t 9) ∷ [];
-      conditions = e.Compare (at 12) cmp.NotEquals (name_k 11) (number_one 13) ∷ [];
+      filter = Some (e.Operation (at 12) (operation.Compare cmp.NotEquals) (name_k 11 ∷ number_one 13 ∷ []));
     })),
     [],
   )
@@ -106,7 +121,7 @@ pub record Rows : Type 0 where
       table = id_t 2;
       source = q.Values (record {
         anchor = at 3;
-        rows = value_row.Row (number_one 5 ∷ e.Signed (at 7) unary.Minus (number_one 8) ∷ []) ∷ value_row.Row (name_k 13 ∷ []) ∷ [];
+        rows = value_row.Row (number_one 5 ∷ e.Operation (at 7) operation.Minus (number_one 8 ∷ []) ∷ []) ∷ value_row.Row (name_k 13 ∷ []) ∷ [];
       });
     }),
     [],
@@ -115,7 +130,9 @@ pub record Rows : Type 0 where
     stmt.CreateTable (record {
       anchor = at 0;
       name = id_t 2;
-      columns = record { name = id_k 4; data_type = integer_at 5; constraints = constraint.PrimaryKey (at 6) ∷ constraint.NotNull ∷ [] } ∷ [];
+      columns = record { name = id_k 4; data_type = integer_at 5; constraints = constraint.PrimaryKey (at 6) ∷ constraint.NotNull ∷ [] }
+          ∷ record { name = id_t 11; data_type = type_at 12 (type.Varchar (at 14) (pos 1)); constraints = [] }
+          ∷ record { name = id_k 17; data_type = type_at 18 type.Boolean; constraints = [] } ∷ [];
     }),
     [],
   )
@@ -135,7 +152,7 @@ pub record Rows : Type 0 where
   pub is_too_deep : reading rules 1 statement an_insert ≡ Err (TooDeep (drop 12 an_insert))
 
 pub rows_hold : Rows
-unfolding same_kind bracketed ident data_type named primary unary_sign if_sign signed factor_operator factor factors term addend_operator addend addends expr more_exprs exprs comparison predicate conjuncts conditions from_item from_items from_clause source selection select_word select row more_rows rows values_word values query insert_source insertion into_table insert_word insert dml not_null primary_key column_constraint constraints column more_columns columns parameter more_parameters parameters table_definition create_table returns_type return_value body function_definition create_function create_word created ddl unended statement
+unfolding same_kind bracketed ident varchar_length plain_type varchar data_type constant literal named function_call function case_expression primary unary_sign factor operator term sum comparison compared truth_test asked tested in_word among predicate_part predicate not_word negation conjunction expr after more_exprs exprs for_length as_type operands when_clause more_when_clauses when_clauses else_clause arms cases filter from_item from_items from_clause source selection select_word select row more_rows rows values_word values query insert_source insertion into_table insert_word insert dml not_null primary_key column_constraint constraints column more_columns columns parameter more_parameters parameters table_definition create_table returns_type return_value body function_definition create_function create_word created ddl unended statement
 rows_hold = record {
   select_is_read = refl;
   insert_is_read = refl;
@@ -143,6 +160,199 @@ rows_hold = record {
   function_is_read = refl;
   stops_at_semicolon = refl;
   is_too_deep = refl;
+}
+
+-- ---- reading of expressions
+
+-- NOT k = 1 AND t OR k
+abbrev loosest_last : List Token
+loosest_last = tokens_of (wd w.Not ∷ k ∷ sg s.Equals ∷ one ∷ wd w.And ∷ t ∷ wd w.Or ∷ k ∷ [])
+
+-- k - 1 || t * 1 / k
+abbrev from_the_left : List Token
+from_the_left = tokens_of (k ∷ sg s.Minus ∷ one ∷ sg s.Concatenation ∷ t ∷ sg s.Asterisk ∷ one ∷ sg s.Solidus ∷ k ∷ [])
+
+-- -k + +1
+abbrev with_signs : List Token
+with_signs = tokens_of (sg s.Minus ∷ k ∷ sg s.Plus ∷ sg s.Plus ∷ one ∷ [])
+
+-- k IS NOT NULL AND 1 IS UNKNOWN AND t IS TRUE AND k IS NOT FALSE
+abbrev tests : List Token
+tests = tokens_of (k ∷ wd w.Is ∷ wd w.Not ∷ wd w.Null ∷ wd w.And ∷ one ∷ wd w.Is ∷ wd w.Unknown ∷ wd w.And ∷ t ∷ wd w.Is ∷ wd w.True
+    ∷ wd w.And ∷ k ∷ wd w.Is ∷ wd w.Not ∷ wd w.False ∷ [])
+
+-- UNKNOWN OR FALSE OR TRUE OR NULL
+abbrev constants : List Token
+constants = tokens_of (wd w.Unknown ∷ wd w.Or ∷ wd w.False ∷ wd w.Or ∷ wd w.True ∷ wd w.Or ∷ wd w.Null ∷ [])
+
+-- k < 1 AND k <= 1 AND k > 1 AND k >= 1
+abbrev comparisons : List Token
+comparisons = tokens_of (k ∷ sg s.LessThan ∷ one ∷ wd w.And ∷ k ∷ sg s.LessThanOrEquals ∷ one ∷ wd w.And ∷ k ∷ sg s.GreaterThan ∷ one
+    ∷ wd w.And ∷ k ∷ sg s.GreaterThanOrEquals ∷ one ∷ [])
+
+-- k IN (1)
+abbrev in_one : List Token
+in_one = tokens_of (k ∷ wd w.In ∷ sg s.LeftParen ∷ one ∷ sg s.RightParen ∷ [])
+
+-- k NOT IN (1, t)
+abbrev not_in_two : List Token
+not_in_two = tokens_of (k ∷ wd w.Not ∷ wd w.In ∷ sg s.LeftParen ∷ one ∷ sg s.Comma ∷ t ∷ sg s.RightParen ∷ [])
+
+-- CASE WHEN k THEN 1 ELSE TRUE END
+abbrev searched_case : List Token
+searched_case = tokens_of (wd w.Case ∷ wd w.When ∷ k ∷ wd w.Then ∷ one ∷ wd w.Else ∷ wd w.True ∷ wd w.End ∷ [])
+
+-- CASE k WHEN 1 THEN t WHEN t THEN 1 END
+abbrev simple_case : List Token
+simple_case = tokens_of (wd w.Case ∷ k ∷ wd w.When ∷ one ∷ wd w.Then ∷ t ∷ wd w.When ∷ t ∷ wd w.Then ∷ one ∷ wd w.End ∷ [])
+
+-- SUBSTRING (k FROM 1)
+abbrev to_the_end : List Token
+to_the_end = tokens_of (wd w.Substring ∷ sg s.LeftParen ∷ k ∷ wd w.From ∷ one ∷ sg s.RightParen ∷ [])
+
+-- SUBSTRING (k FROM 1 FOR t)
+abbrev of_a_length : List Token
+of_a_length = tokens_of (wd w.Substring ∷ sg s.LeftParen ∷ k ∷ wd w.From ∷ one ∷ wd w.For ∷ t ∷ sg s.RightParen ∷ [])
+
+-- CAST (k AS VARCHAR (1))
+abbrev a_cast : List Token
+a_cast = tokens_of (wd w.Cast ∷ sg s.LeftParen ∷ k ∷ wd w.As ∷ wd w.Varchar ∷ sg s.LeftParen ∷ one ∷ sg s.RightParen ∷ sg s.RightParen ∷ [])
+
+-- COALESCE (NULL, MOD (k, 1), CHAR_LENGTH ('K'))
+abbrev words_in_words : List Token
+words_in_words = tokens_of (wd w.Coalesce ∷ sg s.LeftParen ∷ wd w.Null ∷ sg s.Comma ∷ wd w.Mod ∷ sg s.LeftParen ∷ k ∷ sg s.Comma ∷ one ∷ sg s.RightParen ∷ sg s.Comma
+    ∷ wd w.CharLength ∷ sg s.LeftParen ∷ lexeme.Text (codes "K") ∷ sg s.RightParen ∷ sg s.RightParen ∷ [])
+
+-- VALUES (k = 1 = k
+abbrev two_comparisons : List Token
+two_comparisons = tokens_of (wd w.Values ∷ sg s.LeftParen ∷ k ∷ sg s.Equals ∷ one ∷ sg s.Equals ∷ k ∷ [])
+
+-- CASE k END
+abbrev no_when : List Token
+no_when = tokens_of (wd w.Case ∷ k ∷ wd w.End ∷ [])
+
+-- SUBSTRING (k FOR 1
+abbrev no_from : List Token
+no_from = tokens_of (wd w.Substring ∷ sg s.LeftParen ∷ k ∷ wd w.For ∷ one ∷ [])
+
+-- NOT NOT k
+abbrev not_twice : List Token
+not_twice = tokens_of (wd w.Not ∷ wd w.Not ∷ k ∷ [])
+
+-- CASE WHEN so many times, and as many times THEN 1 END round 1
+abbrev openings : ℕ → List Lexeme
+openings zero = []
+openings (suc n) = wd w.Case ∷ wd w.When ∷ openings n
+
+abbrev endings : ℕ → List Lexeme
+endings zero = []
+endings (suc n) = wd w.Then ∷ one ∷ wd w.End ∷ endings n
+
+abbrev case_in_case : ℕ → List Token
+case_in_case n = tokens_of (openings n ++ one ∷ endings n)
+
+-- the innermost so many of 24
+abbrev innermost : ℕ → Expr
+innermost zero = number_one 48
+innermost (suc n) = e.Operation (at (46 - 2 * n)) operation.Case (innermost n ∷ number_one (50 + 3 * n) ∷ [])
+
+pub record ExprRows : Type 0 where
+  pub or_is_loosest : reading rules most_open expr loosest_last ≡ Ok (
+    e.Chain (
+        e.Chain
+        (e.Operation (at 0) operation.Not (e.Operation (at 2) (operation.Compare cmp.Equals) (name_k 1 ∷ number_one 3 ∷ []) ∷ []))
+        (link chain_operator.And 4 (name_t 5) ∷ []))
+        (link chain_operator.Or 6 (name_k 7) ∷ []),
+    [],
+  )
+  pub bars_are_additive : reading rules most_open expr from_the_left ≡ Ok (
+    e.Chain (name_k 0) (
+        link (chain_operator.Value op.Subtract) 1 (number_one 2)
+        ∷ link (chain_operator.Value op.Concatenate) 3 (
+        e.Chain (name_t 4) (link (chain_operator.Value op.Multiply) 5 (number_one 6) ∷ link (chain_operator.Value op.Divide) 7 (name_k 8) ∷ [])) ∷ []),
+    [],
+  )
+  pub signs_are_read : reading rules most_open expr with_signs ≡ Ok (
+    e.Chain (e.Operation (at 0) operation.Minus (name_k 1 ∷ []))
+        (link (chain_operator.Value op.Add) 2 (e.Operation (at 3) operation.Plus (number_one 4 ∷ [])) ∷ []),
+    [],
+  )
+  pub tests_are_read : reading rules most_open expr tests ≡ Ok (
+    e.Chain (e.Operation (at 1) (operation.IsNot test.Null) (name_k 0 ∷ []))
+        (link chain_operator.And 4 (e.Operation (at 6) (operation.Is test.Unknown) (number_one 5 ∷ []))
+        ∷ link chain_operator.And 8 (e.Operation (at 10) (operation.Is test.True) (name_t 9 ∷ []))
+        ∷ link chain_operator.And 12 (e.Operation (at 14) (operation.IsNot test.False) (name_k 13 ∷ [])) ∷ []),
+    [],
+  )
+  pub constants_are_read : reading rules most_open expr constants ≡ Ok (
+    e.Chain (e.Literal (at 0) literal_of.Unknown)
+        (link chain_operator.Or 1 (e.Literal (at 2) literal_of.False)
+        ∷ link chain_operator.Or 3 (e.Literal (at 4) literal_of.True)
+        ∷ link chain_operator.Or 5 (e.Literal (at 6) literal_of.Null) ∷ []),
+    [],
+  )
+  pub comparisons_are_read : reading rules most_open expr comparisons ≡ Ok (
+    e.Chain (e.Operation (at 1) (operation.Compare cmp.LessThan) (name_k 0 ∷ number_one 2 ∷ []))
+        (link chain_operator.And 3 (e.Operation (at 5) (operation.Compare cmp.LessThanOrEquals) (name_k 4 ∷ number_one 6 ∷ []))
+        ∷ link chain_operator.And 7 (e.Operation (at 9) (operation.Compare cmp.GreaterThan) (name_k 8 ∷ number_one 10 ∷ []))
+        ∷ link chain_operator.And 11 (e.Operation (at 13) (operation.Compare cmp.GreaterThanOrEquals) (name_k 12 ∷ number_one 14 ∷ [])) ∷ []),
+    [],
+  )
+  pub in_is_read : reading rules most_open expr in_one ≡ Ok (e.Operation (at 1) operation.In (name_k 0 ∷ number_one 3 ∷ []), [])
+  pub not_in_is_read : reading rules most_open expr not_in_two ≡ Ok (e.Operation (at 2) operation.NotIn (name_k 0 ∷ number_one 4 ∷ name_t 6 ∷ []), [])
+  pub searched_case_is_read : reading rules most_open expr searched_case ≡ Ok (
+    e.Operation (at 0) operation.Case (name_k 2 ∷ number_one 4 ∷ e.Literal (at 6) literal_of.True ∷ []),
+    [],
+  )
+  pub simple_case_is_read : reading rules most_open expr simple_case ≡ Ok (
+    e.Operation (at 0) operation.CaseOf (name_k 1 ∷ number_one 3 ∷ name_t 5 ∷ name_t 7 ∷ number_one 9 ∷ []),
+    [],
+  )
+  pub substring_is_read : reading rules most_open expr to_the_end ≡ Ok (e.Operation (at 0) operation.Substring (name_k 2 ∷ number_one 4 ∷ []), [])
+  pub length_is_read : reading rules most_open expr of_a_length ≡ Ok (e.Operation (at 0) operation.Substring (name_k 2 ∷ number_one 4 ∷ name_t 6 ∷ []), [])
+  pub cast_is_read : reading rules most_open expr a_cast ≡ Ok (
+    e.Operation (at 0) (operation.Cast (type_at 4 (type.Varchar (at 6) (pos 1)))) (name_k 2 ∷ []),
+    [],
+  )
+  pub words_are_read : reading rules most_open expr words_in_words ≡ Ok (
+    e.Operation (at 0) operation.Coalesce (
+        e.Literal (at 2) literal_of.Null
+        ∷ e.Operation (at 4) operation.Modulo (name_k 6 ∷ number_one 8 ∷ [])
+        ∷ e.Operation (at 11) operation.CharLength (e.Literal (at 13) (literal_of.Text (codes "K")) ∷ []) ∷ []),
+    [],
+  )
+  -- a comparison has two sides
+  pub stops_at_second_comparison : reading rules most_open query two_comparisons ≡ Err (NoSpelling (drop 5 two_comparisons))
+  pub when_is_wanted : reading rules most_open expr no_when ≡ Err (NoSpelling (drop 2 no_when))
+  pub from_is_wanted : reading rules most_open expr no_from ≡ Err (NoSpelling (drop 3 no_from))
+  pub not_stands_once : reading rules most_open expr not_twice ≡ Err (NoSpelling (drop 1 not_twice))
+  -- as many as may be open, and one more
+  pub cases_at_the_limit : reading rules most_open expr (case_in_case 24) ≡ Ok (innermost 24, [])
+  pub cases_past_the_limit : reading rules most_open expr (case_in_case 25) ≡ Err (TooDeep (drop 48 (case_in_case 25)))
+
+pub expr_rows_hold : ExprRows
+unfolding same_kind bracketed ident varchar_length plain_type varchar data_type constant literal named function_call function case_expression primary unary_sign factor operator term sum comparison compared truth_test asked tested in_word among predicate_part predicate not_word negation conjunction expr after more_exprs exprs for_length as_type operands when_clause more_when_clauses when_clauses else_clause arms cases filter from_item from_items from_clause source selection select_word select row more_rows rows values_word values query insert_source insertion into_table insert_word insert dml not_null primary_key column_constraint constraints column more_columns columns parameter more_parameters parameters table_definition create_table returns_type return_value body function_definition create_function create_word created ddl unended statement
+expr_rows_hold = record {
+  or_is_loosest = refl;
+  bars_are_additive = refl;
+  signs_are_read = refl;
+  tests_are_read = refl;
+  constants_are_read = refl;
+  comparisons_are_read = refl;
+  in_is_read = refl;
+  not_in_is_read = refl;
+  searched_case_is_read = refl;
+  simple_case_is_read = refl;
+  substring_is_read = refl;
+  length_is_read = refl;
+  cast_is_read = refl;
+  words_are_read = refl;
+  stops_at_second_comparison = refl;
+  when_is_wanted = refl;
+  from_is_wanted = refl;
+  not_stands_once = refl;
+  cases_at_the_limit = refl;
+  cases_past_the_limit = refl;
 }
 
 -- ---- open constructs, by the tokens alone
@@ -168,3 +378,13 @@ in_substring = refl
 -- BEGIN DECLARE k CURSOR FOR: nor does this
 pub after_cursor : open_after (tokens_of (wd w.Begin ∷ wd w.Declare ∷ k ∷ wd w.Cursor ∷ wd w.For ∷ [])) 0 5 ≡ 0 ∷ []
 after_cursor = refl
+
+-- VALUES (CASE WHEN k THEN CASE: the inner CASE stands in the outer one
+abbrev two_cases : List Token
+two_cases = tokens_of (wd w.Values ∷ sg s.LeftParen ∷ wd w.Case ∷ wd w.When ∷ k ∷ wd w.Then ∷ wd w.Case ∷ wd w.When ∷ k ∷ wd w.Then ∷ one ∷ wd w.End ∷ wd w.End ∷ [])
+
+pub in_both_cases : open_after two_cases 0 7 ≡ 6 ∷ 2 ∷ 1 ∷ []
+in_both_cases = refl
+
+pub after_both_cases : open_after two_cases 0 13 ≡ 1 ∷ []
+after_both_cases = refl

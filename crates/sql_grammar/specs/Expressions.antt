@@ -1,101 +1,289 @@
--- Expressions: ISO/IEC 9075-2, 6.26 to 6.29 (value expressions), 6.4 (a call of a function) and 8.2
--- (comparisons).
-use Rattle.std.specs.Prelude.{List, [], ◌∷◌, Option, Some, None}
+-- Expressions: ISO/IEC 9075-2, 6.4 (a call of a function), 6.12 (CASE), 6.13 (CAST), 6.26 to 6.39
+-- (value expressions) and 8.2 to 8.8 (predicates).
+use Rattle.std.specs.Prelude.{List, [], ◌∷◌, ◌++◌, Option, Some, None}
+use Rattle.sql_grammar.specs.declared.chain_level.ChainLevel.{ChainLevel}
+use Rattle.sql_grammar.specs.declared.chain_level.ChainLevel.TheVariants as level
+use Rattle.sql_grammar.specs.declared.function_word.FunctionWord.{FunctionWord}
+use Rattle.sql_grammar.specs.declared.function_word.FunctionWord.TheVariants as function_word
+use Rattle.sql_lex.specs.declared.token.Kind.{Kind}
+use Rattle.sql_lex.specs.declared.token.Kind.TheVariants as kind
+use Rattle.sql_lex.specs.declared.token.Token.{Token}
+use Rattle.sql_lex.specs.declared.word.Word.{Word}
 use Rattle.sql_lex.specs.declared.word.Word.TheVariants as w
 use Rattle.sql_lex.specs.declared.sign.Sign.TheVariants as s
-use Rattle.sql_values.specs.declared.operators.Operator.{Operator}
-use Rattle.sql_values.specs.declared.operators.Operator.TheVariants as op
-use Rattle.sql_values.specs.declared.operators.Comparison.{Comparison}
 use Rattle.sql_values.specs.declared.operators.Comparison.TheVariants as cmp
+use Rattle.sql_values.specs.declared.operators.Operator.TheVariants as op
 use Rattle.syntax_trees.specs.declared.anchor.Anchor.{Anchor}
+use Rattle.syntax_trees.specs.declared.data_type.DataType.{DataType}
+use Rattle.syntax_trees.specs.declared.expr.ChainOperator.{ChainOperator}
+use Rattle.syntax_trees.specs.declared.expr.ChainOperator.TheVariants as chain_operator
 use Rattle.syntax_trees.specs.declared.expr.Expr.{Expr}
 use Rattle.syntax_trees.specs.declared.expr.Expr.TheVariants as e
 use Rattle.syntax_trees.specs.declared.expr.Link.{Link, roll-Link}
-use Rattle.syntax_trees.specs.declared.expr.UnarySign.{UnarySign}
-use Rattle.syntax_trees.specs.declared.expr.UnarySign.TheVariants as unary
-use Rattle.token_grammar.specs.Grammar.{optional, many}
-use Rattle.token_grammar.specs.Notation.{word, sign, number, ◌~◌, ◌~>◌, ◌or◌, ◌=>◌, number_of, followed}
-use Rattle.sql_grammar.specs.Trees.{G, anchor_of, bracketed, ident, Arguments, Bracketed}
+use Rattle.syntax_trees.specs.declared.expr.Literal.{Literal}
+use Rattle.syntax_trees.specs.declared.expr.Literal.TheVariants as literal_of
+use Rattle.syntax_trees.specs.declared.expr.Operation.{Operation}
+use Rattle.syntax_trees.specs.declared.expr.Operation.TheVariants as operation
+use Rattle.syntax_trees.specs.declared.expr.TruthTest.{TruthTest}
+use Rattle.syntax_trees.specs.declared.expr.TruthTest.TheVariants as test
+use Rattle.token_grammar.specs.Grammar.{token, nested, optional, many}
+use Rattle.token_grammar.specs.Notation.{word, number, text, ◌~◌, ◌~>◌, ◌or◌, ◌=>◌, number_of, text_of, followed, joined}
+use Rattle.sql_grammar.specs.Trees.{G, anchor_of, only, if_one, choice, bracketed, ident, data_type, Arguments, Exprs, Bracketed, Operands, Cases}
+
+-- ---- literals, names, calls, brackets
+
+unfoldable pub constant : G (Literal × Anchor)
+constant =
+    choice (kind.Word w.True, literal_of.True)
+    ((kind.Word w.False, literal_of.False) ∷ (kind.Word w.Unknown, literal_of.Unknown) ∷ (kind.Word w.Null, literal_of.Null) ∷ [])
+
+-- number | text | TRUE | FALSE | UNKNOWN | NULL
+unfoldable pub literal : G (Literal × Anchor)
+literal =
+    (λ t. (literal_of.Number (number_of t.lexeme), anchor_of t)) => number
+    or (λ t. (literal_of.Text (text_of t.lexeme), anchor_of t)) => text
+    or constant
+
+-- name | name '(' [e {',' e}] ')'
+unfoldable pub named : G Expr
+named = (λ p. followed e.Name p.1 p.0) => ident ~ optional ((λ args i. e.Call i args) => bracketed Arguments)
+
+-- ---- words with operands
+
+-- a word, where it stands, and what its operation and operands are
+abbrev pub operation_of : Token × (Operation × List Expr) → Expr
+operation_of p = e.Operation (anchor_of p.0) p.1.0 p.1.1
+
+abbrev pub word_of : FunctionWord → Word
+word_of function_word.Coalesce = w.Coalesce
+word_of function_word.Modulo = w.Mod
+word_of function_word.CharLength = w.CharLength
+word_of function_word.Substring = w.Substring
+word_of function_word.Cast = w.Cast
+
+-- a word and its operands in brackets
+unfoldable pub function_call : FunctionWord → G Expr
+function_call f = operation_of => word (word_of f) ~ bracketed (Operands f)
+
+unfoldable pub function : G Expr
+function =
+    function_call function_word.Coalesce
+    or function_call function_word.Modulo
+    or function_call function_word.CharLength
+    or function_call function_word.Substring
+    or function_call function_word.Cast
+
+-- CASE cases END
+unfoldable pub case_expression : G Expr
+case_expression = operation_of => nested (kind.Word w.Case) Cases (kind.Word w.End)
+
+unfoldable pub primary : G Expr
+primary =
+    (λ p. e.Literal p.1 p.0) => literal
+    or named
+    or bracketed Bracketed
+    or case_expression
+    or function
+
+-- ---- signs and NOT
+
+abbrev pub prefixed : Option (Operation × Anchor) → Expr → Expr
+prefixed None x = x
+prefixed (Some p) x = e.Operation p.1 p.0 (only x)
+
+unfoldable pub unary_sign : G (Operation × Anchor)
+unary_sign = choice (kind.Sign s.Plus, operation.Plus) ((kind.Sign s.Minus, operation.Minus) ∷ [])
+
+-- factor := ['+' | '-'] primary
+unfoldable pub factor : G Expr
+factor = (λ p. prefixed p.0 p.1) => optional unary_sign ~ primary
+
+-- ---- chains
 
 -- a chain of one is no chain
 abbrev pub chain : Expr → List Link → Expr
 chain first [] = first
 chain first (l ∷ ls) = e.Chain first (l ∷ ls)
 
-abbrev pub link : (Operator × Anchor) × Expr → Link
-link p = roll-Link (record { operator = p.0.0; anchor = p.0.1; operand = p.1 })
+abbrev pub link_of : (ChainOperator × Anchor) × Expr → Link
+link_of p = roll-Link (record { operator = p.0.0; anchor = p.0.1; operand = p.1 })
 
--- a name, or a call
-unfoldable pub named : G Expr
-named = (λ p. followed e.Name p.1 p.0) => ident ~ optional ((λ args i. e.Call i args) => bracketed Arguments)
+-- the operators of a level
+unfoldable pub operator : ChainLevel → G (ChainOperator × Anchor)
+operator level.Or = choice (kind.Word w.Or, chain_operator.Or) []
+operator level.And = choice (kind.Word w.And, chain_operator.And) []
+operator level.Additive =
+    choice (kind.Sign s.Plus, chain_operator.Value op.Add)
+    ((kind.Sign s.Minus, chain_operator.Value op.Subtract) ∷ (kind.Sign s.Concatenation, chain_operator.Value op.Concatenate) ∷ [])
+operator level.Multiplicative =
+    choice (kind.Sign s.Asterisk, chain_operator.Value op.Multiply) ((kind.Sign s.Solidus, chain_operator.Value op.Divide) ∷ [])
 
-unfoldable pub primary : G Expr
-primary =
-    (λ t. e.Number (anchor_of t) (number_of t.lexeme)) => number
-    or (λ t. e.Null (anchor_of t)) => word w.Null
-    or named
-    or bracketed Bracketed
+-- an operator of a level and the operand after it, of which this is the rule
+abbrev pub link_by : ChainLevel → G Expr → G Link
+link_by l operand = link_of => operator l ~ operand
 
-unfoldable pub unary_sign : G (UnarySign × Anchor)
-unary_sign =
-    (λ t. (unary.Plus, anchor_of t)) => sign s.Plus
-    or (λ t. (unary.Minus, anchor_of t)) => sign s.Minus
+abbrev pub links_by : ChainLevel → G Expr → G (List Link)
+links_by l operand = many (link_by l operand)
 
-unfoldable pub if_sign : G (Option (UnarySign × Anchor))
-if_sign = optional unary_sign
+-- operand {operator operand}
+abbrev pub chain_by : ChainLevel → G Expr → G Expr
+chain_by l operand = (λ p. chain p.0 p.1) => operand ~ links_by l operand
 
-abbrev pub with_sign : Option (UnarySign × Anchor) → Expr → Expr
-with_sign None x = x
-with_sign (Some p) x = e.Signed p.1 p.0 x
-
-unfoldable pub signed : G Expr
-signed = (λ p. with_sign p.0 p.1) => if_sign ~ primary
-
-unfoldable pub factor_operator : G (Operator × Anchor)
-factor_operator =
-    (λ t. (op.Multiply, anchor_of t)) => sign s.Asterisk
-    or (λ t. (op.Divide, anchor_of t)) => sign s.Solidus
-
-unfoldable pub factor : G Link
-factor = link => factor_operator ~ signed
-
-unfoldable pub factors : G (List Link)
-factors = many factor
-
+-- term := factor {('*' | '/') factor}
 unfoldable pub term : G Expr
-term = (λ p. chain p.0 p.1) => signed ~ factors
+term = chain_by level.Multiplicative factor
 
-unfoldable pub addend_operator : G (Operator × Anchor)
-addend_operator =
-    (λ t. (op.Add, anchor_of t)) => sign s.Plus
-    or (λ t. (op.Subtract, anchor_of t)) => sign s.Minus
+-- sum := term {('+' | '-' | '||') term}
+unfoldable pub sum : G Expr
+sum = chain_by level.Additive term
 
-unfoldable pub addend : G Link
-addend = link => addend_operator ~ term
+-- ---- predicates
 
-unfoldable pub addends : G (List Link)
-addends = many addend
+unfoldable pub comparison : G (Operation × Anchor)
+comparison =
+    choice (kind.Sign s.Equals, operation.Compare cmp.Equals)
+    ((kind.Sign s.NotEquals, operation.Compare cmp.NotEquals)
+    ∷ (kind.Sign s.LessThan, operation.Compare cmp.LessThan)
+    ∷ (kind.Sign s.LessThanOrEquals, operation.Compare cmp.LessThanOrEquals)
+    ∷ (kind.Sign s.GreaterThan, operation.Compare cmp.GreaterThan)
+    ∷ (kind.Sign s.GreaterThanOrEquals, operation.Compare cmp.GreaterThanOrEquals) ∷ [])
 
+-- cmp sum
+unfoldable pub compared : G ((Operation × Anchor) × List Expr)
+compared = (λ p. (p.0, only p.1)) => comparison ~ sum
+
+unfoldable pub truth_test : G (TruthTest × Anchor)
+truth_test =
+    choice (kind.Word w.Null, test.Null) ((kind.Word w.True, test.True) ∷ (kind.Word w.False, test.False) ∷ (kind.Word w.Unknown, test.Unknown) ∷ [])
+
+unfoldable pub not_word : G (Operation × Anchor)
+not_word = choice (kind.Word w.Not, operation.Not) []
+
+abbrev pub is_or_not : Option (Operation × Anchor) → TruthTest → Operation
+is_or_not None t = operation.Is t
+is_or_not (Some n) t = operation.IsNot t
+
+-- [NOT] (NULL | TRUE | FALSE | UNKNOWN)
+unfoldable pub asked : G Operation
+asked = (λ p. is_or_not p.0 p.1.0) => optional not_word ~ truth_test
+
+-- IS [NOT] (NULL | TRUE | FALSE | UNKNOWN)
+unfoldable pub tested : G (Operation × Anchor)
+tested = (λ p. (p.1, anchor_of p.0)) => word w.Is ~ asked
+
+-- [NOT] IN
+unfoldable pub in_word : G (Operation × Anchor)
+in_word =
+    (λ t. (operation.In, anchor_of t)) => word w.In
+    or (λ t. (operation.NotIn, anchor_of t)) => word w.Not ~> word w.In
+
+-- [NOT] IN '(' e {',' e} ')'
+unfoldable pub among : G ((Operation × Anchor) × List Expr)
+among = in_word ~ bracketed Exprs
+
+-- what may stand after the left side of a predicate: its operation, and the other operands
+unfoldable pub predicate_part : G ((Operation × Anchor) × List Expr)
+predicate_part =
+    compared
+    or (λ p. (p, [])) => tested
+    or among
+
+abbrev pub predicate_of : Expr → Option ((Operation × Anchor) × List Expr) → Expr
+predicate_of x None = x
+predicate_of x (Some p) = e.Operation p.0.1 p.0.0 (x ∷ p.1)
+
+-- pred := sum [predicate_part]
+unfoldable pub predicate : G Expr
+predicate = (λ p. predicate_of p.0 p.1) => sum ~ optional predicate_part
+
+-- not := [NOT] pred
+unfoldable pub negation : G Expr
+negation = (λ p. prefixed p.0 p.1) => optional not_word ~ predicate
+
+-- ---- all expressions
+
+-- and := not {AND not}
+unfoldable pub conjunction : G Expr
+conjunction = chain_by level.And negation
+
+-- e := and {OR and}
 unfoldable pub expr : G Expr
-expr = (λ p. chain p.0 p.1) => term ~ addends
+expr = chain_by level.Or conjunction
 
+-- what the chains of a level are made of
+abbrev pub operand_at : ChainLevel → G Expr
+operand_at level.Or = conjunction
+operand_at level.And = negation
+operand_at level.Additive = term
+operand_at level.Multiplicative = factor
+
+-- an operator of a level and the operand after it
+abbrev pub link_at : ChainLevel → G Link
+link_at l = link_by l (operand_at l)
+
+-- {operator operand}
+abbrev pub links_at : ChainLevel → G (List Link)
+links_at l = links_by l (operand_at l)
+
+-- the chains of a level: of OR they are the expressions, of AND the conjunctions, and so on
+abbrev pub chain_at : ChainLevel → G Expr
+chain_at l = chain_by l (operand_at l)
+
+-- a token, and an expression after it
+unfoldable pub after : Kind → G Expr
+after k = token k ~> expr
+
+-- {',' e}
 unfoldable pub more_exprs : G (List Expr)
-more_exprs = many (sign s.Comma ~> expr)
+more_exprs = many (after (kind.Sign s.Comma))
 
+-- e {',' e}
 unfoldable pub exprs : G (List Expr)
 exprs = (λ p. p.0 ∷ p.1) => expr ~ more_exprs
 
-unfoldable pub comparison : G (Comparison × Anchor)
-comparison =
-    (λ t. (cmp.Equals, anchor_of t)) => sign s.Equals
-    or (λ t. (cmp.NotEquals, anchor_of t)) => sign s.NotEquals
-    or (λ t. (cmp.LessThan, anchor_of t)) => sign s.LessThan
-    or (λ t. (cmp.LessThanOrEquals, anchor_of t)) => sign s.LessThanOrEquals
-    or (λ t. (cmp.GreaterThan, anchor_of t)) => sign s.GreaterThan
-    or (λ t. (cmp.GreaterThanOrEquals, anchor_of t)) => sign s.GreaterThanOrEquals
+-- ---- in brackets after a word
 
-abbrev pub compare_of : Expr × ((Comparison × Anchor) × Expr) → Expr
-compare_of p = e.Compare p.1.0.1 p.1.0.0 p.0 p.1.1
+-- [FOR e]
+unfoldable pub for_length : G (List Expr)
+for_length = if_one => optional (after (kind.Word w.For))
 
-unfoldable pub predicate : G Expr
-predicate = compare_of => expr ~ comparison ~ expr
+-- AS type
+unfoldable pub as_type : G DataType
+as_type = word w.As ~> data_type
+
+-- what stands in the brackets after a word: its operation, and its operands
+unfoldable pub operands : FunctionWord → G (Operation × List Expr)
+operands function_word.Coalesce = (λ xs. (operation.Coalesce, xs)) => exprs
+operands function_word.Modulo = (λ p. (operation.Modulo, p.0 ∷ only p.1)) => expr ~ after (kind.Sign s.Comma)
+operands function_word.CharLength = (λ x. (operation.CharLength, only x)) => expr
+operands function_word.Substring = (λ p. (operation.Substring, p.0 ∷ p.1.0 ∷ p.1.1)) => expr ~ after (kind.Word w.From) ~ for_length
+operands function_word.Cast = (λ p. (operation.Cast p.1, only p.0)) => expr ~ as_type
+
+-- ---- between CASE and END
+
+-- WHEN e THEN e
+unfoldable pub when_clause : G (List Expr)
+when_clause = (λ p. p.0 ∷ only p.1) => after (kind.Word w.When) ~ after (kind.Word w.Then)
+
+-- {WHEN e THEN e}
+unfoldable pub more_when_clauses : G (List Expr)
+more_when_clauses = joined => many when_clause
+
+unfoldable pub when_clauses : G (List Expr)
+when_clauses = (λ p. p.0 ++ p.1) => when_clause ~ more_when_clauses
+
+-- [ELSE e]
+unfoldable pub else_clause : G (List Expr)
+else_clause = if_one => optional (after (kind.Word w.Else))
+
+-- WHEN e THEN e {WHEN e THEN e} [ELSE e]
+unfoldable pub arms : G (List Expr)
+arms = (λ p. p.0 ++ p.1) => when_clauses ~ else_clause
+
+abbrev pub case_of : Option Expr → List Expr → Operation × List Expr
+case_of None xs = (operation.Case, xs)
+case_of (Some x) xs = (operation.CaseOf, x ∷ xs)
+
+-- [e] WHEN e THEN e {WHEN e THEN e} [ELSE e]
+unfoldable pub cases : G (Operation × List Expr)
+cases = (λ p. case_of p.0 p.1) => optional expr ~ arms

@@ -1,5 +1,6 @@
 -- Queries: ISO/IEC 9075-2, 7.3 (VALUES), 7.6 (FROM), 7.12 (WHERE) and 7.16 (SELECT).
-use Rattle.std.specs.Prelude.{List, ◌∷◌}
+use Rattle.std.specs.Prelude.{List, ◌∷◌, Option}
+use Rattle.sql_lex.specs.declared.token.Kind.TheVariants as kind
 use Rattle.sql_lex.specs.declared.word.Word.TheVariants as w
 use Rattle.sql_lex.specs.declared.sign.Sign.TheVariants as s
 use Rattle.syntax_trees.specs.declared.anchor.Anchor.{Anchor}
@@ -14,14 +15,12 @@ use Rattle.syntax_trees.specs.declared.query.ValueRow.TheVariants as value_row
 use Rattle.syntax_trees.specs.declared.query.Values.{Values}
 use Rattle.token_grammar.specs.Grammar.{optional, many}
 use Rattle.token_grammar.specs.Notation.{word, sign, ◌~◌, ◌~>◌, ◌or◌, ◌=>◌}
-use Rattle.sql_grammar.specs.Trees.{G, anchor_of, if_any, only, bracketed, ident, RowValues}
-use Rattle.sql_grammar.specs.Expressions.{exprs, predicate}
+use Rattle.sql_grammar.specs.Trees.{G, anchor_of, only, bracketed, ident, Exprs}
+use Rattle.sql_grammar.specs.Expressions.{after, exprs}
 
-unfoldable pub conjuncts : G (List Expr)
-conjuncts = only => predicate
-
-unfoldable pub conditions : G (List Expr)
-conditions = if_any => optional (word w.Where ~> conjuncts)
+-- [WHERE e]
+unfoldable pub filter : G (Option Expr)
+filter = optional (after (kind.Word w.Where))
 
 unfoldable pub from_item : G FromItem
 from_item = from.Table => ident
@@ -32,24 +31,24 @@ from_items = only => from_item
 unfoldable pub from_clause : G (List FromItem)
 from_clause = word w.From ~> from_items
 
--- FROM tables [WHERE condition]
-unfoldable pub source : G (List FromItem × List Expr)
-source = from_clause ~ conditions
+-- FROM tables [WHERE e]
+unfoldable pub source : G (List FromItem × Option Expr)
+source = from_clause ~ filter
 
-unfoldable pub selection : G (List Expr × (List FromItem × List Expr))
+unfoldable pub selection : G (List Expr × (List FromItem × Option Expr))
 selection = exprs ~ source
 
 unfoldable pub select_word : G Anchor
 select_word = anchor_of => word w.Select
 
-abbrev pub select_of : Anchor × (List Expr × (List FromItem × List Expr)) → Select
-select_of p = record { anchor = p.0; items = p.1.0; from = p.1.1.0; conditions = p.1.1.1 }
+abbrev pub select_of : Anchor × (List Expr × (List FromItem × Option Expr)) → Select
+select_of p = record { anchor = p.0; items = p.1.0; from = p.1.1.0; filter = p.1.1.1 }
 
 unfoldable pub select : G Select
 select = select_of => select_word ~ selection
 
 unfoldable pub row : G ValueRow
-row = value_row.Row => bracketed RowValues
+row = value_row.Row => bracketed Exprs
 
 unfoldable pub more_rows : G (List ValueRow)
 more_rows = many (sign s.Comma ~> row)

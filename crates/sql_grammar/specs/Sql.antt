@@ -1,13 +1,14 @@
--- The grammar of scripts: its statements, and what stands between brackets.
+-- The grammar of scripts: its statements, and what stands in constructs.
 use Rattle.sql_lex.specs.declared.token.Kind.TheVariants as kind
+use Rattle.sql_lex.specs.declared.word.Word.TheVariants as w
 use Rattle.sql_lex.specs.declared.sign.Sign.TheVariants as s
 use Rattle.syntax_trees.specs.declared.statement.Stmt.{Stmt}
 use Rattle.syntax_trees.specs.declared.statement.Stmt.TheVariants as stmt
 use Rattle.token_grammar.specs.Grammar.{optional}
 use Rattle.token_grammar.specs.Notation.{sign, ◌<~◌, ◌or◌, ◌=>◌}
 use Rattle.sql_lex.specs.declared.token.Kind.{Kind}
-use Rattle.sql_grammar.specs.Trees.{Rule, Tree, G, if_any, Columns, Parameters, Arguments, RowValues, Bracketed}
-use Rattle.sql_grammar.specs.Expressions.{expr, exprs}
+use Rattle.sql_grammar.specs.Trees.{Rule, Tree, G, if_any, varchar_length, Columns, Parameters, Length, Arguments, Exprs, Bracketed, Operands, Cases}
+use Rattle.sql_grammar.specs.Expressions.{expr, exprs, operands, cases}
 use Rattle.sql_grammar.specs.Queries.{query}
 use Rattle.sql_grammar.specs.Writing.{dml}
 use Rattle.sql_grammar.specs.Definitions.{columns, parameters, ddl}
@@ -18,18 +19,24 @@ unended = ddl or dml or stmt.Query => query
 unfoldable pub statement : G Stmt
 statement = unended <~ sign s.Semicolon
 
--- what stands between two brackets
+-- what stands in a construct
 abbrev pub rules : (r : Rule) → G (Tree r)
 rules Columns = columns
 rules Parameters = if_any => optional parameters
+rules Length = varchar_length
 rules Arguments = if_any => optional exprs
-rules RowValues = exprs
+rules Exprs = exprs
 rules Bracketed = expr
+rules (Operands f) = operands f
+rules Cases = cases
 
 -- the token that closes each
 abbrev pub shut : Rule → Kind
 shut Columns = kind.Sign s.RightParen
 shut Parameters = kind.Sign s.RightParen
+shut Length = kind.Sign s.RightParen
 shut Arguments = kind.Sign s.RightParen
-shut RowValues = kind.Sign s.RightParen
+shut Exprs = kind.Sign s.RightParen
 shut Bracketed = kind.Sign s.RightParen
+shut (Operands f) = kind.Sign s.RightParen
+shut Cases = kind.Word w.End

@@ -1,6 +1,8 @@
--- What stands between brackets, the trees that rules leave, and the rules that all others share:
+-- What stands in constructs, the trees that rules leave, and the rules that all others share:
 -- ISO/IEC 9075-2, 5.4 (names) and 6.1 (data types).
-use Rattle.std.specs.Prelude.{List, [], ◌∷◌, Option, Some, None}
+use Rattle.std.specs.Prelude.{ℤ, List, [], ◌∷◌, Option, Some, None}
+use Rattle.sql_grammar.specs.declared.function_word.FunctionWord.{FunctionWord}
+use Rattle.sql_lex.specs.declared.token.Kind.{Kind}
 use Rattle.sql_lex.specs.declared.token.Kind.TheVariants as kind
 use Rattle.sql_lex.specs.declared.token.Token.{Token}
 use Rattle.sql_lex.specs.declared.word.Word.TheVariants as w
@@ -8,27 +10,38 @@ use Rattle.sql_lex.specs.declared.sign.Sign.TheVariants as s
 use Rattle.syntax_trees.specs.declared.anchor.Anchor.{Anchor}
 use Rattle.syntax_trees.specs.declared.anchor.Ident.{Ident}
 use Rattle.syntax_trees.specs.declared.data_type.DataType.{DataType}
+use Rattle.syntax_trees.specs.declared.data_type.TypeName.{TypeName}
 use Rattle.syntax_trees.specs.declared.data_type.TypeName.TheVariants as type
 use Rattle.syntax_trees.specs.declared.expr.Expr.{Expr}
+use Rattle.syntax_trees.specs.declared.expr.Operation.{Operation}
 use Rattle.syntax_trees.specs.declared.statement.Column.{Column}
 use Rattle.syntax_trees.specs.declared.statement.Parameter.{Parameter}
-use Rattle.token_grammar.specs.Grammar.{Grammar, nested}
-use Rattle.token_grammar.specs.Notation.{word, name, ◌or◌, ◌=>◌, name_of}
+use Rattle.token_grammar.specs.Grammar.{Grammar, token, nested}
+use Rattle.token_grammar.specs.Notation.{word, name, number, ◌~◌, ◌or◌, ◌=>◌, name_of, number_of}
 
--- what stands between two brackets
+-- what stands in a construct
 pub data Rule : Type 0 where
+  -- between two brackets: a table's columns; a function's parameters; the length of VARCHAR; the
+  -- arguments of a call; one expression or more; one expression; the operands of a word
   Columns : Rule
   Parameters : Rule
+  Length : Rule
   Arguments : Rule
-  RowValues : Rule
+  Exprs : Rule
   Bracketed : Rule
+  Operands : FunctionWord → Rule
+  -- between CASE and END
+  Cases : Rule
 
 abbrev pub Tree : Rule → Type 0
 Tree Columns = List Column
 Tree Parameters = List Parameter
+Tree Length = Anchor × ℤ
 Tree Arguments = List Expr
-Tree RowValues = List Expr
+Tree Exprs = List Expr
 Tree Bracketed = Expr
+Tree (Operands f) = Operation × List Expr
+Tree Cases = Operation × List Expr
 
 abbrev pub G : Type 0 → Type 1
 G A = Grammar Rule Tree A
@@ -46,14 +59,35 @@ if_any (Some xs) = xs
 abbrev pub only : {A : Type 0} → A → List A
 only x = x ∷ []
 
+-- a list of at most one
+abbrev pub if_one : {A : Type 0} → Option A → List A
+if_one None = []
+if_one (Some x) = only x
+
+-- one of these tokens: what it stands for, and where it stands
+abbrev pub choice : {A : Type 0} → Kind × A → List (Kind × A) → G (A × Anchor)
+choice p [] = (λ t. (p.1, anchor_of t)) => token p.0
+choice p (q ∷ more) = ((λ t. (p.1, anchor_of t)) => token p.0) or choice q more
+
+-- '(' rule ')'
 unfoldable pub bracketed : (r : Rule) → G (Tree r)
 bracketed r = (λ p. p.1) => nested (kind.Sign s.LeftParen) r (kind.Sign s.RightParen)
 
 unfoldable pub ident : G Ident
 ident = ident_of => name
 
-abbrev pub integer : Token → DataType
-integer t = record { anchor = anchor_of t; name = type.Integer }
+-- the number of VARCHAR, with its token
+unfoldable pub varchar_length : G (Anchor × ℤ)
+varchar_length = (λ t. (anchor_of t, number_of t.lexeme)) => number
 
+-- a type of no length
+unfoldable pub plain_type : G (TypeName × Anchor)
+plain_type = choice (kind.Word w.Integer, type.Integer) ((kind.Word w.Int, type.Integer) ∷ (kind.Word w.Boolean, type.Boolean) ∷ [])
+
+-- VARCHAR '(' number ')'
+unfoldable pub varchar : G (TypeName × Anchor)
+varchar = (λ p. (type.Varchar p.1.0 p.1.1, anchor_of p.0)) => word w.Varchar ~ bracketed Length
+
+-- type := INTEGER | INT | BOOLEAN | VARCHAR '(' number ')'
 unfoldable pub data_type : G DataType
-data_type = integer => word w.Integer or integer => word w.Int
+data_type = (λ p. record { anchor = p.1; name = p.0 }) => (plain_type or varchar)

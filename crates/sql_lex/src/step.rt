@@ -154,23 +154,23 @@ fn characters_in(text: &str) -> usize
 }
 
 // The text of these characters, where they are within the limit.
-fn text_within(characters: String) -> Option<Text>
-    ensures { result ≡ text_within_limit (chars (string_bytes characters)) }
+fn text_within(alloc: Global, characters: String) -> Result<Option<Text>, NoMemory>
+    ensures { IfOk result (λ t. t ≡ text_within_limit (chars (string_bytes characters))) }
 {
     if characters_in(&characters) > MOST_TEXT {
-        None
+        Ok(None)
     } else {
-        Some(Text::of(characters))
+        Ok(Some(Text::of(alloc, characters)?))
     }
 }
 
 // The text of these bytes, where they are UTF-8 and within the limit.
-fn text_of(bytes: Vec<u8>) -> Option<Text>
-    ensures { result ≡ text_of_bytes bytes.items }
+fn text_of(alloc: Global, bytes: Vec<u8>) -> Result<Option<Text>, NoMemory>
+    ensures { IfOk result (λ t. t ≡ text_of_bytes bytes.items) }
 {
     match String::from_utf8(bytes) {
-        Ok(characters) => text_within(characters),
-        Err(_not_utf8) => None,
+        Ok(characters) => text_within(alloc, characters),
+        Err(_not_utf8) => Ok(None),
     }
 }
 
@@ -182,7 +182,7 @@ fn text(alloc: Global, bytes: &[u8]) -> Result<Step, NoMemory>
     let mut text = Vec::new(alloc);
     match unquoted(&bytes[1..], &mut text)? {
         None => Ok(Step::Bad),
-        Some(width) => Ok(text_token(text_of(text), 1 + width)),
+        Some(width) => Ok(text_token(text_of(alloc, text)?, 1 + width)),
     }
 }
 

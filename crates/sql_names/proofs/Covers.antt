@@ -1,5 +1,5 @@
 -- The calls of an expression without faults: they are what it uses, and each fits the catalog.
-use Rattle.std.proofs.Common.{◌≡◌, refl, ap, ◌∙◌, arith, ℕ, ◌<◌, max, Bool, true, false, not, List, [], ◌∷◌, ◌++◌, length, Option, Some, None, ◌==◌}
+use Rattle.std.proofs.Common.{◌≡◌, refl, sym, ap, ◌∙◌, arith, ℕ, ◌<◌, max, Bool, true, false, not, List, [], ◌∷◌, ◌++◌, length, Option, Some, None, ◌==◌}
 use Rattle.std.proofs.lemmas.Bool.Decides.{nat_tests}
 use Rattle.std.proofs.lemmas.List.{map-append}
 use Rattle.syntax_trees.specs.declared.anchor.Anchor.{Anchor}
@@ -7,7 +7,8 @@ use Rattle.catalog_store.specs.Catalog.{Function, Object, TableObject, FunctionO
 use Rattle.catalog_store.specs.Calls.{CallPlace, AllFit, names_called}
 use Rattle.name_faults.specs.declared.fault.FaultKind.{FaultKind}
 use Rattle.name_faults.specs.Faults.{fault_if}
-use Rattle.sql_names.specs.Names.{arity_of, arity}
+use Rattle.catalog_store.specs.declared.entry.Head.{Head}
+use Rattle.sql_names.specs.Names.{head_in, head_named}
 use Rattle.sql_names.specs.Statements.{height_of, height_named, greatest_height}
 
 -- the calls name what is used, and fit below each height above that
@@ -54,16 +55,16 @@ module _ (known : Catalog) where
   abbrev Stands : List ℕ → ℕ → Type 0
   Stands name arguments = (f : Function) × (object_named name known ≡ Some (FunctionObject f)) × (length f.parameters ≡ arguments)
 
-  stands : (name : List ℕ) (arguments : ℕ) (o : Option Object) → object_named name known ≡ o → arity_of o ≡ Some arguments → Stands name arguments
-  stands name arguments None is p = absurd cc
-  stands name arguments (Some (TableObject t)) is p = absurd cc
-  stands name arguments (Some (FunctionObject f)) is p = (f, is, cc)
+  stands : (name : List ℕ) (h : Head) (o : Option Object) → object_named name known ≡ o → head_in o ≡ Some h → Stands name (length h.parameters)
+  stands name h None is p = absurd cc
+  stands name h (Some (TableObject t)) is p = absurd cc
+  stands name h (Some (FunctionObject f)) is p = let same : f.parameters ≡ h.parameters = cc in (f, is, ap (λ ps. length ps) same)
 
-  pub covers-call : (name : List ℕ) (arguments : ℕ) (u : List (List ℕ)) (c : List CallPlace) → arity name known ≡ Some arguments → Covers known u c
-      → Covers known (name ∷ u) (record { name = name; arguments = arguments } ∷ c)
-  covers-call name arguments u c p q =
-      let f = stands name arguments (object_named name known) refl p in
+  pub covers-call : (name : List ℕ) (h : Head) (arguments : ℕ) (u : List (List ℕ)) (c : List CallPlace) → head_named name known ≡ Some h → arguments ≡ length h.parameters
+      → Covers known u c → Covers known (name ∷ u) (record { name = name; arguments = arguments } ∷ c)
+  covers-call name h arguments u c p n q =
+      let f = stands name h (object_named name known) refl p in
       let lower : height_named known name ≡ f.0.height = ap height_of f.1 in (
         ap (λ z. name ∷ z) q.0,
-        λ height h. (record { function = f.0; stands = f.1; arguments = f.2; lower = omega (arith, lower, h) }, q.1 height (omega (arith, h))),
+        λ height k. (record { function = f.0; stands = f.1; arguments = f.2 ∙ sym n; lower = omega (arith, lower, k) }, q.1 height (omega (arith, k))),
       )

@@ -8,22 +8,29 @@ use Rattle.syntax_trees.specs.declared.anchor.Ident.{Ident}
 use Rattle.syntax_trees.specs.declared.statement.Column.{Column}
 use Rattle.syntax_trees.specs.declared.statement.CreateTable.{CreateTable}
 use Rattle.syntax_trees.specs.declared.statement.CreateFunction.{CreateFunction}
+use Rattle.syntax_trees.specs.declared.statement.Insert.{Insert}
 use Rattle.syntax_trees.specs.declared.statement.Stmt.{Stmt}
 use Rattle.syntax_trees.specs.declared.statement.Stmt.TheVariants as stmt
 use Rattle.name_faults.proofs.Laws.{is_free}
 use Rattle.sql_names.specs.declared.statement.BoundStmt.{BoundStmt}
 use Rattle.row_types.specs.Rows.{has_key_columns}
+use Rattle.row_types.specs.declared.RowType.{RowType}
+use Rattle.rel_algebra.specs.Plain.{planned}
 use Rattle.catalog_store.specs.Catalog.{Object, Catalog, object_named}
 use Rattle.catalog_store.specs.Entries.{ObjectFits}
+use Rattle.catalog_store.specs.Planning.{AllPlanned}
+use Rattle.catalog_store.specs.View.{query_of}
 use Rattle.name_faults.specs.Faults.{noted}
 use Rattle.name_faults.specs.declared.fault.FaultKind.TheVariants.{DuplicateName, TooHigh}
 use Rattle.sql_names.specs.declared.function.TheConstants.{MOST_HEIGHT}
-use Rattle.sql_names.specs.Sight.{in_function, parameter_names}
+use Rattle.sql_names.specs.Sight.{in_function, parameters_of, at_top}
 use Rattle.sql_names.specs.Names.{judge}
-use Rattle.sql_names.specs.Statements.{judged_statement, taken_name, column_faults, parameter_faults, is_key, key_of, column_type, judged_table, judged_function, height_above, greatest_height, too_high}
-use Rattle.sql_names.specs.Binds.{FaultlessFits, CreateFits}
+use Rattle.sql_names.specs.Statements.{judged_statement, taken_name, column_faults, parameter_faults, is_key, key_of, column_type, judged_table, judged_function, result_faults, height_above, greatest_height, too_high, targets, table_faults, insert_into}
+use Rattle.sql_names.specs.Queries.{table_named, judge_query}
+use Rattle.sql_names.specs.Binds.{FaultlessFits, StatementFits}
 use Rattle.sql_names.proofs.Covers.{front_nil, back_nil, no_fault}
 use Rattle.sql_names.proofs.Fitting.{fitting}
+use Rattle.sql_names.proofs.Asked.{query_planned}
 
 none : (o : Option Object) → is_some o ≡ false → o ≡ None
 none None p = refl
@@ -52,22 +59,29 @@ low_enough n p = grind (arith, nat_tests)
 
 function-fits : (s : CreateFunction) (catalog : Catalog) → (judged_function s catalog).faults ≡ [] → (object_named s.name.name catalog ≡ None) × ObjectFits catalog (judged_function s catalog).value
 function-fits s catalog p =
-    let seen = in_function (parameter_names s.parameters) catalog in
+    let seen = in_function (parameters_of s.parameters) catalog in
     let body = judge s.result seen in
     let called = greatest_height catalog body.uses in
     let heads = taken_name s.name catalog ++ parameter_faults s in
-    let rest = back_nil heads (body.faults ++ too_high s.name called) p in
-    let covers = fitting s.result seen (front_nil body.faults (too_high s.name called) rest) in
-    let low = no_fault (nat_lt MOST_HEIGHT (called + 1)) TooHigh s.name.anchor (back_nil body.faults (too_high s.name called) rest) in (
-      free s.name catalog (front_nil (taken_name s.name catalog) (parameter_faults s) (front_nil heads (body.faults ++ too_high s.name called) p)),
+    let result = result_faults s body.value.head in
+    let rest = back_nil heads (body.faults ++ (result ++ too_high s.name called)) p in
+    let covers = fitting s.result seen (front_nil body.faults (result ++ too_high s.name called) rest) in
+    let asked = back_nil body.faults (result ++ too_high s.name called) rest in
+    let low = no_fault (nat_lt MOST_HEIGHT (called + 1)) TooHigh s.name.anchor (back_nil result (too_high s.name called) asked) in (
+      free s.name catalog (front_nil (taken_name s.name catalog) (parameter_faults s) (front_nil heads (body.faults ++ (result ++ too_high s.name called)) p)),
       record { calls = covers.1 (height_above called) (low_enough called low); uses = sym covers.0 },
     )
 
-pub faultless-fits : FaultlessFits
-faultless-fits (stmt.CreateTable s) catalog p = table-fits s catalog p
-faultless-fits (stmt.CreateFunction s) catalog p = function-fits s catalog p
-faultless-fits (stmt.Insert s) catalog p = tt
-faultless-fits (stmt.Query q) catalog p = tt
+insert-fits : (s : Insert) (catalog : Catalog) (t : Option RowType) → AllPlanned catalog → (insert_into s t catalog).faults ≡ [] → planned (query_of catalog (insert_into s t catalog).value.source) ≡ true
+insert-fits s catalog t all p =
+    query_planned catalog all (targets t) s.source (at_top catalog) (back_nil (table_faults s t) (judge_query (targets t) s.source (at_top catalog)).faults p)
 
-pub bound_fits : (s : Stmt) (catalog : Catalog) (b : BoundStmt) → b ≡ (judged_statement s catalog).value → noted None (judged_statement s catalog).faults ≡ None → CreateFits catalog b
-bound_fits s catalog b p q = subst (CreateFits catalog) (sym p) (faultless-fits s catalog (is_free (judged_statement s catalog).faults q))
+pub faultless-fits : FaultlessFits
+faultless-fits (stmt.CreateTable s) catalog all p = table-fits s catalog p
+faultless-fits (stmt.CreateFunction s) catalog all p = function-fits s catalog p
+faultless-fits (stmt.Insert s) catalog all p = insert-fits s catalog (table_named s.table.name catalog) all p
+faultless-fits (stmt.Query q) catalog all p = query_planned catalog all [] q (at_top catalog) p
+
+pub bound_fits : (s : Stmt) (catalog : Catalog) (b : BoundStmt) → b ≡ (judged_statement s catalog).value → noted None (judged_statement s catalog).faults ≡ None → AllPlanned catalog
+    → StatementFits catalog b
+bound_fits s catalog b p q all = subst (StatementFits catalog) (sym p) (faultless-fits s catalog all (is_free (judged_statement s catalog).faults q))

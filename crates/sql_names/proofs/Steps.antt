@@ -1,31 +1,36 @@
 -- One step of each loop over expressions, and the forms that have two parts, over plain variables.
-use Rattle.std.proofs.Common.{◌≡◌, refl, sym, ap, ◌∙◌, List, [], ◌∷◌, ◌++◌, append_assoc, Option, ℕ, ◌+◌, ◌<◌, suc, zero, Bool, map, take, drop, length, get_or, add-one}
+use Rattle.std.proofs.Common.{◌≡◌, refl, sym, ap, ap₂, ◌∙◌, List, [], ◌∷◌, ◌++◌, append_assoc, Option, ℕ, ◌+◌, ◌<◌, suc, zero, Bool, map, take, drop, length, get_or, add-one}
 use Rattle.std.specs.Prelude.{is_some}
+use Rattle.std.specs.List.{flat_map}
 use Rattle.std.proofs.Math.Seq.{drop-cons, take-suc}
 use Rattle.std.proofs.lemmas.List.{map-append}
-use Rattle.sql_values.specs.declared.operators.Comparison.{Comparison}
 use Rattle.syntax_trees.specs.declared.anchor.Anchor.{Anchor}
+use Rattle.syntax_trees.specs.declared.anchor.Ident.{Ident}
+use Rattle.syntax_trees.specs.declared.expr.ChainOperator.{ChainOperator}
 use Rattle.syntax_trees.specs.declared.expr.Expr.{Expr, fold-roll-Expr}
 use Rattle.syntax_trees.specs.declared.expr.Expr.TheOpen.{Expr-F}
-use Rattle.syntax_trees.specs.declared.expr.Expr.TheVariants.{rolls-Chain, rolls-Compare}
+use Rattle.syntax_trees.specs.declared.expr.Expr.TheVariants.{rolls-Chain}
 use Rattle.syntax_trees.specs.declared.expr.Expr.TheViews as tree
 use Rattle.syntax_trees.specs.declared.expr.Link.{Link, fold_out-Link}
-use Rattle.bound_trees.specs.declared.expr.BoundExpr.{BoundExpr}
-use Rattle.bound_trees.specs.declared.expr.BoundLink.{BoundLink}
-use Rattle.name_faults.specs.declared.notes.Notes.{Notes}
-use Rattle.std.specs.List.{flat_map}
-use Rattle.syntax_trees.specs.declared.anchor.Ident.{Ident}
 use Rattle.syntax_trees.specs.declared.query.ValueRow.{ValueRow}
+use Rattle.bound_trees.specs.declared.expr.BoundExpr.{BoundExpr}
 use Rattle.bound_trees.specs.declared.statement.BoundRow.{BoundRow}
+use Rattle.name_faults.specs.declared.notes.Notes.{Notes}
 use Rattle.name_faults.specs.declared.fault.Fault.{Fault}
 use Rattle.name_faults.specs.declared.fault.FaultKind.TheVariants.{DuplicateName}
 use Rattle.name_faults.specs.Faults.{Noted, noted, taken, behind, fault_if}
 use Rattle.name_faults.proofs.Laws.{noted_append, taken_behind}
-use Rattle.sql_names.specs.Queries.{judged_row, judged_rows}
+use Rattle.name_kinds.specs.declared.kind.Kind.{Kind}
+use Rattle.name_kinds.specs.declared.kind.Head.{Head as OperandHead}
+use Rattle.catalog_store.specs.declared.entry.Head.{Head}
+use Rattle.name_kinds.specs.Kinds.{joined_row}
+use Rattle.sql_names.specs.declared.typed.Typed.{Typed}
+use Rattle.sql_names.specs.declared.typed.Operands.{Operands}
+use Rattle.sql_names.specs.Queries.{row_of, judged_row, judged_rows}
 use Rattle.sql_names.specs.Statements.{again, repeated}
 use Rattle.sql_names.specs.Index.{place_of}
 use Rattle.sql_names.specs.Sight.{Seen}
-use Rattle.sql_names.specs.Names.{Judge, JudgedLink, judge, judged_link, judge_all, judge_links, expr_step, link_step, link_of, links_of}
+use Rattle.sql_names.specs.Names.{Judge, JudgedLink, inner, look, judge, judge_all, judge_links, judge_call, judged_link, judge_chain, expr_step, link_step, in_front, with_last, all_of, made, chained, chained_typed, asked_by_chain, called, call_head, call_typed, argument_faults, head_named}
 
 pub unrolled : {A : Type 0} (xs : List A) (i : ℕ) (x : A) → i < length xs → x ≡ get_or xs i x → drop i xs ≡ x ∷ drop (i + 1) xs
 unrolled xs i x h e = rw (drop-cons xs i x h) (rw add-one (ap (λ y. y ∷ drop (suc i) xs) (sym e)))
@@ -38,64 +43,115 @@ next n n1 n2 x y p q = q ∙ ap (λ m. taken m y) p ∙ taken_behind n x y
 pub pushed : {A : Type 0} (found more left : List A) (a b : A) → a ≡ b → more ≡ found ++ a ∷ [] → more ++ left ≡ found ++ (b ∷ left)
 pushed found more left a b p q = ap (λ z. z ++ left) (q ∙ ap (λ z. found ++ z ∷ []) p) ∙ append_assoc found (b ∷ []) left
 
-pub link-same : (l : Link) → judged_link l ≡ record { operator = l.operator; operand = judge l.operand }
+-- ---- operands
+
+abbrev pub appended : Operands → Operands → Operands
+appended a b = record { heads = a.heads ++ b.heads; trees = a.trees ++ b.trees }
+
+abbrev operands : List OperandHead → List BoundExpr → Operands
+operands hs ts = record { heads = hs; trees = ts }
+
+put-last : (so more left : Operands) (t u : Typed) → t ≡ u → more ≡ with_last so t → appended more left ≡ appended so (in_front u left)
+put-last so more left t u p q =
+    ap (λ z. appended z left) (q ∙ ap (with_last so) p)
+    ∙ ap₂ operands (append_assoc so.heads (u.head ∷ []) left.heads) (append_assoc so.trees (u.tree ∷ []) left.trees)
+
+module _ {X : Type 0} (g : X → Judge) (s : Seen) where
+  pub operands-value : (xs : List X) (i : ℕ) (x : X) (so more : Operands) (t : Typed) → i < length xs → x ≡ get_or xs i x → t ≡ (look (g x) s).value → more ≡ with_last so t
+      → appended more (all_of s (map g (drop (i + 1) xs))).value ≡ appended so (all_of s (map g (drop i xs))).value
+  operands-value xs i x so more t h is p q =
+      put-last so more (all_of s (map g (drop (i + 1) xs))).value t (look (g x) s).value p q ∙ ap (λ d. appended so (all_of s (map g d)).value) (sym (unrolled xs i x h is))
+
+  pub operands-notes : (xs : List X) (i : ℕ) (x : X) (n m : Notes) → i < length xs → x ≡ get_or xs i x → m ≡ taken n (look (g x) s)
+      → taken m (all_of s (map g (drop (i + 1) xs))) ≡ taken n (all_of s (map g (drop i xs)))
+  operands-notes xs i x n m h is p =
+      next n m _ (look (g x) s) (all_of s (map g (drop (i + 1) xs))) p refl ∙ ap (λ d. taken n (all_of s (map g d))) (sym (unrolled xs i x h is))
+
+-- ---- chains
+
+link-same : (l : Link) → judged_link l ≡ record { operator = l.operator; anchor = l.anchor; operand = inner l.operand }
 link-same l = fold_out-Link Judge JudgedLink expr_step link_step l
 
-module _ (s : Seen) where
-  pub all-value : (es : List Expr) (i : ℕ) (e : Expr) (found more : List BoundExpr) (t : BoundExpr) → i < length es → e ≡ get_or es i e
-      → t ≡ (judge e s).value → more ≡ found ++ t ∷ []
-      → more ++ (judge_all (drop (i + 1) es) s).value ≡ found ++ (judge_all (drop i es) s).value
-  all-value es i e found more t h is p q =
-      pushed found more (judge_all (drop (i + 1) es) s).value t (judge e s).value p q
-      ∙ ap (λ d. found ++ (judge_all d s).value) (sym (unrolled es i e h is))
+mapped : {A : Type 0} (f : JudgedLink → A) (g : Link → A) → ((l : Link) → f (judged_link l) ≡ g l) → (ls : List Link) → map f (map judged_link ls) ≡ map g ls
+mapped f g same [] = refl
+mapped f g same (l ∷ ls) = ap₂ (λ x xs. x ∷ xs) (same l) (mapped f g same ls)
 
-  pub all-notes : (es : List Expr) (i : ℕ) (e : Expr) (n n' : Notes) → i < length es → e ≡ get_or es i e → n' ≡ taken n (judge e s)
-      → taken n' (judge_all (drop (i + 1) es) s) ≡ taken n (judge_all (drop i es) s)
-  all-notes es i e n n' h is p =
-      next n n' _ (judge e s) (judge_all (drop (i + 1) es) s) p refl ∙ ap (λ d. taken n (judge_all d s)) (sym (unrolled es i e h is))
+pub chain_whole : (e first : Expr) (ls : List Link) (s : Seen) → e ≡ tree.Chain first ls → inner e s ≡ judge_chain first ls s
+chain_whole e first ls s is =
+    ap (λ x. inner x s) (is ∙ sym (rolls-Chain first ls))
+    ∙ ap (λ (j : Judge). j s) (fold-roll-Expr Judge JudgedLink expr_step link_step (Expr-F.Chain first ls))
+    ∙ ap (λ os. chain os (map (λ l. l.anchor) (map judged_link ls)) (map (λ l. l.operand) (map judged_link ls)))
+    (mapped (λ l. l.operator) (λ l. l.operator) (λ l. ap (λ (k : JudgedLink). k.operator) (link-same l)) ls)
+    ∙ ap (λ ats. chain (map (λ l. l.operator) ls) ats (map (λ l. l.operand) (map judged_link ls)))
+    (mapped (λ l. l.anchor) (λ l. l.anchor) (λ l. ap (λ (k : JudgedLink). k.anchor) (link-same l)) ls)
+    ∙ ap (λ js. chain (map (λ l. l.operator) ls) (map (λ l. l.anchor) ls) js)
+    (mapped (λ l. l.operand) (λ l. inner l.operand) (λ l. ap (λ (k : JudgedLink). k.operand) (link-same l)) ls)
+  where
+    chain : List ChainOperator → List Anchor → List Judge → Noted Typed
+    chain os ats js = chained os ats (look (inner first) s) (all_of s js)
 
-  links-unrolled : (ls : List Link) (i : ℕ) (l : Link) → i < length ls → l ≡ get_or ls i l
-      → map judged_link (drop i ls) ≡ record { operator = l.operator; operand = judge l.operand } ∷ map judged_link (drop (i + 1) ls)
-  links-unrolled ls i l h is = ap (map judged_link) (unrolled ls i l h is) ∙ ap (λ j. j ∷ map judged_link (drop (i + 1) ls)) (link-same l)
+abbrev operators : List Link → List ChainOperator
+operators ls = map (λ l. l.operator) ls
 
-  pub links-value : (ls : List Link) (i : ℕ) (l : Link) (found more : List BoundLink) (t : BoundExpr) → i < length ls → l ≡ get_or ls i l
-      → t ≡ (judge l.operand s).value → more ≡ found ++ link_of l.operator t ∷ []
-      → more ++ (judge_links (drop (i + 1) ls) s).value ≡ found ++ (judge_links (drop i ls) s).value
-  links-value ls i l found more t h is p q =
-      pushed found more (judge_links (drop (i + 1) ls) s).value (link_of l.operator t) (link_of l.operator (judge l.operand s).value) (ap (link_of l.operator) p) q
-      ∙ ap (λ d. found ++ (links_of s d).value) (sym (links-unrolled ls i l h is))
+abbrev places : List Link → List Anchor
+places ls = map (λ l. l.anchor) ls
 
-  pub links-notes : (ls : List Link) (i : ℕ) (l : Link) (n n' : Notes) → i < length ls → l ≡ get_or ls i l → n' ≡ taken n (judge l.operand s)
-      → taken n' (judge_links (drop (i + 1) ls) s) ≡ taken n (judge_links (drop i ls) s)
-  links-notes ls i l n n' h is p =
-      next n n' _ (judge l.operand s) (judge_links (drop (i + 1) ls) s) p refl ∙ ap (λ d. taken n (links_of s d)) (sym (links-unrolled ls i l h is))
+pub chain_value : (s : Seen) (e first : Expr) (ls : List Link) (t result : Typed) (others : Operands) → e ≡ tree.Chain first ls
+    → t ≡ (judge first s).value → others ≡ (judge_links ls s).value → result ≡ chained_typed (operators ls) (places ls) t others → result ≡ (inner e s).value
+chain_value s e first ls t result others is p q r =
+    r ∙ ap₂ (chained_typed (operators ls) (places ls)) p q ∙ ap (λ (x : Noted Typed). x.value) (sym (chain_whole e first ls s is))
 
-  chain-layer : (e first : Expr) (ls : List Link) → e ≡ tree.Chain first ls → judge e ≡ expr_step (Expr-F.Chain (judge first) (map judged_link ls))
-  chain-layer e first ls is = ap judge (is ∙ sym (rolls-Chain first ls)) ∙ fold-roll-Expr Judge JudgedLink expr_step link_step (Expr-F.Chain first ls)
+-- ---- what is asked of operands, noted behind them
 
-  compare-layer : (e : Expr) (at : Anchor) (c : Comparison) (a b : Expr) → e ≡ tree.Compare at c a b → judge e ≡ expr_step (Expr-F.Compare at c (judge a) (judge b))
-  compare-layer e at c a b is = ap judge (is ∙ sym (rolls-Compare at c a b)) ∙ fold-roll-Expr Judge JudgedLink expr_step link_step (Expr-F.Compare at c a b)
+abbrev notes_of : Option Fault → List (List ℕ) → Notes
+notes_of least uses = record { least = least; uses = uses }
 
-  pub chain-notes : (e first : Expr) (ls : List Link) (n n1 n2 : Notes) → e ≡ tree.Chain first ls
-      → n1 ≡ taken n (judge first s) → n2 ≡ taken n1 (judge_links ls s) → n2 ≡ taken n (judge e s)
-  chain-notes e first ls n n1 n2 is p q = next n n1 n2 (judge first s) (judge_links ls s) p q ∙ ap (λ (j : Judge). taken n (j s)) (sym (chain-layer e first ls is))
+made_notes : (n m : Notes) (l : Option Fault) (so : Noted Operands) (os : Operands) (value : Operands → Typed) (faults : Operands → List Fault) → m ≡ taken n so → os ≡ so.value
+    → l ≡ noted m.least (faults os) → record { least = l; uses = m.uses } ≡ taken n (made value faults so)
+made_notes n m l so os value faults p q r =
+    let least : l ≡ noted n.least (so.faults ++ faults so.value) =
+    r ∙ ap₂ (λ (k : Notes) (o : Operands). noted k.least (faults o)) p q ∙ sym (noted_append n.least so.faults (faults so.value)) in
+    let uses : m.uses ≡ n.uses ++ so.uses = ap (λ (k : Notes). k.uses) p in
+    ap₂ notes_of least uses
 
-  pub compare-notes : (e : Expr) (at : Anchor) (c : Comparison) (a b : Expr) (n n1 n2 : Notes) → e ≡ tree.Compare at c a b
-      → n1 ≡ taken n (judge a s) → n2 ≡ taken n1 (judge b s) → n2 ≡ taken n (judge e s)
-  compare-notes e at c a b n n1 n2 is p q = next n n1 n2 (judge a s) (judge b s) p q ∙ ap (λ (j : Judge). taken n (j s)) (sym (compare-layer e at c a b is))
+pub call_notes : (s : Seen) (i : Ident) (es : List Expr) (f : Option Head) (n n1 n2 : Notes) (l : Option Fault) (args : Operands)
+    → f ≡ head_named i.name s.catalog → n1 ≡ taken n (call_head i (length es) f) → n2 ≡ taken n1 (judge_all es s) → args ≡ (judge_all es s).value
+    → l ≡ noted n2.least (argument_faults f args.heads) → record { least = l; uses = n2.uses } ≡ taken n (judge_call i es s)
+call_notes s i es f n n1 n2 l args is p q v r =
+    next n n1 _ (call_head i (length es) f) (made (call_typed i f) (λ o. argument_faults f o.heads) (judge_all es s)) p
+    (made_notes n1 n2 l (judge_all es s) args (call_typed i f) (λ o. argument_faults f o.heads) q v r)
+    ∙ ap (λ g. taken n (called i (length es) g (judge_all es s))) is
 
-module _ (s : Seen) (at : Anchor) (width : ℕ) where
-  pub rows-value : (rs : List ValueRow) (i : ℕ) (r : ValueRow) (found more : List BoundRow) (t : BoundRow) → i < length rs → r ≡ get_or rs i r
-      → t ≡ (judged_row at width s r).value → more ≡ found ++ t ∷ []
-      → more ++ (judged_rows at width s (drop (i + 1) rs)).value ≡ found ++ (judged_rows at width s (drop i rs)).value
-  rows-value rs i r found more t h is p q =
-      pushed found more (judged_rows at width s (drop (i + 1) rs)).value t (judged_row at width s r).value p q
-      ∙ ap (λ d. found ++ (judged_rows at width s d).value) (sym (unrolled rs i r h is))
+pub chain_notes : (s : Seen) (e first : Expr) (ls : List Link) (n n1 n2 : Notes) (l : Option Fault) (t : Typed) (others : Operands) → e ≡ tree.Chain first ls
+    → n1 ≡ taken n (judge first s) → t ≡ (judge first s).value → n2 ≡ taken n1 (judge_links ls s) → others ≡ (judge_links ls s).value
+    → l ≡ noted n2.least (asked_by_chain (operators ls) (places ls) t others) → record { least = l; uses = n2.uses } ≡ taken n (inner e s)
+chain_notes s e first ls n n1 n2 l t others is p v q w r =
+    let value = chained_typed (operators ls) (places ls) (judge first s).value in
+    let asked = asked_by_chain (operators ls) (places ls) (judge first s).value in
+    next n n1 _ (judge first s) (made value asked (judge_links ls s)) p
+    (made_notes n1 n2 l (judge_links ls s) others value asked q w (r ∙ ap (λ z. noted n2.least (asked_by_chain (operators ls) (places ls) z others)) v))
+    ∙ ap (λ x. taken n x) (sym (chain_whole e first ls s is))
 
-  pub rows-notes : (rs : List ValueRow) (i : ℕ) (r : ValueRow) (n n' : Notes) → i < length rs → r ≡ get_or rs i r → n' ≡ taken n (judged_row at width s r)
-      → taken n' (judged_rows at width s (drop (i + 1) rs)) ≡ taken n (judged_rows at width s (drop i rs))
-  rows-notes rs i r n n' h is p =
-      next n n' _ (judged_row at width s r) (judged_rows at width s (drop (i + 1) rs)) p refl ∙ ap (λ d. taken n (judged_rows at width s d)) (sym (unrolled rs i r h is))
+-- ---- rows of VALUES
+
+module _ (s : Seen) (at : Anchor) (targets : List Kind) where
+  pub rows-value : (rs : List ValueRow) (i : ℕ) (r : ValueRow) (ks more-kinds : List Kind) (found more : List BoundRow) (o : Operands) → i < length rs → r ≡ get_or rs i r
+      → o ≡ (judged_row at targets s ks r).value → more-kinds ≡ joined_row ks o.heads → more ≡ found ++ row_of o.trees ∷ []
+      → more ++ (judged_rows at targets s (drop (i + 1) rs) more-kinds).value ≡ found ++ (judged_rows at targets s (drop i rs) ks).value
+  rows-value rs i r ks more-kinds found more o h is p k q =
+      let row = judged_row at targets s ks r in
+      pushed found more (judged_rows at targets s (drop (i + 1) rs) more-kinds).value (row_of o.trees) (row_of row.value.trees) (ap (λ (z : Operands). row_of z.trees) p) q
+      ∙ ap (λ z. found ++ (row_of row.value.trees ∷ (judged_rows at targets s (drop (i + 1) rs) z).value)) (k ∙ ap (λ (z : Operands). joined_row ks z.heads) p)
+      ∙ ap (λ d. found ++ (judged_rows at targets s d ks).value) (sym (unrolled rs i r h is))
+
+  pub rows-notes : (rs : List ValueRow) (i : ℕ) (r : ValueRow) (ks more-kinds : List Kind) (n m : Notes) (o : Operands) → i < length rs → r ≡ get_or rs i r
+      → o ≡ (judged_row at targets s ks r).value → more-kinds ≡ joined_row ks o.heads → m ≡ taken n (judged_row at targets s ks r)
+      → taken m (judged_rows at targets s (drop (i + 1) rs) more-kinds) ≡ taken n (judged_rows at targets s (drop i rs) ks)
+  rows-notes rs i r ks more-kinds n m o h is p k q =
+      let row = judged_row at targets s ks r in
+      ap (λ z. taken m (judged_rows at targets s (drop (i + 1) rs) z)) (k ∙ ap (λ (z : Operands). joined_row ks z.heads) p)
+      ∙ next n m _ row (judged_rows at targets s (drop (i + 1) rs) (joined_row ks row.value.heads)) q refl
+      ∙ ap (λ d. taken n (judged_rows at targets s d ks)) (sym (unrolled rs i r h is))
 
 -- names that earlier ones have
 taken-more : {X Y : Type 0} (g : X → Y) (xs : List X) (i : ℕ) (x : X) → i < length xs → x ≡ get_or xs i x → map g (take (i + 1) xs) ≡ map g (take i xs) ++ g x ∷ []

@@ -1,8 +1,8 @@
 pub mod Index
 pub mod Sight
 pub mod Names
-pub mod Places
 pub mod Queries
 pub mod Statements
 pub mod Binds
+pub mod Written
 pub mod Examples

@@ -5,9 +5,6 @@ use Rattle.std.specs.Prelude.{ℕ, ◌+◌, ◌==◌, nat_lt, min, max, Bool, tr
 use Rattle.std.specs.List.{list_any, flat_map}
 use Rattle.syntax_trees.specs.declared.anchor.Anchor.{Anchor}
 use Rattle.syntax_trees.specs.declared.anchor.Ident.{Ident}
-use Rattle.syntax_trees.specs.declared.data_type.DataType.{DataType}
-use Rattle.syntax_trees.specs.declared.data_type.TypeName.{TypeName}
-use Rattle.syntax_trees.specs.declared.data_type.TypeName.TheVariants as written
 use Rattle.syntax_trees.specs.declared.statement.Insert.{Insert}
 use Rattle.syntax_trees.specs.declared.statement.Column.{Column}
 use Rattle.syntax_trees.specs.declared.statement.Constraint.{Constraint}
@@ -16,8 +13,6 @@ use Rattle.syntax_trees.specs.declared.statement.CreateTable.{CreateTable}
 use Rattle.syntax_trees.specs.declared.statement.CreateFunction.{CreateFunction}
 use Rattle.syntax_trees.specs.declared.statement.Stmt.{Stmt}
 use Rattle.syntax_trees.specs.declared.statement.Stmt.TheVariants as stmt
-use Rattle.sql_values.specs.declared.value.SqlType.{SqlType}
-use Rattle.sql_values.specs.declared.value.SqlType.TheVariants.{Integer}
 use Rattle.row_types.specs.declared.ColumnType.{ColumnType}
 use Rattle.row_types.specs.declared.RowType.{RowType}
 use Rattle.bound_trees.specs.declared.expr.BoundExpr.{BoundExpr}
@@ -32,7 +27,12 @@ use Rattle.sql_names.specs.declared.function.TheConstants.{MOST_HEIGHT}
 use Rattle.sql_names.specs.declared.statement.BoundStmt.{BoundStmt}
 use Rattle.sql_names.specs.declared.statement.BoundStmt.TheVariants as bound
 use Rattle.sql_names.specs.Index.{place_of}
-use Rattle.sql_names.specs.Sight.{parameter_names, in_function, at_top}
+use Rattle.name_kinds.specs.declared.kind.Kind.{Kind}
+use Rattle.name_kinds.specs.declared.kind.Head.{Head}
+use Rattle.name_kinds.specs.Types.{type_of, type_faults}
+use Rattle.name_kinds.specs.Kinds.{kind_of_type, misfit}
+use Rattle.sql_names.specs.declared.typed.Typed.{Typed}
+use Rattle.sql_names.specs.Sight.{column_kinds, parameters_of, in_function, at_top}
 use Rattle.sql_names.specs.Names.{judge}
 use Rattle.sql_names.specs.Queries.{table_named, unknown_table, judge_query, width, anchor_of_query}
 
@@ -46,9 +46,16 @@ wrong_width s (Some t) = fault_if (not (width s.source == length t.columns)) Wro
 abbrev pub table_faults : Insert → Option RowType → List Fault
 table_faults s t = unknown_table s.table t ++ wrong_width s t
 
+-- the kinds of the columns into which values are stored
+abbrev pub targets : Option RowType → List Kind
+targets None = []
+targets (Some t) = column_kinds t.columns
+
+abbrev pub insert_into : Insert → Option RowType → Catalog → Noted BoundInsert
+insert_into s t catalog = table_faults s t >> as_value (λ q. record { table = s.table.name; source = q }) (judge_query (targets t) s.source (at_top catalog))
+
 abbrev pub judged_insert : Insert → Catalog → Noted BoundInsert
-judged_insert s catalog =
-    table_faults s (table_named s.table.name catalog) >> as_value (λ q. record { table = s.table.name; source = q }) (judge_query s.source (at_top catalog))
+judged_insert s catalog = insert_into s (table_named s.table.name catalog) catalog
 
 -- ---- names
 
@@ -64,12 +71,6 @@ repeated earlier (i ∷ is) = again earlier i ++ repeated (earlier ++ i.name ∷
 -- a new name that stands for something
 abbrev pub taken_name : Ident → Catalog → List Fault
 taken_name i catalog = fault_if (is_some (object_named i.name catalog)) DuplicateName i.anchor
-
-abbrev pub type_named : TypeName → SqlType
-type_named written.Integer = Integer
-
-abbrev pub type_of : DataType → SqlType
-type_of t = type_named t.name
 
 -- ---- CREATE TABLE
 
@@ -115,7 +116,8 @@ abbrev pub row_type : List Column → RowType
 row_type cs = record { columns = map column_type cs; key = key_of (position is_key cs) }
 
 abbrev pub column_faults : CreateTable → List Fault
-column_faults s = repeated [] (map (λ c. c.name) s.columns) ++ key_faults s.name (key_places s.columns)
+column_faults s =
+    repeated [] (map (λ c. c.name) s.columns) ++ (flat_map (λ c. type_faults c.data_type) s.columns ++ key_faults s.name (key_places s.columns))
 
 abbrev pub judged_table : CreateTable → Catalog → Noted NewObject
 judged_table s catalog = taken_name s.name catalog ++ column_faults s >> give (new.Table (row_type s.columns))
@@ -146,27 +148,32 @@ abbrev pub function_of : CreateFunction → ℕ → List (List ℕ) → BoundExp
 function_of s called uses body = new.Function (record {
   head = record { parameters = map (λ p. type_of p.data_type) s.parameters; returns = type_of s.returns; height = height_above called; uses = uses };
   body = body;
+  plan = None;
 })
 
+-- the result is of the kind of the type that is returned
+abbrev pub result_faults : CreateFunction → Head → List Fault
+result_faults s h = misfit (kind_of_type (type_of s.returns)) h
+
 -- the function of a body that is judged, with the height that it calls
-abbrev pub function_at : CreateFunction → ℕ → Noted BoundExpr → Noted NewObject
+abbrev pub function_at : CreateFunction → ℕ → Noted Typed → Noted NewObject
 function_at s called body = record {
-  value = function_of s called body.uses body.value;
-  faults = body.faults ++ too_high s.name called;
+  value = function_of s called body.uses body.value.tree;
+  faults = body.faults ++ (result_faults s body.value.head ++ too_high s.name called);
   uses = body.uses;
 }
 
-abbrev pub function_with : CreateFunction → Catalog → Noted BoundExpr → Noted NewObject
+abbrev pub function_with : CreateFunction → Catalog → Noted Typed → Noted NewObject
 function_with s catalog body = function_at s (greatest_height catalog body.uses) body
 
 abbrev pub parameter_faults : CreateFunction → List Fault
-parameter_faults s = repeated [] (map (λ p. p.name) s.parameters)
+parameter_faults s = repeated [] (map (λ p. p.name) s.parameters) ++ (flat_map (λ p. type_faults p.data_type) s.parameters ++ type_faults s.returns)
 
 -- The parameters and the catalog's functions are in sight of the result. The function itself is
 -- not.
 abbrev pub judged_function : CreateFunction → Catalog → Noted NewObject
 judged_function s catalog =
-    taken_name s.name catalog ++ parameter_faults s >> function_with s catalog (judge s.result (in_function (parameter_names s.parameters) catalog))
+    taken_name s.name catalog ++ parameter_faults s >> function_with s catalog (judge s.result (in_function (parameters_of s.parameters) catalog))
 
 -- ---- statements
 
@@ -174,4 +181,4 @@ abbrev pub judged_statement : Stmt → Catalog → Noted BoundStmt
 judged_statement (stmt.CreateTable s) catalog = as_value (λ o. bound.Create s.name.name o) (judged_table s catalog)
 judged_statement (stmt.CreateFunction s) catalog = as_value (λ o. bound.Create s.name.name o) (judged_function s catalog)
 judged_statement (stmt.Insert s) catalog = as_value (λ b. bound.Insert b) (judged_insert s catalog)
-judged_statement (stmt.Query q) catalog = as_value (λ b. bound.Query b) (judge_query q (at_top catalog))
+judged_statement (stmt.Query q) catalog = as_value (λ b. bound.Query b) (judge_query [] q (at_top catalog))

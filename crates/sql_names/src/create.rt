@@ -1,7 +1,8 @@
 //! CREATE TABLE, and what both CREATE statements ask of names and types.
 
 ghost use Rattle.std.specs.Prelude.{◌≡◌, ◌++◌, [], map, position, IfOk, OnOk};
-ghost use Rattle.std.specs.List.{list_any};
+ghost use Rattle.std.specs.List.{list_any, flat_map};
+ghost use Rattle.name_kinds.specs.Types.{type_faults};
 ghost use Rattle.name_faults.specs.Faults.{noted};
 ghost use Rattle.sql_names.specs.Statements.{judged_table, repeated};
 ghost use Rattle.sql_names.specs.Statements as spec;
@@ -9,11 +10,12 @@ ghost use Rattle.sql_names.specs.Statements as spec;
 use crate::name_list::NameList;
 use catalog_store::{Catalog, Object};
 use name_faults::{Fault, FaultKind, note_if};
+use name_kinds::{note_type, type_of};
 use row_types::{ColumnType, RowType};
-use sql_values::{Name, NoMemory, SqlType};
+use sql_values::{Name, NoMemory};
 use sqlite_items::Items;
 use std::alloc::Global;
-use syntax_trees::{Anchor, Column, Constraint, CreateTable, DataType, Ident, TypeName};
+use syntax_trees::{Anchor, Column, Constraint, CreateTable, Ident};
 
 /// Whether what is to be made has a name that stands for something already.
 pub(crate) fn note_taken(ident: &Ident, catalog: &Catalog, least: &mut Option<Fault>)
@@ -26,15 +28,6 @@ pub(crate) fn note_taken(ident: &Ident, catalog: &Catalog, least: &mut Option<Fa
         ident.anchor,
         least,
     );
-}
-
-/// The type that is written.
-pub(crate) fn type_of(data_type: DataType) -> SqlType
-    ensures { result ≡ spec.type_of data_type }
-{
-    match data_type.name {
-        TypeName::Integer => SqlType::Integer,
-    }
 }
 
 fn is_not_null(constraint: Constraint) -> bool
@@ -136,6 +129,15 @@ fn note_keys(ident: &Ident, places: &[Anchor], least: &mut Option<Fault>)
     }
 }
 
+// The written types of the columns.
+fn note_types(columns: &[Column], least: &mut Option<Fault>)
+    ensures { least.new ≡ noted least.old (flat_map (λ c. type_faults c.data_type) columns.now) }
+{
+    for column in columns {
+        note_type(column.data_type, least);
+    }
+}
+
 // All that is asked of the columns.
 fn judge_columns(
     alloc: Global,
@@ -147,6 +149,7 @@ fn judge_columns(
     let columns = create.columns.as_slice();
     let names = NameList::of(alloc, column_names(alloc, columns)?)?;
     note_repeated(columns, &names, least);
+    note_types(columns, least);
     let places = key_places(alloc, columns)?;
     note_keys(&create.name, places.as_slice(), least);
     Ok(())

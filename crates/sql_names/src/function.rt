@@ -1,19 +1,24 @@
 //! CREATE FUNCTION.
 
-ghost use Rattle.std.specs.Prelude.{◌≡◌, [], map, IfOk, OnOk};
+ghost use Rattle.std.specs.Prelude.{◌≡◌, ◌++◌, [], map, IfOk, OnOk};
+ghost use Rattle.std.specs.List.{flat_map};
 ghost use Rattle.name_faults.specs.Faults.{noted};
+ghost use Rattle.name_kinds.specs.Types.{type_faults};
+ghost use Rattle.name_kinds.specs.Types.{type_of as written_type};
 ghost use Rattle.sql_names.specs.Names.{judge};
-ghost use Rattle.sql_names.specs.Sight.{in_function, parameter_names};
+ghost use Rattle.sql_names.specs.Sight.{in_function, parameter_names, parameter_kinds};
+ghost use Rattle.sql_names.specs.Sight as sight;
 ghost use Rattle.sql_names.specs.Statements.{judged_function, function_with, repeated};
 ghost use Rattle.sql_names.specs.Statements as spec;
 
-use crate::create::{note_taken, type_of};
+use crate::create::note_taken;
 use crate::expr::bind_expr;
 use crate::name_list::NameList;
-use crate::sight::Sight;
+use crate::sight::{Columns, Sight};
 use bound_trees::BoundExpr;
 use catalog_store::{Body, Catalog, Head, Object, RoutineRecord};
 use name_faults::{Fault, FaultKind, Notes, note_if};
+use name_kinds::{Kind, in_turn, kind_of_type, note_type, type_of};
 use sql_values::{Name, NoMemory, SqlType};
 use sqlite_items::Items;
 use std::alloc::Global;
@@ -25,6 +30,7 @@ pub const MOST_HEIGHT: u32 = 8;
 /// A function's result with its names resolved, and the functions that it uses.
 #[derive(Drop)]
 pub(crate) struct BoundBody {
+    pub(crate) head: name_kinds::Head,
     pub(crate) tree: BoundExpr,
     pub(crate) uses: Items<Name>,
 }
@@ -55,22 +61,46 @@ fn note_repeated(parameters: &[Parameter], names: &NameList, least: &mut Option<
     }
 }
 
-// The names of parameters. One that an earlier one has is a fault.
-fn names_of_parameters(
-    alloc: Global,
-    parameters: &[Parameter],
-    least: &mut Option<Fault>,
-) -> Result<NameList, NoMemory>
-    ensures names { IfOk result (λ l. l ≡ parameter_names parameters.now) }
-    ensures faults { OnOk result (least.new ≡ noted least.old (repeated [] (map (λ p. p.name) parameters.now))) }
+// The written types of the parameters.
+fn note_types(parameters: &[Parameter], least: &mut Option<Fault>)
+    ensures { least.new ≡ noted least.old (flat_map (λ p. type_faults p.data_type) parameters.now) }
 {
+    for parameter in parameters {
+        note_type(parameter.data_type, least);
+    }
+}
+
+// The kinds of parameters.
+fn kinds_of(alloc: Global, parameters: &[Parameter]) -> Result<Items<Kind>, NoMemory>
+    ensures { IfOk result (λ ks. ks ≡ parameter_kinds parameters.now) }
+{
+    let mut kinds = Items::new(alloc);
+    for parameter in parameters {
+        kinds.push(kind_of_type(type_of(parameter.data_type)))?;
+    }
+    Ok(kinds)
+}
+
+// The parameters. One of a name that an earlier one has is a fault, and so is a type out of range.
+fn parameters_of(
+    alloc: Global,
+    create: &CreateFunction,
+    least: &mut Option<Fault>,
+) -> Result<Columns, NoMemory>
+    ensures columns { IfOk result (λ l. l ≡ sight.parameters_of create.now.parameters) }
+    ensures faults { OnOk result (least.new ≡ noted least.old (spec.parameter_faults create.now)) }
+{
+    let parameters = create.parameters.as_slice();
     let names = NameList::of(alloc, copied_names(alloc, parameters)?)?;
     note_repeated(parameters, &names, least);
-    Ok(names)
+    note_types(parameters, least);
+    note_type(create.returns, least);
+    let kinds = kinds_of(alloc, parameters)?;
+    Ok(Columns { names, kinds })
 }
 
 fn parameter_types(alloc: Global, parameters: &[Parameter]) -> Result<Items<SqlType>, NoMemory>
-    ensures { IfOk result (λ ts. ts ≡ map (λ p. spec.type_of p.data_type) parameters.now) }
+    ensures { IfOk result (λ ts. ts ≡ map (λ p. written_type p.data_type) parameters.now) }
 {
     let mut types = Items::new(alloc);
     for parameter in parameters {
@@ -129,6 +159,7 @@ fn function(
     Ok(Object::Function(RoutineRecord {
         head,
         body: Body::shown(body.tree),
+        plan: None,
     }))
 }
 
@@ -136,48 +167,65 @@ fn function(
 fn bind_body(
     alloc: Global,
     create: &CreateFunction,
-    names: &NameList,
+    parameters: &Columns,
     catalog: &Catalog,
     least: &mut Option<Fault>,
 ) -> Result<BoundBody, NoMemory>
-    ensures tree { IfOk result (λ b. b.tree ≡ (judge create.now.result (in_function names.now catalog.now)).value) }
-    ensures uses { IfOk result (λ b. b.uses ≡ (judge create.now.result (in_function names.now catalog.now)).uses) }
-    ensures faults { OnOk result (least.new ≡ noted least.old (judge create.now.result (in_function names.now catalog.now)).faults) }
+    ensures head { IfOk result (λ b. b.head ≡ (judge create.now.result (in_function parameters.now catalog.now)).value.head) }
+    ensures tree { IfOk result (λ b. b.tree ≡ (judge create.now.result (in_function parameters.now catalog.now)).value.tree) }
+    ensures uses { IfOk result (λ b. b.uses ≡ (judge create.now.result (in_function parameters.now catalog.now)).uses) }
+    ensures faults { OnOk result (least.new ≡ noted least.old (judge create.now.result (in_function parameters.now catalog.now)).faults) }
 {
     let sight = Sight {
         levels: &[],
-        variables: names,
+        variables: parameters,
         catalog,
     };
     let mut notes = Notes::behind(alloc, *least);
-    let tree = bind_expr(alloc, &create.result, &sight, &mut notes)?;
+    let bound = bind_expr(alloc, &create.result, &sight, &mut notes)?;
     *least = notes.least;
     Ok(BoundBody {
-        tree,
+        head: bound.head,
+        tree: bound.tree,
         uses: notes.uses,
     })
 }
 
-// The function of its result, with the fault of its height noted.
+// The result is of the kind of the type that is returned, and the height is within the limit.
+fn note_result(
+    create: &CreateFunction,
+    head: name_kinds::Head,
+    called: u32,
+    least: &mut Option<Fault>,
+)
+    ensures { least.new ≡ noted least.old (spec.result_faults create.now head ++ spec.too_high create.now.name called) }
+{
+    let kinds = [kind_of_type(type_of(create.returns))];
+    in_turn(&kinds, &[head], least);
+    let too_high = called >= MOST_HEIGHT;
+    note_if(too_high, FaultKind::TooHigh, create.name.anchor, least);
+}
+
+// The function of its result, with the faults of the result and of its height noted.
 fn bind_result(
     alloc: Global,
     create: &CreateFunction,
-    names: &NameList,
+    parameters: &Columns,
     catalog: &Catalog,
     least: &mut Option<Fault>,
 ) -> Result<Object, NoMemory>
-    ensures value { IfOk result (λ o. o ≡ (function_with create.now catalog.now (judge create.now.result (in_function names.now catalog.now))).value) }
-    ensures faults { OnOk result (least.new ≡ noted least.old (function_with create.now catalog.now (judge create.now.result (in_function names.now catalog.now))).faults) }
+    ensures value { IfOk result (λ o. o ≡ (function_with create.now catalog.now (judge create.now.result (in_function parameters.now catalog.now))).value) }
+    ensures faults { OnOk result (least.new ≡ noted least.old (function_with create.now catalog.now (judge create.now.result (in_function parameters.now catalog.now))).faults) }
 {
-    let body = bind_body(alloc, create, names, catalog, least)?;
+    let body = bind_body(alloc, create, parameters, catalog, least)?;
     let called = greatest_height(catalog, body.uses.as_slice());
-    let too_high = called >= MOST_HEIGHT;
-    note_if(too_high, FaultKind::TooHigh, create.name.anchor, least);
+    note_result(create, body.head, called, least);
     function(alloc, create, called, body)
 }
 
-/// A new function, with its faults noted: the name is taken, two parameters have one name, a name
-/// in its result stands for nothing, or its height is over 8.
+/// A new function, with its faults noted: the name is taken, two parameters have one name, a type is
+/// out of range, a name in its result stands for nothing, the result is of another kind than the type
+/// that is returned, or its height is over 8.
 pub(crate) fn bind_function(
     alloc: Global,
     create: &CreateFunction,
@@ -188,6 +236,6 @@ pub(crate) fn bind_function(
     ensures faults { OnOk result (least.new ≡ noted least.old (judged_function create.now catalog.now).faults) }
 {
     note_taken(&create.name, catalog, least);
-    let names = names_of_parameters(alloc, create.parameters.as_slice(), least)?;
-    bind_result(alloc, create, &names, catalog, least)
+    let parameters = parameters_of(alloc, create, least)?;
+    bind_result(alloc, create, &parameters, catalog, least)
 }

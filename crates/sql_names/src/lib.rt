@@ -3,26 +3,29 @@
 #![tactic(auto, using(name_faults::proofs::Laws::noted_append))]
 
 ghost use Rattle.sql_names.specs.Binds.{FaultlessFits};
-ghost use Rattle.sql_names.specs.Examples.{EachFaultAtItsPlace, BindsByPlaceAndName};
+ghost use Rattle.sql_names.specs.Examples.{EachFaultAtItsPlace, KindsFit, BindsByPlaceAndName};
 
 mod create;
 mod expr;
 mod fault;
 mod function;
 mod name_list;
-mod place;
+mod parts;
 mod query;
 mod sight;
 mod statement;
+mod typed;
 
 pub use fault::NameFault;
 pub use function::MOST_HEIGHT;
 pub use name_list::NameList;
-pub use sight::{Found, Level, Sight};
+pub use sight::{Columns, Found, Level, Sight};
 pub use statement::{BoundStmt, bind_statement};
+pub use typed::{Operands, Typed};
 
 /// A statement without faults makes what fits the catalog: a name that is free, a key of columns,
-/// calls of functions that stand there and are lower, with as many arguments as parameters.
+/// calls of functions that stand there and are lower, with as many arguments as parameters; and
+/// what is asked has a plan.
 pub fn faultless_fits()
     ensures { FaultlessFits }
 {}
@@ -30,6 +33,11 @@ pub fn faultless_fits()
 /// Each kind of fault, at its place.
 pub fn each_fault_at_its_place()
     ensures { EachFaultAtItsPlace }
+{}
+
+/// What is asked of kinds: each fault at its place, and no second one above it.
+pub fn kinds_fit()
+    ensures { KindsFit }
 {}
 
 /// A column is bound by its place, a call by its name.

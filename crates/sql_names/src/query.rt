@@ -2,69 +2,105 @@
 
 ghost use Rattle.std.specs.Prelude.{◌≡◌, IfOk, OnOk};
 ghost use Rattle.std.specs.Option.{option_copied};
-ghost use Rattle.name_faults.specs.Faults.{taken};
+ghost use Rattle.name_faults.specs.Faults.{noted, taken};
 ghost use Rattle.sql_names.specs.Queries as spec;
-ghost use Rattle.sql_names.specs.Queries.{judged_row, judged_rows, judged_values, judged_select, select_over, select_from};
-ghost use Rattle.sql_names.specs.Sight.{seen_by, level_by, level_over, inside, column_names};
+ghost use Rattle.sql_names.specs.Queries.{judged_row, judged_rows, judged_values, listed, judged_filter, judged_select, select_over, select_from};
+ghost use Rattle.sql_names.specs.Names.{judge_all};
+ghost use Rattle.sql_names.specs.Sight.{seen_by, level_by, level_over, inside, column_names, column_kinds};
 
-use crate::expr::bind_exprs;
+use crate::expr::{bind_expr, bind_exprs};
 use crate::name_list::NameList;
-use crate::place::anchor_of_row;
-use crate::sight::{Level, Sight, entered};
+use crate::sight::{Columns, Level, Sight, entered, no_columns};
+use crate::typed::Operands;
 use bound_trees::{BoundExpr, BoundFrom, BoundQuery, BoundRow, BoundSelect};
 use catalog_store::{Catalog, Object};
-use name_faults::{FaultKind, Notes, note_if};
+use name_faults::{Fault, FaultKind, Notes, note_if};
+use name_kinds::{Head, Kind, conjuncts, in_turn, join_row, kind_of_type, test};
 use row_types::{ColumnType, RowType};
 use sql_values::{Name, NoMemory};
 use sqlite_items::Items;
 use std::alloc::Global;
-use syntax_trees::{Anchor, FromItem, Ident, Query, Select, ValueRow, Values};
+use syntax_trees::{Anchor, Expr, FromItem, Ident, Query, Select, ValueRow, Values};
 
-// A row, with as many expressions as the first row has.
+// A row's first expression; a row without one has another token.
+fn anchor_of_row(other: Anchor, heads: &[Head]) -> Anchor
+    ensures { result ≡ spec.anchor_of_row other heads.now }
+{
+    match heads {
+        [first, ..] => first.at,
+        [] => other,
+    }
+}
+
+// What is asked of a row: so many values as there are columns, and each of its column's kind so far
+// and of the kind of what it is stored into.
+fn ask_row(at: Anchor, targets: &[Kind], kinds: &[Kind], heads: &[Head], least: &mut Option<Fault>)
+    ensures { least.new ≡ noted least.old (spec.row_faults at targets.now kinds.now heads.now) }
+{
+    let wrong = heads.len() != kinds.len();
+    let place = anchor_of_row(at, heads);
+    note_if(wrong, FaultKind::WrongCount, place, least);
+    in_turn(kinds, heads, least);
+    in_turn(targets, heads, least);
+}
+
+// A row, below those that have these kinds.
 fn bind_row(
     alloc: Global,
     row: &ValueRow,
     at: Anchor,
-    width: usize,
+    targets: &[Kind],
+    kinds: &[Kind],
     sight: &Sight<'_>,
     notes: &mut Notes,
-) -> Result<BoundRow, NoMemory>
-    ensures value { IfOk result (λ r. r ≡ (judged_row at width (seen_by sight.now) row.now).value) }
-    ensures notes { OnOk result (notes.new ≡ taken notes.old (judged_row at width (seen_by sight.now) row.now)) }
+) -> Result<Operands, NoMemory>
+    ensures value { IfOk result (λ o. o ≡ (judged_row at targets.now (seen_by sight.now) kinds.now row.now).value) }
+    ensures notes { OnOk result (notes.new ≡ taken notes.old (judged_row at targets.now (seen_by sight.now) kinds.now row.now)) }
 {
     match row {
         ValueRow::Row(exprs) => {
-            let exprs = exprs.as_slice();
-            let wrong = exprs.len() != width;
-            note_if(
-                wrong,
-                FaultKind::WrongCount,
-                anchor_of_row(at, exprs),
-                &mut notes.least,
-            );
-            let values = bind_exprs(alloc, exprs, sight, notes)?;
-            Ok(BoundRow { values })
+            let values = bind_exprs(alloc, exprs.as_slice(), sight, notes)?;
+            let heads = values.heads.as_slice();
+            ask_row(at, targets, kinds, heads, &mut notes.least);
+            Ok(values)
         }
     }
 }
 
+// The rows, with the kinds of those above.
 fn bind_rows(
     alloc: Global,
     rows: &[ValueRow],
     at: Anchor,
-    width: usize,
+    targets: &[Kind],
+    kinds: Items<Kind>,
     sight: &Sight<'_>,
     notes: &mut Notes,
 ) -> Result<Items<BoundRow>, NoMemory>
-    ensures value { IfOk result (λ rs. rs ≡ (judged_rows at width (seen_by sight.now) rows.now).value) }
-    ensures notes { OnOk result (notes.new ≡ taken notes.old (judged_rows at width (seen_by sight.now) rows.now)) }
+    ensures value { IfOk result (λ rs. rs ≡ (judged_rows at targets.now (seen_by sight.now) rows.now kinds).value) }
+    ensures notes { OnOk result (notes.new ≡ taken notes.old (judged_rows at targets.now (seen_by sight.now) rows.now kinds)) }
 {
+    let mut kinds = kinds;
     let mut found = Items::from_vec(Vec::with_capacity(alloc, rows.len())?);
     for row in rows {
-        let bound = bind_row(alloc, row, at, width, sight, notes)?;
-        found.push(bound)?;
+        let bound = bind_row(alloc, row, at, targets, kinds.as_slice(), sight, notes)?;
+        join_row(&mut kinds, bound.heads.as_slice());
+        found.push(BoundRow {
+            values: bound.trees,
+        })?;
     }
     Ok(found)
+}
+
+// Columns of which no value is known yet.
+fn unknown_kinds(alloc: Global, width: usize) -> Result<Items<Kind>, NoMemory>
+    ensures { IfOk result (λ ks. ks ≡ spec.unknown_kinds width) }
+{
+    let mut kinds = Items::from_vec(Vec::with_capacity(alloc, width)?);
+    for _place in 0..width {
+        kinds.push(Kind::Null)?;
+    }
+    Ok(kinds)
 }
 
 fn length_of(row: &ValueRow) -> usize
@@ -88,14 +124,16 @@ fn width_of(rows: &[ValueRow]) -> usize
 fn bind_values(
     alloc: Global,
     values: &Values,
+    targets: &[Kind],
     sight: &Sight<'_>,
     notes: &mut Notes,
 ) -> Result<Items<BoundRow>, NoMemory>
-    ensures value { IfOk result (λ rs. rs ≡ (judged_values values.now (seen_by sight.now)).value) }
-    ensures notes { OnOk result (notes.new ≡ taken notes.old (judged_values values.now (seen_by sight.now))) }
+    ensures value { IfOk result (λ rs. rs ≡ (judged_values targets.now values.now (seen_by sight.now)).value) }
+    ensures notes { OnOk result (notes.new ≡ taken notes.old (judged_values targets.now values.now (seen_by sight.now))) }
 {
     let rows = values.rows.as_slice();
-    bind_rows(alloc, rows, values.anchor, width_of(rows), sight, notes)
+    let kinds = unknown_kinds(alloc, width_of(rows))?;
+    bind_rows(alloc, rows, values.anchor, targets, kinds, sight, notes)
 }
 
 /// The table of a name.
@@ -120,12 +158,27 @@ fn names_of(alloc: Global, columns: &[ColumnType]) -> Result<NameList, NoMemory>
     NameList::of(alloc, names)
 }
 
-fn columns_of(alloc: Global, table: Option<&RowType>) -> Result<NameList, NoMemory>
+/// The kinds of columns.
+pub(crate) fn kinds_of(alloc: Global, columns: &[ColumnType]) -> Result<Items<Kind>, NoMemory>
+    ensures { IfOk result (λ ks. ks ≡ column_kinds columns.now) }
+{
+    let mut kinds = Items::new(alloc);
+    for column in columns {
+        kinds.push(kind_of_type(column.data_type))?;
+    }
+    Ok(kinds)
+}
+
+fn columns_over(alloc: Global, table: Option<&RowType>) -> Result<Columns, NoMemory>
     ensures { IfOk result (λ l. l ≡ (level_over (option_copied table.entry)).columns) }
 {
     match table {
-        Some(row_type) => names_of(alloc, row_type.columns.as_slice()),
-        None => Ok(NameList::new(alloc)),
+        Some(row_type) => {
+            let names = names_of(alloc, row_type.columns.as_slice())?;
+            let kinds = kinds_of(alloc, row_type.columns.as_slice())?;
+            Ok(Columns { names, kinds })
+        }
+        None => Ok(no_columns(alloc)),
     }
 }
 
@@ -144,19 +197,56 @@ fn bound_select(
     }))
 }
 
-// The list and the conditions, with the columns of FROM in sight.
+// The list, each of the kind of what it is stored into.
+fn bind_list(
+    alloc: Global,
+    items: &[Expr],
+    targets: &[Kind],
+    sight: &Sight<'_>,
+    notes: &mut Notes,
+) -> Result<Items<BoundExpr>, NoMemory>
+    ensures value { IfOk result (λ es. es ≡ (listed targets.now (judge_all items.now (seen_by sight.now))).value.trees) }
+    ensures notes { OnOk result (notes.new ≡ taken notes.old (listed targets.now (judge_all items.now (seen_by sight.now)))) }
+{
+    let items = bind_exprs(alloc, items, sight, notes)?;
+    in_turn(targets, items.heads.as_slice(), &mut notes.least);
+    Ok(items.trees)
+}
+
+// The conjuncts of WHERE.
+fn bind_filter(
+    alloc: Global,
+    filter: &Option<Expr>,
+    sight: &Sight<'_>,
+    notes: &mut Notes,
+) -> Result<Items<BoundExpr>, NoMemory>
+    ensures value { IfOk result (λ es. es ≡ (judged_filter filter.now (seen_by sight.now)).value) }
+    ensures notes { OnOk result (notes.new ≡ taken notes.old (judged_filter filter.now (seen_by sight.now))) }
+{
+    match filter {
+        Some(condition) => {
+            let bound = bind_expr(alloc, condition, sight, notes)?;
+            test(bound.head, &mut notes.least);
+            conjuncts(alloc, bound.tree)
+        }
+        None => Ok(Items::new(alloc)),
+    }
+}
+
+// The list and the condition, with the columns of FROM in sight.
 fn bind_select(
     alloc: Global,
     table: &Name,
     select: &Select,
+    targets: &[Kind],
     sight: &Sight<'_>,
     notes: &mut Notes,
 ) -> Result<BoundQuery, NoMemory>
-    ensures value { IfOk result (λ q. q ≡ (judged_select table.now select.now (seen_by sight.now)).value) }
-    ensures notes { OnOk result (notes.new ≡ taken notes.old (judged_select table.now select.now (seen_by sight.now))) }
+    ensures value { IfOk result (λ q. q ≡ (judged_select table.now targets.now select.now (seen_by sight.now)).value) }
+    ensures notes { OnOk result (notes.new ≡ taken notes.old (judged_select table.now targets.now select.now (seen_by sight.now))) }
 {
-    let items = bind_exprs(alloc, select.items.as_slice(), sight, notes)?;
-    let conjuncts = bind_exprs(alloc, select.conditions.as_slice(), sight, notes)?;
+    let items = bind_list(alloc, select.items.as_slice(), targets, sight, notes)?;
+    let conjuncts = bind_filter(alloc, &select.filter, sight, notes)?;
     let query = bound_select(table, items, conjuncts)?;
     Ok(query)
 }
@@ -166,12 +256,13 @@ fn bind_in_level(
     alloc: Global,
     table: &Name,
     select: &Select,
+    targets: &[Kind],
     level: Level<'_>,
     outside: &Sight<'_>,
     notes: &mut Notes,
 ) -> Result<BoundQuery, NoMemory>
-    ensures value { IfOk result (λ q. q ≡ (judged_select table.now select.now (inside (level_by level.entry) (seen_by outside.now))).value) }
-    ensures notes { OnOk result (notes.new ≡ taken notes.old (judged_select table.now select.now (inside (level_by level.entry) (seen_by outside.now)))) }
+    ensures value { IfOk result (λ q. q ≡ (judged_select table.now targets.now select.now (inside (level_by level.entry) (seen_by outside.now))).value) }
+    ensures notes { OnOk result (notes.new ≡ taken notes.old (judged_select table.now targets.now select.now (inside (level_by level.entry) (seen_by outside.now)))) }
 {
     let levels = entered(alloc, level, outside.levels)?;
     let sight = Sight {
@@ -179,7 +270,7 @@ fn bind_in_level(
         variables: outside.variables,
         catalog: outside.catalog,
     };
-    bind_select(alloc, table, select, &sight, notes)
+    bind_select(alloc, table, select, targets, &sight, notes)
 }
 
 // A SELECT over a table. One that is not known is taken to have any column.
@@ -187,11 +278,12 @@ fn bind_over(
     alloc: Global,
     table: &Ident,
     select: &Select,
+    targets: &[Kind],
     outside: &Sight<'_>,
     notes: &mut Notes,
 ) -> Result<BoundQuery, NoMemory>
-    ensures value { IfOk result (λ q. q ≡ (select_over table.now (spec.table_named table.now.name outside.now.catalog.now) select.now (seen_by outside.now)).value) }
-    ensures notes { OnOk result (notes.new ≡ taken notes.old (select_over table.now (spec.table_named table.now.name outside.now.catalog.now) select.now (seen_by outside.now))) }
+    ensures value { IfOk result (λ q. q ≡ (select_over table.now (spec.table_named table.now.name outside.now.catalog.now) targets.now select.now (seen_by outside.now)).value) }
+    ensures notes { OnOk result (notes.new ≡ taken notes.old (select_over table.now (spec.table_named table.now.name outside.now.catalog.now) targets.now select.now (seen_by outside.now))) }
 {
     let row_type = table_named(&table.name, outside.catalog);
     let unknown = row_type.is_none();
@@ -201,43 +293,46 @@ fn bind_over(
         table.anchor,
         &mut notes.least,
     );
-    let columns = columns_of(alloc, row_type)?;
+    let columns = columns_over(alloc, row_type)?;
     let level = Level {
         columns: &columns,
         unknown,
     };
-    bind_in_level(alloc, &table.name, select, level, outside, notes)
+    bind_in_level(alloc, &table.name, select, targets, level, outside, notes)
 }
 
 fn bind_from(
     alloc: Global,
     select: &Select,
+    targets: &[Kind],
     outside: &Sight<'_>,
     notes: &mut Notes,
 ) -> Result<BoundQuery, NoMemory>
-    ensures value { IfOk result (λ q. q ≡ (select_from select.now.from select.now (seen_by outside.now)).value) }
-    ensures notes { OnOk result (notes.new ≡ taken notes.old (select_from select.now.from select.now (seen_by outside.now))) }
+    ensures value { IfOk result (λ q. q ≡ (select_from select.now.from targets.now select.now (seen_by outside.now)).value) }
+    ensures notes { OnOk result (notes.new ≡ taken notes.old (select_from select.now.from targets.now select.now (seen_by outside.now))) }
 {
     match select.from.as_slice() {
-        [FromItem::Table(table), ..] => bind_over(alloc, table, select, outside, notes),
+        [FromItem::Table(table), ..] => bind_over(alloc, table, select, targets, outside, notes),
         [] => Ok(BoundQuery::Values(Items::new(alloc))),
     }
 }
 
-/// A query with its names resolved, and what is noted on the way.
+/// A query with its names resolved, and what is noted on the way. Its columns are stored into what
+/// is of these kinds.
 pub(crate) fn bind_query(
     alloc: Global,
     query: &Query,
+    targets: &[Kind],
     outside: &Sight<'_>,
     notes: &mut Notes,
 ) -> Result<BoundQuery, NoMemory>
-    ensures value { IfOk result (λ q. q ≡ (spec.judge_query query.now (seen_by outside.now)).value) }
-    ensures notes { OnOk result (notes.new ≡ taken notes.old (spec.judge_query query.now (seen_by outside.now))) }
+    ensures value { IfOk result (λ q. q ≡ (spec.judge_query targets.now query.now (seen_by outside.now)).value) }
+    ensures notes { OnOk result (notes.new ≡ taken notes.old (spec.judge_query targets.now query.now (seen_by outside.now))) }
 {
     match query {
-        Query::Select(select) => bind_from(alloc, select, outside, notes),
+        Query::Select(select) => bind_from(alloc, select, targets, outside, notes),
         Query::Values(values) => {
-            let rows = bind_values(alloc, values, outside, notes)?;
+            let rows = bind_values(alloc, values, targets, outside, notes)?;
             Ok(BoundQuery::Values(rows))
         }
     }

@@ -7,14 +7,23 @@ ghost use Rattle.sql_names.specs.Sight.{seen_by, level_by};
 
 use crate::name_list::NameList;
 use catalog_store::Catalog;
+use name_kinds::Kind;
 use sql_values::{Name, NoMemory};
+use sqlite_items::Items;
 use std::alloc::Global;
+
+/// Columns, variables or parameters, with the kind of each.
+#[derive(Drop)]
+pub struct Columns {
+    pub names: NameList,
+    pub kinds: Items<Kind>,
+}
 
 /// What a query brings in sight: the columns of the known items of its FROM, and whether an item is
 /// not known. Such an item is taken to have each column that no other item in sight has.
 #[derive(Clone, Copy)]
 pub struct Level<'a> {
-    pub columns: &'a NameList,
+    pub columns: &'a Columns,
     pub unknown: bool,
 }
 
@@ -23,19 +32,19 @@ pub struct Level<'a> {
 #[derive(Clone, Copy)]
 pub struct Sight<'a> {
     pub levels: &'a [Level<'a>],
-    pub variables: &'a NameList,
+    pub variables: &'a Columns,
     pub catalog: &'a Catalog,
 }
 
 /// What a name stands for.
 #[derive(Clone, Copy)]
 pub enum Found {
-    /// So many queries outwards, the column of this place.
-    Column(usize, usize),
+    /// So many queries outwards, the column of this place, of this kind.
+    Column(usize, usize, Kind),
     /// A column of an item that is not known.
     Guessed,
-    /// The variable or parameter of this place.
-    Variable(usize),
+    /// The variable or parameter of this place, of this kind.
+    Variable(usize, Kind),
     Unknown,
 }
 
@@ -56,11 +65,21 @@ fn guessed(unknown: bool, other: Found) -> Found
     if unknown { Found::Guessed } else { other }
 }
 
-fn variable(place: Option<usize>) -> Found
-    ensures { result ≡ spec.variable place }
+// The kind at a place.
+fn kind_at(kinds: &[Kind], place: usize) -> Kind
+    ensures { result ≡ spec.kind_at kinds.now place }
+{
+    match kinds.get(place) {
+        Some(kind) => *kind,
+        None => Kind::Null,
+    }
+}
+
+fn variable(kinds: &[Kind], place: Option<usize>) -> Found
+    ensures { result ≡ spec.variable kinds.now place }
 {
     match place {
-        Some(place) => Found::Variable(place),
+        Some(place) => Found::Variable(place, kind_at(kinds, place)),
         None => Found::Unknown,
     }
 }
@@ -70,8 +89,8 @@ fn outwards(name: &Name, levels: &[Level<'_>], other: Found) -> Found
     ensures { result ≡ spec.outwards name.now 0 (map level_by levels.now) other }
 {
     for (depth, level) in levels.iter().enumerate() {
-        if let Some(place) = level.columns.place(name) {
-            return Found::Column(depth, place);
+        if let Some(place) = level.columns.names.place(name) {
+            return Found::Column(depth, place, kind_at(level.columns.kinds.as_slice(), place));
         }
     }
     other
@@ -81,9 +100,19 @@ fn outwards(name: &Name, levels: &[Level<'_>], other: Found) -> Found
 pub(crate) fn stands_for(name: &Name, sight: &Sight<'_>) -> Found
     ensures { result ≡ spec.stands_for name.now (seen_by sight.now) }
 {
-    let other = variable(sight.variables.place(name));
+    let place = sight.variables.names.place(name);
+    let other = variable(sight.variables.kinds.as_slice(), place);
     let other = guessed(any_unknown(sight.levels), other);
     outwards(name, sight.levels, other)
+}
+
+pub(crate) fn no_columns(alloc: Global) -> Columns
+    ensures { result ≡ spec.no_columns }
+{
+    Columns {
+        names: NameList::new(alloc),
+        kinds: Items::new(alloc),
+    }
 }
 
 /// The levels inside a query.

@@ -1,24 +1,26 @@
 //! Statements: the public call.
 
 ghost use Rattle.std.specs.Prelude.{◌≡◌, IfOk, OnOk};
+ghost use Rattle.std.specs.Option.{option_copied};
 ghost use Rattle.name_faults.specs.Faults.{noted};
 ghost use Rattle.sql_names.specs.Sight.{at_top};
 ghost use Rattle.sql_names.specs.Queries.{judge_query};
-ghost use Rattle.sql_names.specs.Queries as known;
 ghost use Rattle.sql_names.specs.Statements.{judged_insert, judged_statement};
 ghost use Rattle.sql_names.specs.Statements as spec;
-ghost use Rattle.sql_names.specs.Binds.{Binds, CreateFits};
+ghost use Rattle.sql_names.specs.Binds.{Binds, StatementFits};
 
 use crate::create::bind_table;
 use crate::fault::NameFault;
 use crate::function::bind_function;
-use crate::name_list::NameList;
-use crate::query::{anchor_of_query, bind_query, table_named, width};
-use crate::sight::Sight;
+use crate::query::{anchor_of_query, bind_query, kinds_of, table_named, width};
+use crate::sight::{Sight, no_columns};
 use bound_trees::{BoundInsert, BoundQuery};
 use catalog_store::{Catalog, Object};
 use name_faults::{Fault, FaultKind, Notes, note_if};
+use name_kinds::Kind;
+use row_types::RowType;
 use sql_values::{Name, NoMemory};
+use sqlite_items::Items;
 use std::alloc::Global;
 use syntax_trees::{Insert, Query, Stmt};
 
@@ -33,33 +35,35 @@ pub enum BoundStmt {
     Query(BoundQuery),
 }
 
-// A query outside of which no name is in sight but those of the catalog.
+// A query outside of which no name is in sight but those of the catalog, stored into what is of
+// these kinds.
 fn bind_top_query(
     alloc: Global,
     query: &Query,
+    targets: &[Kind],
     catalog: &Catalog,
     least: &mut Option<Fault>,
 ) -> Result<BoundQuery, NoMemory>
-    ensures value { IfOk result (λ q. q ≡ (judge_query query.now (at_top catalog.now)).value) }
-    ensures faults { OnOk result (least.new ≡ noted least.old (judge_query query.now (at_top catalog.now)).faults) }
+    ensures value { IfOk result (λ q. q ≡ (judge_query targets.now query.now (at_top catalog.now)).value) }
+    ensures faults { OnOk result (least.new ≡ noted least.old (judge_query targets.now query.now (at_top catalog.now)).faults) }
 {
-    let none = NameList::new(alloc);
+    let none = no_columns(alloc);
     let sight = Sight {
         levels: &[],
         variables: &none,
         catalog,
     };
     let mut notes = Notes::behind(alloc, *least);
-    let bound = bind_query(alloc, query, &sight, &mut notes)?;
+    let bound = bind_query(alloc, query, targets, &sight, &mut notes)?;
     *least = notes.least;
     Ok(bound)
 }
 
 // Whether the table is known, and has as many columns as the query.
-fn judge_target(insert: &Insert, catalog: &Catalog, least: &mut Option<Fault>)
-    ensures { least.new ≡ noted least.old (spec.table_faults insert.now (known.table_named insert.now.table.name catalog.now)) }
+fn judge_target(insert: &Insert, table: Option<&RowType>, least: &mut Option<Fault>)
+    ensures { least.new ≡ noted least.old (spec.table_faults insert.now (option_copied table.entry)) }
 {
-    match table_named(&insert.table.name, catalog) {
+    match table {
         Some(row_type) => {
             let wrong = width(&insert.source) != row_type.columns.len();
             note_if(
@@ -73,6 +77,16 @@ fn judge_target(insert: &Insert, catalog: &Catalog, least: &mut Option<Fault>)
     }
 }
 
+// The kinds of the columns into which values are stored.
+fn targets_of(alloc: Global, table: Option<&RowType>) -> Result<Items<Kind>, NoMemory>
+    ensures { IfOk result (λ ks. ks ≡ spec.targets (option_copied table.entry)) }
+{
+    match table {
+        Some(row_type) => kinds_of(alloc, row_type.columns.as_slice()),
+        None => Ok(Items::new(alloc)),
+    }
+}
+
 // An INSERT with its names resolved, and its faults noted.
 fn bind_insert(
     alloc: Global,
@@ -83,8 +97,10 @@ fn bind_insert(
     ensures value { IfOk result (λ b. b ≡ (judged_insert insert.now catalog.now).value) }
     ensures faults { OnOk result (least.new ≡ noted least.old (judged_insert insert.now catalog.now).faults) }
 {
-    judge_target(insert, catalog, least);
-    let source = bind_top_query(alloc, &insert.source, catalog, least)?;
+    let table = table_named(&insert.table.name, catalog);
+    judge_target(insert, table, least);
+    let targets = targets_of(alloc, table)?;
+    let source = bind_top_query(alloc, &insert.source, targets.as_slice(), catalog, least)?;
     let table = insert.table.name.copied()?;
     Ok(BoundInsert { table, source })
 }
@@ -112,19 +128,20 @@ fn bind_parts(
             Ok(BoundStmt::Insert(bound))
         }
         Stmt::Query(query) => {
-            let bound = bind_top_query(alloc, query, catalog, least)?;
+            let bound = bind_top_query(alloc, query, &[], catalog, least)?;
             Ok(BoundStmt::Query(bound))
         }
     }
 }
 
 /// A statement with its names resolved. Fault: exactly where it has a fault, and then the least, by
-/// place and then kind. What is made has a free name, and fits the catalog.
+/// place and then kind. What is made has a free name, and fits the catalog; what is asked has a plan.
 #[tactic(auto, using(name_faults::proofs::Laws::is_free, crate::proofs::Made::bound_fits))]
 pub fn bind_statement(alloc: Global, stmt: &Stmt, catalog: &Catalog) -> Result<BoundStmt, NameFault>
     ensures binds { Binds (judged_statement stmt.now catalog.now) result }
-    ensures fits { IfOk result (CreateFits catalog.now) }
+    ensures fits { IfOk result (StatementFits catalog.now) }
 {
+    let _entries = catalog.len();
     let mut least = None;
     let bound = bind_parts(alloc, stmt, catalog, &mut least)?;
     match least {

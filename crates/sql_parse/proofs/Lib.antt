@@ -1,1 +1,4 @@
 pub mod After
+pub mod Ranks
+pub mod Begun
+pub mod Lone

@@ -7,8 +7,10 @@ ghost use Rattle.sql_grammar.specs.Trees as trees;
 ghost use Rattle.sql_grammar.specs.Definitions as definitions;
 ghost use Rattle.sql_grammar.specs.Sql.{rules};
 
-use crate::expr::{expr, with_first};
-use crate::place::{anchor_in, data_type, ident};
+use crate::expr::after;
+use crate::lists::with_first;
+use crate::place::{anchor_in, ident};
+use crate::types::data_type;
 use sql_lex::{Kind, Sign, Word};
 use sqlite_items::Items;
 use std::alloc::Global;
@@ -231,8 +233,7 @@ fn returns_type(input: &mut Input<'_>, room: u32) -> Result<DataType, ParseError
 fn return_value(alloc: Global, input: &mut Input<'_>, room: u32) -> Result<Expr, ParseError>
     ensures { Reads (reading rules room definitions.return_value input.old.rest.now) result input.new.rest.now }
 {
-    input.expect(Kind::Word(Word::Return))?;
-    expr(alloc, input, room)
+    after(alloc, input, room, Kind::Word(Word::Return))
 }
 
 // RETURNS type RETURN e

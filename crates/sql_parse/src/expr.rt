@@ -1,157 +1,229 @@
-//! Expressions. `room` is the number of constructs that may still be opened.
+//! Expressions. `room` is the number of constructs that may still be opened. One function reads the
+//! chains of every level, one what stands in the brackets after a word, and one an expression after
+//! any token.
 
-ghost use Rattle.std.specs.Prelude.{◌≡◌, ◌∷◌, IfOk};
+ghost use Rattle.std.specs.Prelude.{◌≡◌};
+ghost use Rattle.sql_lex.specs.declared.sign.Sign.TheVariants as signs;
+ghost use Rattle.sql_lex.specs.declared.token.Kind.TheVariants as kinds;
+ghost use Rattle.token_grammar.specs.Grammar.{optional};
+ghost use Rattle.token_grammar.specs.Notation.{◌=>◌};
 ghost use Rattle.token_grammar.specs.Reading.{begins, first, reading};
 ghost use Rattle.token_grammar.specs.Reads.{Reads};
 ghost use Rattle.sql_grammar.specs.Trees as trees;
 ghost use Rattle.sql_grammar.specs.Expressions as expressions;
 ghost use Rattle.sql_grammar.specs.Sql.{rules};
 
+use crate::lists::{chained, followed_by, only, pair, predicate_on, prefixed, with_first};
 use crate::place::{anchor, anchor_in, ident};
+use crate::words::{
+    as_type, begins_compared, begins_link, begins_literal, comparison, function_word, if_not,
+    if_sign, in_word, is_lone_literal, literal, operator, tested, word_of,
+};
+use sql_grammar::{ChainLevel, FunctionWord};
 use sql_lex::{Kind, Sign, Word};
-use sql_values::Operator;
-use sqlite_items::{Boxed, Items};
-use std::alloc::{AllocError, Global};
-use syntax_trees::{Anchor, Expr, Link, UnarySign};
-use token_grammar::{Input, ParseError, number_in};
+use sqlite_items::Items;
+use std::alloc::Global;
+use syntax_trees::{Anchor, Expr, Link, Operation};
+use token_grammar::{Input, ParseError};
 
-/// A list with one more in front.
-pub(crate) fn with_first<T: Drop>(
-    alloc: Global,
-    first: T,
-    more: Items<T>,
-) -> Result<Items<T>, AllocError>
-    ensures { IfOk result (λ all. all ≡ first ∷ more) }
-{
-    let mut all = Items::from_vec(Vec::with_capacity(alloc, more.len().saturating_add(1))?);
-    all.push(first)?;
-    all.append(more)?;
-    Ok(all)
-}
-
-/// A list of one.
-pub(crate) fn only<T: Drop>(alloc: Global, item: T) -> Result<Items<T>, AllocError>
-    ensures { IfOk result (λ all. all ≡ trees.only item) }
-{
-    let mut all = Items::new(alloc);
-    all.push(item)?;
-    Ok(all)
-}
-
-// A chain of one is no chain.
-fn chained(alloc: Global, first: Expr, links: Items<Link>) -> Result<Expr, AllocError>
-    ensures { IfOk result (λ e. e ≡ expressions.chain first links) }
-{
-    if links.is_empty() {
-        Ok(first)
-    } else {
-        Ok(Expr::Chain(Boxed::new(alloc, first)?, links))
-    }
-}
-
-#[tactic(auto, unfolding(token_grammar::specs::Reading::same_kind, sql_grammar::specs::Expressions::exprs, sql_grammar::specs::Expressions::expr, sql_grammar::specs::Expressions::term, sql_grammar::specs::Expressions::signed, sql_grammar::specs::Expressions::if_sign, sql_grammar::specs::Expressions::unary_sign, sql_grammar::specs::Expressions::primary, sql_grammar::specs::Expressions::named, sql_grammar::specs::Trees::ident, sql_grammar::specs::Trees::bracketed))]
-fn begins_exprs(input: &Input<'_>) -> bool
-    ensures { result ≡ begins (first expressions.exprs) input.now.rest.now }
+/// Whether an expression begins, and so a list of them.
+#[tactic(auto, unfolding(token_grammar::specs::Reading::same_kind, sql_grammar::specs::Expressions::exprs, sql_grammar::specs::Expressions::expr, sql_grammar::specs::Expressions::conjunction, sql_grammar::specs::Expressions::negation, sql_grammar::specs::Expressions::not_word, sql_grammar::specs::Expressions::predicate, sql_grammar::specs::Expressions::sum, sql_grammar::specs::Expressions::term, sql_grammar::specs::Expressions::factor, sql_grammar::specs::Expressions::unary_sign, sql_grammar::specs::Expressions::primary, sql_grammar::specs::Expressions::literal, sql_grammar::specs::Expressions::constant, sql_grammar::specs::Expressions::named, sql_grammar::specs::Expressions::case_expression, sql_grammar::specs::Expressions::function, sql_grammar::specs::Expressions::function_call, sql_grammar::specs::Trees::ident, sql_grammar::specs::Trees::bracketed))]
+fn begins_expr(input: &Input<'_>) -> bool
+    ensures one { result ≡ begins (first expressions.expr) input.now.rest.now }
+    ensures list { result ≡ begins (first expressions.exprs) input.now.rest.now }
 {
     input.sees_any(&[
+        Kind::Word(Word::Not),
         Kind::Sign(Sign::Plus),
         Kind::Sign(Sign::Minus),
         Kind::Number,
+        Kind::Text,
+        Kind::Word(Word::True),
+        Kind::Word(Word::False),
+        Kind::Word(Word::Unknown),
         Kind::Word(Word::Null),
         Kind::Name,
         Kind::Sign(Sign::LeftParen),
+        Kind::Word(Word::Case),
+        Kind::Word(Word::Coalesce),
+        Kind::Word(Word::Mod),
+        Kind::Word(Word::CharLength),
+        Kind::Word(Word::Substring),
+        Kind::Word(Word::Cast),
     ])
 }
 
-#[tactic(auto, unfolding(sql_grammar::specs::Expressions::factor_operator, sql_grammar::specs::Expressions::factor))]
-fn begins_factor(input: &Input<'_>) -> bool
-    ensures { result ≡ begins (first expressions.factor) input.now.rest.now }
+/// An expression.
+#[tactic(auto, unfolding(sql_grammar::specs::Expressions::expr))]
+#[cycle(parser)]
+pub(crate) fn expr(alloc: Global, input: &mut Input<'_>, room: u32) -> Result<Expr, ParseError>
+    ensures { Reads (reading rules room expressions.expr input.old.rest.now) result input.new.rest.now }
 {
-    input.sees_any(&[Kind::Sign(Sign::Asterisk), Kind::Sign(Sign::Solidus)])
+    if is_lone_literal(input) {
+        let literal = literal(input, room)?;
+        return Ok(Expr::Literal(literal.1, literal.0));
+    }
+    chain(alloc, input, room, ChainLevel::Or)
 }
 
-#[tactic(auto, unfolding(sql_grammar::specs::Expressions::addend_operator, sql_grammar::specs::Expressions::addend))]
-fn begins_addend(input: &Input<'_>) -> bool
-    ensures { result ≡ begins (first expressions.addend) input.now.rest.now }
+// ---- chains
+
+#[cycle(parser)]
+fn chain(
+    alloc: Global,
+    input: &mut Input<'_>,
+    room: u32,
+    level: ChainLevel,
+) -> Result<Expr, ParseError>
+    ensures { Reads (reading rules room (expressions.chain_at level) input.old.rest.now) result input.new.rest.now }
 {
-    input.sees_any(&[Kind::Sign(Sign::Plus), Kind::Sign(Sign::Minus)])
+    let first = operand(alloc, input, room, level)?;
+    let links = links(alloc, input, room, level)?;
+    Ok(chained(alloc, first, links)?)
 }
 
-#[tactic(auto, unfolding(sql_grammar::specs::Expressions::primary, sql_grammar::specs::Expressions::named, sql_grammar::specs::Trees::ident))]
+#[cycle(parser)]
+fn links(
+    alloc: Global,
+    input: &mut Input<'_>,
+    room: u32,
+    level: ChainLevel,
+) -> Result<Items<Link>, ParseError>
+    ensures { Reads (reading rules room (expressions.links_at level) input.old.rest.now) result input.new.rest.now }
+{
+    let mut found = Items::new(alloc);
+    'more: while begins_link(input, level) {
+        match link(alloc, input, room, level) {
+            Ok(next) => found.push(next)?,
+            Err(error) => return Err(error),
+        }
+    }
+    Ok(found)
+}
+
+#[cycle(parser)]
+fn link(
+    alloc: Global,
+    input: &mut Input<'_>,
+    room: u32,
+    level: ChainLevel,
+) -> Result<Link, ParseError>
+    ensures { Reads (reading rules room (expressions.link_at level) input.old.rest.now) result input.new.rest.now }
+{
+    let operator = operator(input, room, level)?;
+    let operand = operand(alloc, input, room, level)?;
+    Ok(Link {
+        operator: operator.0,
+        anchor: operator.1,
+        operand,
+    })
+}
+
+// What the chains of a level are made of.
+#[tactic(auto, unfolding(sql_grammar::specs::Expressions::conjunction, sql_grammar::specs::Expressions::negation, sql_grammar::specs::Expressions::term, sql_grammar::specs::Expressions::factor))]
+#[cycle(parser)]
+fn operand(
+    alloc: Global,
+    input: &mut Input<'_>,
+    room: u32,
+    level: ChainLevel,
+) -> Result<Expr, ParseError>
+    ensures { Reads (reading rules room (expressions.operand_at level) input.old.rest.now) result input.new.rest.now }
+{
+    match level {
+        ChainLevel::Or => chain(alloc, input, room, ChainLevel::And),
+        ChainLevel::And => {
+            let not = if_not(input, room)?;
+            let operand = predicate(alloc, input, room)?;
+            Ok(prefixed(alloc, not, operand)?)
+        }
+        ChainLevel::Additive => chain(alloc, input, room, ChainLevel::Multiplicative),
+        ChainLevel::Multiplicative => {
+            let sign = if_sign(input, room)?;
+            let operand = primary(alloc, input, room)?;
+            Ok(prefixed(alloc, sign, operand)?)
+        }
+    }
+}
+
+// ---- predicates
+
+#[tactic(auto, unfolding(sql_grammar::specs::Expressions::predicate, sql_grammar::specs::Expressions::sum))]
+#[cycle(parser)]
+fn predicate(alloc: Global, input: &mut Input<'_>, room: u32) -> Result<Expr, ParseError>
+    ensures { Reads (reading rules room expressions.predicate input.old.rest.now) result input.new.rest.now }
+{
+    let left = chain(alloc, input, room, ChainLevel::Additive)?;
+    if begins_predicate_part(input) {
+        let part = predicate_part(alloc, input, room)?;
+        return Ok(predicate_on(alloc, left, part.0, part.1)?);
+    }
+    Ok(left)
+}
+
+#[tactic(auto, unfolding(sql_grammar::specs::Expressions::predicate_part, sql_grammar::specs::Expressions::compared, sql_grammar::specs::Expressions::comparison, sql_grammar::specs::Expressions::tested, sql_grammar::specs::Expressions::among, sql_grammar::specs::Expressions::in_word))]
+fn begins_predicate_part(input: &Input<'_>) -> bool
+    ensures { result ≡ begins (first expressions.predicate_part) input.now.rest.now }
+{
+    input.sees_any(&[
+        Kind::Sign(Sign::Equals),
+        Kind::Sign(Sign::NotEquals),
+        Kind::Sign(Sign::LessThan),
+        Kind::Sign(Sign::LessThanOrEquals),
+        Kind::Sign(Sign::GreaterThan),
+        Kind::Sign(Sign::GreaterThanOrEquals),
+        Kind::Word(Word::Is),
+        Kind::Word(Word::In),
+        Kind::Word(Word::Not),
+    ])
+}
+
+// What stands after the left side of a predicate: its operation, and the other operands.
+#[tactic(auto, unfolding(sql_grammar::specs::Expressions::predicate_part, sql_grammar::specs::Expressions::compared, sql_grammar::specs::Expressions::sum, sql_grammar::specs::Expressions::tested, sql_grammar::specs::Expressions::among))]
+#[cycle(parser)]
+fn predicate_part(
+    alloc: Global,
+    input: &mut Input<'_>,
+    room: u32,
+) -> Result<((Operation, Anchor), Items<Expr>), ParseError>
+    ensures { Reads (reading rules room expressions.predicate_part input.old.rest.now) result input.new.rest.now }
+{
+    if begins_compared(input) {
+        let operation = comparison(input, room)?;
+        let right = chain(alloc, input, room, ChainLevel::Additive)?;
+        return Ok((operation, only(alloc, right)?));
+    }
+    if input.sees(Kind::Word(Word::Is)) {
+        let operation = tested(input, room)?;
+        return Ok((operation, Items::new(alloc)));
+    }
+    let operation = in_word(input, room)?;
+    let items = bracketed_exprs(alloc, input, room)?;
+    Ok((operation, items))
+}
+
+// ---- literals, names, calls, brackets
+
+#[tactic(auto, unfolding(sql_grammar::specs::Expressions::primary, sql_grammar::specs::Expressions::named, sql_grammar::specs::Expressions::case_expression, sql_grammar::specs::Trees::ident, sql_grammar::specs::Trees::bracketed))]
 #[cycle(parser)]
 fn primary(alloc: Global, input: &mut Input<'_>, room: u32) -> Result<Expr, ParseError>
     ensures { Reads (reading rules room expressions.primary input.old.rest.now) result input.new.rest.now }
 {
-    if input.sees(Kind::Number) {
-        let token = input.expect(Kind::Number)?;
-        return Ok(Expr::Number(anchor_in(token), number_in(token)));
-    }
-    if input.sees(Kind::Word(Word::Null)) {
-        let token = input.expect(Kind::Word(Word::Null))?;
-        return Ok(Expr::Null(anchor_in(token)));
+    if begins_literal(input) {
+        let literal = literal(input, room)?;
+        return Ok(Expr::Literal(literal.1, literal.0));
     }
     if input.sees(Kind::Name) {
         return named(alloc, input, room);
     }
-    in_brackets(alloc, input, room)
-}
-
-#[tactic(auto, unfolding(sql_grammar::specs::Trees::bracketed))]
-#[cycle(parser)]
-fn in_brackets(alloc: Global, input: &mut Input<'_>, room: u32) -> Result<Expr, ParseError>
-    ensures { Reads (reading rules room (trees.bracketed trees.Bracketed) input.old.rest.now) result input.new.rest.now }
-{
-    let left = input.open(room, Kind::Sign(Sign::LeftParen))?;
-    let inner = expr(alloc, input, left)?;
-    input.close(Kind::Sign(Sign::RightParen), inner)
-}
-
-// A sign, with its anchor.
-#[tactic(auto, unfolding(sql_grammar::specs::Expressions::unary_sign))]
-fn unary_sign(input: &mut Input<'_>, room: u32) -> Result<(UnarySign, Anchor), ParseError>
-    ensures { Reads (reading rules room expressions.unary_sign input.old.rest.now) result input.new.rest.now }
-{
-    let anchor = anchor(input);
-    if input.eat(Kind::Sign(Sign::Plus)) {
-        return Ok((UnarySign::Plus, anchor));
+    if input.sees(Kind::Sign(Sign::LeftParen)) {
+        return in_brackets(alloc, input, room);
     }
-    input.expect(Kind::Sign(Sign::Minus))?;
-    Ok((UnarySign::Minus, anchor))
-}
-
-#[tactic(auto, unfolding(sql_grammar::specs::Expressions::if_sign, sql_grammar::specs::Expressions::unary_sign))]
-fn if_sign(input: &mut Input<'_>, room: u32) -> Result<Option<(UnarySign, Anchor)>, ParseError>
-    ensures { Reads (reading rules room expressions.if_sign input.old.rest.now) result input.new.rest.now }
-{
-    if input.sees_any(&[Kind::Sign(Sign::Plus), Kind::Sign(Sign::Minus)]) {
-        Ok(Some(unary_sign(input, room)?))
-    } else {
-        Ok(None)
+    if input.sees(Kind::Word(Word::Case)) {
+        return case_expression(alloc, input, room);
     }
-}
-
-// An operand after its sign, if it has one.
-fn with_sign(
-    alloc: Global,
-    sign: Option<(UnarySign, Anchor)>,
-    operand: Expr,
-) -> Result<Expr, AllocError>
-    ensures { IfOk result (λ e. e ≡ expressions.with_sign sign operand) }
-{
-    match sign {
-        None => Ok(operand),
-        Some((sign, anchor)) => Ok(Expr::Signed(anchor, sign, Boxed::new(alloc, operand)?)),
-    }
-}
-
-#[tactic(auto, unfolding(sql_grammar::specs::Expressions::signed))]
-#[cycle(parser)]
-fn signed(alloc: Global, input: &mut Input<'_>, room: u32) -> Result<Expr, ParseError>
-    ensures { Reads (reading rules room expressions.signed input.old.rest.now) result input.new.rest.now }
-{
-    let sign = if_sign(input, room)?;
-    let operand = primary(alloc, input, room)?;
-    Ok(with_sign(alloc, sign, operand)?)
+    let function = function_word(input);
+    function_call(alloc, input, room, function)
 }
 
 #[tactic(auto, unfolding(sql_grammar::specs::Expressions::named, sql_grammar::specs::Trees::bracketed))]
@@ -172,127 +244,235 @@ fn arguments(alloc: Global, input: &mut Input<'_>, room: u32) -> Result<Items<Ex
     ensures { Reads (reading rules room (trees.bracketed trees.Arguments) input.old.rest.now) result input.new.rest.now }
 {
     let left = input.open(room, Kind::Sign(Sign::LeftParen))?;
-    let inner = in_arguments(alloc, input, left)?;
+    let inner = if_exprs(alloc, input, left)?;
     input.close(Kind::Sign(Sign::RightParen), inner)
 }
 
 #[cycle(parser)]
-fn in_arguments(alloc: Global, input: &mut Input<'_>, room: u32) -> Result<Items<Expr>, ParseError>
+fn if_exprs(alloc: Global, input: &mut Input<'_>, room: u32) -> Result<Items<Expr>, ParseError>
     ensures { Reads (reading rules room (rules trees.Arguments) input.old.rest.now) result input.new.rest.now }
 {
-    if begins_exprs(input) {
+    if begins_expr(input) {
         exprs(alloc, input, room)
     } else {
         Ok(Items::new(alloc))
     }
 }
 
-#[tactic(auto, unfolding(sql_grammar::specs::Expressions::factor, sql_grammar::specs::Expressions::factor_operator))]
+#[tactic(auto, unfolding(sql_grammar::specs::Trees::bracketed))]
 #[cycle(parser)]
-fn factor(alloc: Global, input: &mut Input<'_>, room: u32) -> Result<Link, ParseError>
-    ensures { Reads (reading rules room expressions.factor input.old.rest.now) result input.new.rest.now }
+fn in_brackets(alloc: Global, input: &mut Input<'_>, room: u32) -> Result<Expr, ParseError>
+    ensures { Reads (reading rules room (trees.bracketed trees.Bracketed) input.old.rest.now) result input.new.rest.now }
+{
+    let left = input.open(room, Kind::Sign(Sign::LeftParen))?;
+    let inner = expr(alloc, input, left)?;
+    input.close(Kind::Sign(Sign::RightParen), inner)
+}
+
+// ---- words with operands
+
+// A word with its operands in brackets.
+#[tactic(auto, unfolding(sql_grammar::specs::Expressions::function_call))]
+#[cycle(parser)]
+fn function_call(
+    alloc: Global,
+    input: &mut Input<'_>,
+    room: u32,
+    function: FunctionWord,
+) -> Result<Expr, ParseError>
+    ensures { Reads (reading rules room (expressions.function_call function) input.old.rest.now) result input.new.rest.now }
+{
+    let token = input.expect(Kind::Word(word_of(function)))?;
+    let anchor = anchor_in(token);
+    let called = bracketed_operands(alloc, input, room, function)?;
+    Ok(Expr::Operation(anchor, called.0, called.1))
+}
+
+#[tactic(auto, unfolding(sql_grammar::specs::Trees::bracketed))]
+#[cycle(parser)]
+fn bracketed_operands(
+    alloc: Global,
+    input: &mut Input<'_>,
+    room: u32,
+    function: FunctionWord,
+) -> Result<(Operation, Items<Expr>), ParseError>
+    ensures { Reads (reading rules room (trees.bracketed (trees.Operands function)) input.old.rest.now) result input.new.rest.now }
+{
+    let left = input.open(room, Kind::Sign(Sign::LeftParen))?;
+    let inner = operands(alloc, input, left, function)?;
+    input.close(Kind::Sign(Sign::RightParen), inner)
+}
+
+// The operands of a word, with what stands between them, and the operation that the word then is.
+#[tactic(auto, unfolding(sql_grammar::specs::Expressions::operands, sql_grammar::specs::Expressions::for_length))]
+#[cycle(parser)]
+fn operands(
+    alloc: Global,
+    input: &mut Input<'_>,
+    room: u32,
+    function: FunctionWord,
+) -> Result<(Operation, Items<Expr>), ParseError>
+    ensures { Reads (reading rules room (expressions.operands function) input.old.rest.now) result input.new.rest.now }
+{
+    match function {
+        FunctionWord::Coalesce => {
+            let values = exprs(alloc, input, room)?;
+            Ok((Operation::Coalesce, values))
+        }
+        FunctionWord::Modulo => {
+            let dividend = expr(alloc, input, room)?;
+            let divisor = after(alloc, input, room, Kind::Sign(Sign::Comma))?;
+            Ok((Operation::Modulo, pair(alloc, dividend, divisor)?))
+        }
+        FunctionWord::CharLength => {
+            let text = expr(alloc, input, room)?;
+            Ok((Operation::CharLength, only(alloc, text)?))
+        }
+        FunctionWord::Substring => {
+            let text = expr(alloc, input, room)?;
+            let place = after(alloc, input, room, Kind::Word(Word::From))?;
+            let length = if_after(alloc, input, room, Kind::Word(Word::For))?;
+            let places = with_first(alloc, place, length)?;
+            Ok((Operation::Substring, with_first(alloc, text, places)?))
+        }
+        FunctionWord::Cast => {
+            let value = expr(alloc, input, room)?;
+            let data_type = as_type(input, room)?;
+            Ok((Operation::Cast(data_type), only(alloc, value)?))
+        }
+    }
+}
+
+// An expression after a token of the kind.
+#[tactic(auto, unfolding(sql_grammar::specs::Expressions::after))]
+#[cycle(parser)]
+pub(crate) fn after(
+    alloc: Global,
+    input: &mut Input<'_>,
+    room: u32,
+    kind: Kind,
+) -> Result<Expr, ParseError>
+    ensures { Reads (reading rules room (expressions.after kind) input.old.rest.now) result input.new.rest.now }
+{
+    input.expect(kind)?;
+    expr(alloc, input, room)
+}
+
+// The same, if such a token stands here: a list of none or one.
+#[tactic(auto, unfolding(sql_grammar::specs::Expressions::after))]
+#[cycle(parser)]
+fn if_after(
+    alloc: Global,
+    input: &mut Input<'_>,
+    room: u32,
+    kind: Kind,
+) -> Result<Items<Expr>, ParseError>
+    ensures { Reads (reading rules room (trees.if_one => optional (expressions.after kind)) input.old.rest.now) result input.new.rest.now }
+{
+    if input.sees(kind) {
+        let found = after(alloc, input, room, kind)?;
+        Ok(only(alloc, found)?)
+    } else {
+        Ok(Items::new(alloc))
+    }
+}
+
+// ---- CASE
+
+#[tactic(auto, unfolding(sql_grammar::specs::Expressions::case_expression))]
+#[cycle(parser)]
+fn case_expression(alloc: Global, input: &mut Input<'_>, room: u32) -> Result<Expr, ParseError>
+    ensures { Reads (reading rules room expressions.case_expression input.old.rest.now) result input.new.rest.now }
 {
     let anchor = anchor(input);
-    let operator = if input.eat(Kind::Sign(Sign::Asterisk)) {
-        Operator::Multiply
-    } else {
-        input.expect(Kind::Sign(Sign::Solidus))?;
-        Operator::Divide
-    };
-    let operand = signed(alloc, input, room)?;
-    Ok(Link {
-        operator,
-        anchor,
-        operand,
-    })
+    let left = input.open(room, Kind::Word(Word::Case))?;
+    let inner = cases(alloc, input, left)?;
+    let case = input.close(Kind::Word(Word::End), inner)?;
+    Ok(Expr::Operation(anchor, case.0, case.1))
 }
 
-#[tactic(auto, unfolding(sql_grammar::specs::Expressions::factors, sql_grammar::specs::Expressions::factor))]
+// What stands between CASE and END.
+#[tactic(auto, unfolding(sql_grammar::specs::Expressions::cases))]
 #[cycle(parser)]
-fn factors(alloc: Global, input: &mut Input<'_>, room: u32) -> Result<Items<Link>, ParseError>
-    ensures { Reads (reading rules room expressions.factors input.old.rest.now) result input.new.rest.now }
+fn cases(
+    alloc: Global,
+    input: &mut Input<'_>,
+    room: u32,
+) -> Result<(Operation, Items<Expr>), ParseError>
+    ensures { Reads (reading rules room expressions.cases input.old.rest.now) result input.new.rest.now }
 {
-    let mut found = Items::new(alloc);
-    'more: while begins_factor(input) {
-        match factor(alloc, input, room) {
-            Ok(next) => found.push(next)?,
+    if begins_expr(input) {
+        let operand = expr(alloc, input, room)?;
+        let arms = arms(alloc, input, room)?;
+        return Ok((Operation::CaseOf, with_first(alloc, operand, arms)?));
+    }
+    let arms = arms(alloc, input, room)?;
+    Ok((Operation::Case, arms))
+}
+
+#[tactic(auto, unfolding(sql_grammar::specs::Expressions::arms, sql_grammar::specs::Expressions::else_clause))]
+#[cycle(parser)]
+fn arms(alloc: Global, input: &mut Input<'_>, room: u32) -> Result<Items<Expr>, ParseError>
+    ensures { Reads (reading rules room expressions.arms input.old.rest.now) result input.new.rest.now }
+{
+    let clauses = when_clauses(alloc, input, room)?;
+    let otherwise = if_after(alloc, input, room, Kind::Word(Word::Else))?;
+    Ok(followed_by(clauses, otherwise)?)
+}
+
+// The clauses of WHEN, with tests and results in turn.
+#[tactic(auto, unfolding(sql_grammar::specs::Expressions::when_clauses, sql_grammar::specs::Expressions::more_when_clauses))]
+#[cycle(parser)]
+fn when_clauses(alloc: Global, input: &mut Input<'_>, room: u32) -> Result<Items<Expr>, ParseError>
+    ensures { Reads (reading rules room expressions.when_clauses input.old.rest.now) result input.new.rest.now }
+{
+    let mut found = when_clause(alloc, input, room)?;
+    'more: while begins_when_clause(input) {
+        match when_clause(alloc, input, room) {
+            Ok(next) => found.append(next)?,
             Err(error) => return Err(error),
         }
     }
     Ok(found)
 }
 
-#[tactic(auto, unfolding(sql_grammar::specs::Expressions::term))]
-#[cycle(parser)]
-fn term(alloc: Global, input: &mut Input<'_>, room: u32) -> Result<Expr, ParseError>
-    ensures { Reads (reading rules room expressions.term input.old.rest.now) result input.new.rest.now }
+#[tactic(auto, unfolding(sql_grammar::specs::Expressions::when_clause, sql_grammar::specs::Expressions::after))]
+fn begins_when_clause(input: &Input<'_>) -> bool
+    ensures { result ≡ begins (first expressions.when_clause) input.now.rest.now }
 {
-    let first = signed(alloc, input, room)?;
-    let links = factors(alloc, input, room)?;
-    Ok(chained(alloc, first, links)?)
+    input.sees(Kind::Word(Word::When))
 }
 
-#[tactic(auto, unfolding(sql_grammar::specs::Expressions::addend, sql_grammar::specs::Expressions::addend_operator))]
+// A test and its result.
+#[tactic(auto, unfolding(sql_grammar::specs::Expressions::when_clause))]
 #[cycle(parser)]
-fn addend(alloc: Global, input: &mut Input<'_>, room: u32) -> Result<Link, ParseError>
-    ensures { Reads (reading rules room expressions.addend input.old.rest.now) result input.new.rest.now }
+fn when_clause(alloc: Global, input: &mut Input<'_>, room: u32) -> Result<Items<Expr>, ParseError>
+    ensures { Reads (reading rules room expressions.when_clause input.old.rest.now) result input.new.rest.now }
 {
-    let anchor = anchor(input);
-    let operator = if input.eat(Kind::Sign(Sign::Plus)) {
-        Operator::Add
-    } else {
-        input.expect(Kind::Sign(Sign::Minus))?;
-        Operator::Subtract
-    };
-    let operand = term(alloc, input, room)?;
-    Ok(Link {
-        operator,
-        anchor,
-        operand,
-    })
+    let test = after(alloc, input, room, Kind::Word(Word::When))?;
+    let result = after(alloc, input, room, Kind::Word(Word::Then))?;
+    Ok(pair(alloc, test, result)?)
 }
 
-#[tactic(auto, unfolding(sql_grammar::specs::Expressions::addends, sql_grammar::specs::Expressions::addend))]
+// ---- lists
+
+/// Expressions with commas between them, in brackets.
+#[tactic(auto, unfolding(sql_grammar::specs::Trees::bracketed))]
 #[cycle(parser)]
-fn addends(alloc: Global, input: &mut Input<'_>, room: u32) -> Result<Items<Link>, ParseError>
-    ensures { Reads (reading rules room expressions.addends input.old.rest.now) result input.new.rest.now }
+pub(crate) fn bracketed_exprs(
+    alloc: Global,
+    input: &mut Input<'_>,
+    room: u32,
+) -> Result<Items<Expr>, ParseError>
+    ensures { Reads (reading rules room (trees.bracketed trees.Exprs) input.old.rest.now) result input.new.rest.now }
 {
-    let mut found = Items::new(alloc);
-    'more: while begins_addend(input) {
-        match addend(alloc, input, room) {
-            Ok(next) => found.push(next)?,
-            Err(error) => return Err(error),
-        }
-    }
-    Ok(found)
+    let left = input.open(room, Kind::Sign(Sign::LeftParen))?;
+    let inner = exprs(alloc, input, left)?;
+    input.close(Kind::Sign(Sign::RightParen), inner)
 }
 
-#[tactic(auto, unfolding(sql_grammar::specs::Expressions::expr))]
-#[cycle(parser)]
-pub(crate) fn expr(alloc: Global, input: &mut Input<'_>, room: u32) -> Result<Expr, ParseError>
-    ensures { Reads (reading rules room expressions.expr input.old.rest.now) result input.new.rest.now }
-{
-    let first = term(alloc, input, room)?;
-    let links = addends(alloc, input, room)?;
-    Ok(chained(alloc, first, links)?)
-}
-
-#[tactic(auto, unfolding(sql_grammar::specs::Expressions::more_exprs))]
-#[cycle(parser)]
-fn more_exprs(alloc: Global, input: &mut Input<'_>, room: u32) -> Result<Items<Expr>, ParseError>
-    ensures { Reads (reading rules room expressions.more_exprs input.old.rest.now) result input.new.rest.now }
-{
-    let mut found = Items::new(alloc);
-    'more: while input.eat(Kind::Sign(Sign::Comma)) {
-        match expr(alloc, input, room) {
-            Ok(next) => found.push(next)?,
-            Err(error) => return Err(error),
-        }
-    }
-    Ok(found)
-}
-
-#[tactic(auto, unfolding(sql_grammar::specs::Expressions::exprs))]
+/// Expressions with commas between them.
+#[tactic(auto, unfolding(sql_grammar::specs::Expressions::exprs, sql_grammar::specs::Expressions::more_exprs))]
 #[cycle(parser)]
 pub(crate) fn exprs(
     alloc: Global,
@@ -302,6 +482,19 @@ pub(crate) fn exprs(
     ensures { Reads (reading rules room expressions.exprs input.old.rest.now) result input.new.rest.now }
 {
     let first = expr(alloc, input, room)?;
-    let more = more_exprs(alloc, input, room)?;
-    Ok(with_first(alloc, first, more)?)
+    let mut found = only(alloc, first)?;
+    'more: while begins_more(input) {
+        match after(alloc, input, room, Kind::Sign(Sign::Comma)) {
+            Ok(next) => found.push(next)?,
+            Err(error) => return Err(error),
+        }
+    }
+    Ok(found)
+}
+
+#[tactic(auto, unfolding(sql_grammar::specs::Expressions::after))]
+fn begins_more(input: &Input<'_>) -> bool
+    ensures { result ≡ begins (first (expressions.after (kinds.Sign signs.Comma))) input.now.rest.now }
+{
+    input.sees(Kind::Sign(Sign::Comma))
 }

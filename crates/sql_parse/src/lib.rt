@@ -5,10 +5,13 @@
 mod create;
 mod expr;
 mod insert;
+mod lists;
 mod parse;
 mod place;
 mod query;
 mod statement;
+mod types;
 mod values;
+mod words;
 
 pub use parse::{parse_ddl, parse_dml, parse_query, parse_statement};

@@ -1,13 +1,13 @@
-//! Anchors and names.
+//! Anchors, names and tables of tokens.
 
-ghost use Rattle.std.specs.Prelude.{◌≡◌};
+ghost use Rattle.std.specs.Prelude.{◌≡◌, []};
 ghost use Rattle.token_grammar.specs.Reading.{next_token, reading};
 ghost use Rattle.token_grammar.specs.Reads.{Reads};
 ghost use Rattle.sql_grammar.specs.Trees as trees;
 ghost use Rattle.sql_grammar.specs.Sql.{rules};
 
-use sql_lex::{Kind, Token, Word};
-use syntax_trees::{Anchor, DataType, Ident, TypeName};
+use sql_lex::{Kind, Token};
+use syntax_trees::{Anchor, Ident};
 use token_grammar::{Input, ParseError, name_in};
 
 /// The anchor of what stands at a token.
@@ -35,6 +35,43 @@ pub(crate) fn anchor(input: &Input<'_>) -> Anchor
     }
 }
 
+/// One token of a table: what it stands for, and its anchor. The first line stands apart, since no
+/// table is empty.
+pub(crate) fn choice<T: Copy>(
+    input: &mut Input<'_>,
+    room: u32,
+    kind: Kind,
+    meaning: T,
+    more: &[(Kind, T)],
+) -> Result<(T, Anchor), ParseError>
+    ensures { Reads (reading rules room (trees.choice (kind, meaning) more.now) input.old.rest.now) result input.new.rest.now }
+{
+    match more {
+        [] => chosen(input, room, kind, meaning),
+        [next, rest @ ..] => {
+            if input.sees(kind) {
+                chosen(input, room, kind, meaning)
+            } else {
+                choice(input, room, next.0, next.1, rest)
+            }
+        }
+    }
+}
+
+// What a token of the kind stands for, and its anchor.
+fn chosen<T: Copy>(
+    input: &mut Input<'_>,
+    room: u32,
+    kind: Kind,
+    meaning: T,
+) -> Result<(T, Anchor), ParseError>
+    ensures { Reads (reading rules room (trees.choice (kind, meaning) []) input.old.rest.now) result input.new.rest.now }
+{
+    let token = input.expect(kind)?;
+    Ok((meaning, anchor_in(token)))
+}
+
+/// A name.
 #[tactic(auto, unfolding(sql_grammar::specs::Trees::ident))]
 pub(crate) fn ident(input: &mut Input<'_>, room: u32) -> Result<Ident, ParseError>
     ensures { Reads (reading rules room trees.ident input.old.rest.now) result input.new.rest.now }
@@ -43,22 +80,4 @@ pub(crate) fn ident(input: &mut Input<'_>, room: u32) -> Result<Ident, ParseErro
     let name = name_in(token)?;
     let anchor = anchor_in(token);
     Ok(Ident { name, anchor })
-}
-
-#[tactic(auto, unfolding(sql_grammar::specs::Trees::data_type))]
-pub(crate) fn data_type(input: &mut Input<'_>, room: u32) -> Result<DataType, ParseError>
-    ensures { Reads (reading rules room trees.data_type input.old.rest.now) result input.new.rest.now }
-{
-    let anchor = anchor(input);
-    if input.eat(Kind::Word(Word::Integer)) {
-        return Ok(DataType {
-            anchor,
-            name: TypeName::Integer,
-        });
-    }
-    input.expect(Kind::Word(Word::Int))?;
-    Ok(DataType {
-        anchor,
-        name: TypeName::Integer,
-    })
 }

@@ -1,89 +1,30 @@
 //! Queries.
 
-ghost use Rattle.std.specs.Prelude.{◌≡◌, IfOk};
+ghost use Rattle.std.specs.Prelude.{◌≡◌};
 ghost use Rattle.token_grammar.specs.Reading.{reading};
 ghost use Rattle.token_grammar.specs.Reads.{Reads};
-ghost use Rattle.syntax_trees.specs.declared.expr.Expr.TheVariants as tree;
-ghost use Rattle.sql_grammar.specs.Expressions as expressions;
 ghost use Rattle.sql_grammar.specs.Queries as queries;
 ghost use Rattle.sql_grammar.specs.Sql.{rules};
 
-use crate::expr::{expr, exprs, only};
-use crate::place::{anchor, anchor_in, ident};
+use crate::expr::{after, exprs};
+use crate::lists::only;
+use crate::place::{anchor_in, ident};
 use crate::values::values;
-use sql_lex::{Kind, Sign, Word};
-use sql_values::Comparison;
-use sqlite_items::{Boxed, Items};
-use std::alloc::{AllocError, Global};
+use sql_lex::{Kind, Word};
+use sqlite_items::Items;
+use std::alloc::Global;
 use syntax_trees::{Anchor, Expr, FromItem, Query, Select};
 use token_grammar::{Input, ParseError};
 
-// A comparison, with its anchor.
-#[tactic(auto, unfolding(sql_grammar::specs::Expressions::comparison))]
-fn comparison(input: &mut Input<'_>, room: u32) -> Result<(Comparison, Anchor), ParseError>
-    ensures { Reads (reading rules room expressions.comparison input.old.rest.now) result input.new.rest.now }
+// WHERE and its condition, if it stands here.
+#[tactic(auto, unfolding(sql_grammar::specs::Queries::filter, sql_grammar::specs::Expressions::after))]
+fn filter(alloc: Global, input: &mut Input<'_>, room: u32) -> Result<Option<Expr>, ParseError>
+    ensures { Reads (reading rules room queries.filter input.old.rest.now) result input.new.rest.now }
 {
-    let anchor = anchor(input);
-    if input.eat(Kind::Sign(Sign::Equals)) {
-        return Ok((Comparison::Equals, anchor));
-    }
-    if input.eat(Kind::Sign(Sign::NotEquals)) {
-        return Ok((Comparison::NotEquals, anchor));
-    }
-    if input.eat(Kind::Sign(Sign::LessThan)) {
-        return Ok((Comparison::LessThan, anchor));
-    }
-    if input.eat(Kind::Sign(Sign::LessThanOrEquals)) {
-        return Ok((Comparison::LessThanOrEquals, anchor));
-    }
-    if input.eat(Kind::Sign(Sign::GreaterThan)) {
-        return Ok((Comparison::GreaterThan, anchor));
-    }
-    input.expect(Kind::Sign(Sign::GreaterThanOrEquals))?;
-    Ok((Comparison::GreaterThanOrEquals, anchor))
-}
-
-// Two expressions, compared.
-fn compared(
-    alloc: Global,
-    anchor: Anchor,
-    comparison: Comparison,
-    left: Expr,
-    right: Expr,
-) -> Result<Expr, AllocError>
-    ensures { IfOk result (λ e. e ≡ tree.Compare anchor comparison left right) }
-{
-    let left = Boxed::new(alloc, left)?;
-    let right = Boxed::new(alloc, right)?;
-    Ok(Expr::Compare(anchor, comparison, left, right))
-}
-
-#[tactic(auto, unfolding(sql_grammar::specs::Expressions::predicate))]
-fn predicate(alloc: Global, input: &mut Input<'_>, room: u32) -> Result<Expr, ParseError>
-    ensures { Reads (reading rules room expressions.predicate input.old.rest.now) result input.new.rest.now }
-{
-    let left = expr(alloc, input, room)?;
-    let operator = comparison(input, room)?;
-    let right = expr(alloc, input, room)?;
-    Ok(compared(alloc, operator.1, operator.0, left, right)?)
-}
-
-#[tactic(auto, unfolding(sql_grammar::specs::Queries::conjuncts))]
-fn conjuncts(alloc: Global, input: &mut Input<'_>, room: u32) -> Result<Items<Expr>, ParseError>
-    ensures { Reads (reading rules room queries.conjuncts input.old.rest.now) result input.new.rest.now }
-{
-    let first = predicate(alloc, input, room)?;
-    Ok(only(alloc, first)?)
-}
-
-#[tactic(auto, unfolding(sql_grammar::specs::Queries::conditions))]
-fn conditions(alloc: Global, input: &mut Input<'_>, room: u32) -> Result<Items<Expr>, ParseError>
-    ensures { Reads (reading rules room queries.conditions input.old.rest.now) result input.new.rest.now }
-{
-    if input.eat(Kind::Word(Word::Where)) {
-        conjuncts(alloc, input, room)
+    if input.sees(Kind::Word(Word::Where)) {
+        Ok(Some(after(alloc, input, room, Kind::Word(Word::Where))?))
     } else {
-        Ok(Items::new(alloc))
+        Ok(None)
     }
 }
 
@@ -118,18 +59,18 @@ fn from_clause(
     from_items(alloc, input, room)
 }
 
-// FROM tables [WHERE condition]
+// FROM tables [WHERE e]
 #[tactic(auto, unfolding(sql_grammar::specs::Queries::source))]
 fn source(
     alloc: Global,
     input: &mut Input<'_>,
     room: u32,
-) -> Result<(Items<FromItem>, Items<Expr>), ParseError>
+) -> Result<(Items<FromItem>, Option<Expr>), ParseError>
     ensures { Reads (reading rules room queries.source input.old.rest.now) result input.new.rest.now }
 {
     let from = from_clause(alloc, input, room)?;
-    let conditions = conditions(alloc, input, room)?;
-    Ok((from, conditions))
+    let filter = filter(alloc, input, room)?;
+    Ok((from, filter))
 }
 
 // What stands after SELECT: the select list, and where its rows come from.
@@ -138,7 +79,7 @@ fn selection(
     alloc: Global,
     input: &mut Input<'_>,
     room: u32,
-) -> Result<(Items<Expr>, (Items<FromItem>, Items<Expr>)), ParseError>
+) -> Result<(Items<Expr>, (Items<FromItem>, Option<Expr>)), ParseError>
     ensures { Reads (reading rules room queries.selection input.old.rest.now) result input.new.rest.now }
 {
     let items = exprs(alloc, input, room)?;
@@ -165,7 +106,7 @@ fn select(alloc: Global, input: &mut Input<'_>, room: u32) -> Result<Select, Par
         anchor,
         items: selected.0,
         from: source.0,
-        conditions: source.1,
+        filter: source.1,
     })
 }
 

@@ -3,32 +3,23 @@
 ghost use Rattle.std.specs.Prelude.{◌≡◌};
 ghost use Rattle.token_grammar.specs.Reading.{reading};
 ghost use Rattle.token_grammar.specs.Reads.{Reads};
-ghost use Rattle.sql_grammar.specs.Trees as trees;
 ghost use Rattle.sql_grammar.specs.Queries as queries;
 ghost use Rattle.sql_grammar.specs.Sql.{rules};
 
-use crate::expr::{exprs, with_first};
+use crate::expr::bracketed_exprs;
+use crate::lists::with_first;
 use crate::place::anchor_in;
 use sql_lex::{Kind, Sign, Word};
 use sqlite_items::Items;
 use std::alloc::Global;
-use syntax_trees::{Anchor, Expr, ValueRow, Values};
+use syntax_trees::{Anchor, ValueRow, Values};
 use token_grammar::{Input, ParseError};
-
-#[tactic(auto, unfolding(sql_grammar::specs::Trees::bracketed))]
-fn row_values(alloc: Global, input: &mut Input<'_>, room: u32) -> Result<Items<Expr>, ParseError>
-    ensures { Reads (reading rules room (trees.bracketed trees.RowValues) input.old.rest.now) result input.new.rest.now }
-{
-    let left = input.open(room, Kind::Sign(Sign::LeftParen))?;
-    let inner = exprs(alloc, input, left)?;
-    input.close(Kind::Sign(Sign::RightParen), inner)
-}
 
 #[tactic(auto, unfolding(sql_grammar::specs::Queries::row))]
 fn row(alloc: Global, input: &mut Input<'_>, room: u32) -> Result<ValueRow, ParseError>
     ensures { Reads (reading rules room queries.row input.old.rest.now) result input.new.rest.now }
 {
-    Ok(ValueRow::Row(row_values(alloc, input, room)?))
+    Ok(ValueRow::Row(bracketed_exprs(alloc, input, room)?))
 }
 
 #[tactic(auto, unfolding(sql_grammar::specs::Queries::more_rows))]

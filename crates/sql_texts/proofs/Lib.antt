@@ -1,1 +1,3 @@
+pub mod ByteOrder
 pub mod Folding
+pub mod Parts

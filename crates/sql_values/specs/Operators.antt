@@ -5,16 +5,18 @@ use Rattle.std.specs.declared.cmp.Ordering.TheVariants.{Less, Equal, Greater}
 use Rattle.sql_values.specs.declared.value.Value.{Value}
 use Rattle.sql_values.specs.declared.value.Value.TheVariants.{Null, Bool as Truth}
 use Rattle.sql_values.specs.declared.operators.Operator.{Operator}
-use Rattle.sql_values.specs.declared.operators.Operator.TheVariants.{Add, Subtract, Multiply, Divide}
+use Rattle.sql_values.specs.declared.operators.Operator.TheVariants.{Add, Subtract, Multiply, Divide, Concatenate}
 use Rattle.sql_values.specs.declared.operators.Comparison.{Comparison}
 use Rattle.sql_values.specs.declared.operators.Comparison.TheVariants.{Equals, NotEquals, LessThan, LessThanOrEquals, GreaterThan, GreaterThanOrEquals}
 use Rattle.sql_values.specs.Values.{Outcome, sum_of, difference_of, product_of, quotient_of, order_of}
+use Rattle.sql_values.specs.Texts.{concatenation_of}
 
 abbrev pub applied : Operator → Value → Value → Outcome
 applied Add a b = sum_of a b
 applied Subtract a b = difference_of a b
 applied Multiply a b = product_of a b
 applied Divide a b = quotient_of a b
+applied Concatenate a b = concatenation_of a b
 
 -- the comparison is true of two values in this order
 abbrev pub allows : Comparison → Ordering → Bool

@@ -1,10 +1,10 @@
-//! Arithmetic and comparison of values (ISO/IEC 9075-2, 6.27 and 8.2): exact or a fault. A NULL operand gives NULL.
+//! Arithmetic and comparison of values (ISO/IEC 9075-2, 6.27, 6.28 and 8.2): exact or a fault. A NULL operand gives NULL.
 
 ghost use Rattle.std.specs.Prelude.{◌≡◌, ℤ, SomeIff, FitsSigned};
 ghost use Rattle.std.specs.Int.{w64};
-ghost use Rattle.sql_values.specs.Values.{sum_of, difference_of, product_of, quotient_of, divided, negation_of, order_of, assigned, ranged as ranged_by};
+ghost use Rattle.sql_values.specs.Values.{sum_of, difference_of, product_of, quotient_of, divided, negation_of, order_of, remainder_of, left_over, ranged as ranged_by};
 
-use crate::{SqlType, Value, ValueFault};
+use crate::{Value, ValueFault};
 use std::cmp::Ordering;
 
 // The exact result, which a checked operation has where it is in range.
@@ -69,14 +69,35 @@ pub fn div(a: &Value, b: &Value) -> Result<Value, ValueFault>
     }
 }
 
+// What the division of two numbers leaves. No remainder is out of range, also not that of the least number.
+fn remainder(x: i64, y: i64) -> Result<Value, ValueFault>
+    ensures { result ≡ left_over x y }
+{
+    if y == 0 {
+        Err(ValueFault::DivZero)
+    } else {
+        Ok(Value::Int(x.wrapping_rem(y)))
+    }
+}
+
+/// What the division leaves, with the sign of the dividend. `DivZero` comes exactly where the divisor is zero and the
+/// dividend isn't NULL.
+pub fn modulo(a: &Value, b: &Value) -> Result<Value, ValueFault>
+    ensures { result ≡ remainder_of a.now b.now }
+{
+    match (a, b) {
+        (Value::Int(x), Value::Int(y)) => remainder(*x, *y),
+        _ => Ok(Value::Null),
+    }
+}
+
 /// The number with the other sign. `OutOfRange` comes exactly for the least INTEGER.
 pub fn neg(a: &Value) -> Result<Value, ValueFault>
     ensures { result ≡ negation_of a.now }
 {
     match a {
         Value::Int(x) => ranged(x.checked_neg()),
-        Value::Null => Ok(Value::Null),
-        Value::Bool(_) => Ok(Value::Null),
+        _ => Ok(Value::Null),
     }
 }
 
@@ -86,16 +107,8 @@ pub fn cmp(a: &Value, b: &Value) -> Option<Ordering>
 {
     match (a, b) {
         (Value::Int(x), Value::Int(y)) => Some(x.cmp(y)),
+        (Value::Str(s), Value::Str(t)) => Some(s.order(t)),
         (Value::Bool(p), Value::Bool(q)) => Some(p.cmp(q)),
         _ => None,
-    }
-}
-
-/// The value that a target of a type takes (ISO/IEC 9075-2, 9.2). An INTEGER takes each number, and NULL.
-pub fn assign(v: Value, to: SqlType) -> Result<Value, ValueFault>
-    ensures { result ≡ assigned to v }
-{
-    match to {
-        SqlType::Integer => Ok(v),
     }
 }

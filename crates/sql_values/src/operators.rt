@@ -2,17 +2,21 @@
 
 ghost use Rattle.std.specs.Prelude.{◌≡◌};
 ghost use Rattle.sql_values.specs.Operators.{applied, compared, allows};
+ghost use Rattle.sql_values.specs.Values.{UnlessNoMemory};
 
-use crate::{Value, ValueFault, add, cmp, div, mul, sub};
+use crate::{Value, ValueFault, add, cmp, concat, div, mul, sub};
+use std::alloc::Global;
 use std::cmp::Ordering;
 
-/// An operator between two numbers.
+/// An operator of two operands: of numbers (ISO/IEC 9075-2, 6.27), or of texts.
 #[derive(Clone, Copy, Debug, PartialEq, Eq)]
 pub enum Operator {
     Add,
     Subtract,
     Multiply,
     Divide,
+    /// `||` (ISO/IEC 9075-2, 6.29).
+    Concatenate,
 }
 
 /// A comparison operator (ISO/IEC 9075-2, 8.2).
@@ -28,14 +32,15 @@ pub enum Comparison {
 
 impl Operator {
     /// What the operator gives of two values; its faults are those of the operation.
-    pub fn apply(self, a: &Value, b: &Value) -> Result<Value, ValueFault>
-        ensures { result ≡ applied self a.now b.now }
+    pub fn apply(self, alloc: Global, a: &Value, b: &Value) -> Result<Value, ValueFault>
+        ensures { UnlessNoMemory result (result ≡ applied self a.now b.now) }
     {
         match self {
             Operator::Add => add(a, b),
             Operator::Subtract => sub(a, b),
             Operator::Multiply => mul(a, b),
             Operator::Divide => div(a, b),
+            Operator::Concatenate => concat(alloc, a, b),
         }
     }
 }

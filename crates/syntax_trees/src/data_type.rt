@@ -13,4 +13,7 @@ pub struct DataType {
 #[derive(Clone, Copy, Debug, PartialEq, Eq)]
 pub enum TypeName {
     Integer,
+    /// VARCHAR, with its number as it is written, and the number's token.
+    Varchar(Anchor, i64),
+    Boolean,
 }

@@ -1,42 +1,100 @@
-//! Expressions.
+//! Expressions. What only has operands is one node, a word with its operands.
 
-use crate::{Anchor, Ident};
-use sql_values::{Comparison, Operator};
+use crate::{Anchor, DataType, Ident};
+use sql_values::{Comparison, Operator, Text};
 use sqlite_items::{Boxed, Items};
 
-/// A sign before an operand.
+/// A literal (ISO/IEC 9075-2, 5.3), or NULL.
+#[derive(Drop)]
+pub enum Literal {
+    Number(i64),
+    Text(Text),
+    True,
+    False,
+    Unknown,
+    Null,
+}
+
+/// What IS asks for (ISO/IEC 9075-2, 6.39 and 8.8).
 #[derive(Clone, Copy, Debug, PartialEq, Eq)]
-pub enum UnarySign {
+pub enum TruthTest {
+    Null,
+    True,
+    False,
+    Unknown,
+}
+
+/// A word or sign that stands over operands alone.
+#[derive(Clone, Copy, Debug, PartialEq, Eq)]
+pub enum Operation {
+    /// The sign `+`, and its operand (ISO/IEC 9075-2, 6.27).
     Plus,
+    /// The sign `-`, and its operand.
     Minus,
+    /// NOT, and its operand (6.39).
+    Not,
+    /// A comparison (8.2), and its two sides.
+    Compare(Comparison),
+    /// IS, and its operand.
+    Is(TruthTest),
+    /// IS NOT, and its operand.
+    IsNot(TruthTest),
+    /// IN over a list (8.4): the left side, and then the items.
+    In,
+    /// NOT IN over a list.
+    NotIn,
+    /// MOD, the dividend and the divisor (6.28).
+    Modulo,
+    /// CHAR_LENGTH, and its text (6.28).
+    CharLength,
+    /// SUBSTRING (6.32): the text, the place, and perhaps the length.
+    Substring,
+    /// CAST to a type, and its operand (6.13).
+    Cast(DataType),
+    /// COALESCE, and its operands (6.12).
+    Coalesce,
+    /// CASE without an operand (6.12): tests and results in turn, and perhaps the result of ELSE.
+    Case,
+    /// CASE with an operand (6.12): the operand, then what it is compared with and results in turn,
+    /// and perhaps the result of ELSE.
+    CaseOf,
+}
+
+/// An operator of a chain. The operators of one chain are of one level: OR, AND, the additive ones
+/// with `||`, or the multiplicative ones.
+#[derive(Clone, Copy, Debug, PartialEq, Eq)]
+pub enum ChainOperator {
+    /// OR (ISO/IEC 9075-2, 6.39).
+    Or,
+    /// AND.
+    And,
+    /// An operator of two operands.
+    Value(Operator),
 }
 
 /// A value expression (ISO/IEC 9075-2, 6.26).
 #[cycle(tree)]
 #[derive(Drop)]
 pub enum Expr {
-    /// A number. Its anchor is itself.
-    Number(Anchor, i64),
-    /// NULL. Its anchor is the word.
-    Null(Anchor),
-    /// A column or a parameter.
+    /// A literal. Its anchor is itself.
+    Literal(Anchor, Literal),
+    /// A column, a variable or a parameter.
     Name(Ident),
     /// A call of a function, with its arguments. Its anchor is the function's name.
     Call(Ident, Items<Expr>),
-    /// A sign and its operand. Its anchor is the sign.
-    Signed(Anchor, UnarySign, Boxed<Expr>),
+    /// A word with its operands. Its anchor is the word, the sign or the comparison's operator; of
+    /// IN, also with NOT, it is IN, and of IS it is IS.
+    Operation(Anchor, Operation, Items<Expr>),
     /// A chain of operators, read from the left, with at least one. Its anchor is the first
     /// operator.
     Chain(Boxed<Expr>, Items<Link>),
-    /// A comparison (ISO/IEC 9075-2, 8.2). Its anchor is the operator.
-    Compare(Anchor, Comparison, Boxed<Expr>, Boxed<Expr>),
 }
 
 /// An operator of a chain, and the operand after it.
 #[cycle(tree)]
 #[derive(Drop)]
 pub struct Link {
-    pub operator: Operator,
+    pub operator: ChainOperator,
     /// The operator's token.
     pub anchor: Anchor,
     pub operand: Expr,

@@ -10,6 +10,6 @@ mod statement;
 
 pub use anchor::{Anchor, Ident};
 pub use data_type::{DataType, TypeName};
-pub use expr::{Expr, Link, UnarySign};
+pub use expr::{ChainOperator, Expr, Link, Literal, Operation, TruthTest};
 pub use query::{FromItem, Query, Select, ValueRow, Values};
 pub use statement::{Column, Constraint, CreateFunction, CreateTable, Insert, Parameter, Stmt};

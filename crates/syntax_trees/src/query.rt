@@ -33,8 +33,8 @@ pub struct Select {
     pub items: Items<Expr>,
     /// The items of FROM, of which there is at least one.
     pub from: Items<FromItem>,
-    /// The conditions of WHERE, all of which a row must meet. Without WHERE there is none.
-    pub conditions: Items<Expr>,
+    /// The condition of WHERE. Without WHERE there is none.
+    pub filter: Option<Expr>,
 }
 
 /// An item of FROM (ISO/IEC 9075-2, 7.6).

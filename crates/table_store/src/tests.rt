@@ -5,7 +5,7 @@ ghost use Rattle.row_types.specs.Rows.{has_key_columns};
 
 use crate::{Table, Tables};
 use row_types::{ColumnType, Key, Row, RowType, Steps, fits};
-use sql_values::{Name, NoMemory, SqlType, Value};
+use sql_values::{MOST_TEXT, Name, NoMemory, SqlType, Text, Value};
 use sqlite_items::Items;
 use std::alloc::Global;
 use std::marker::Brand;
@@ -19,10 +19,25 @@ fn row(alloc: Global, key: i64, number: i64) -> Result<Row, NoMemory> {
     Ok(row)
 }
 
-fn column(alloc: Global) -> Result<ColumnType, NoMemory> {
+fn text(alloc: Global, characters: &str) -> Result<Value, NoMemory> {
+    let owned = characters.to_string(alloc)?;
+    if owned.as_str().chars().count() > MOST_TEXT {
+        return Err(NoMemory);
+    }
+    Ok(Value::Str(Text::of(alloc, owned)?))
+}
+
+fn text_row(alloc: Global, key: &str, number: i64) -> Result<Row, NoMemory> {
+    let mut row = Items::new(alloc);
+    row.push(text(alloc, key)?)?;
+    row.push(Value::Int(number))?;
+    Ok(row)
+}
+
+fn column(alloc: Global, data_type: SqlType) -> Result<ColumnType, NoMemory> {
     Ok(ColumnType {
         name: Name::folded(alloc, b"a")?,
-        data_type: SqlType::Integer,
+        data_type,
         not_null: false,
     })
 }
@@ -32,10 +47,23 @@ fn pairs(alloc: Global) -> Result<RowType, NoMemory>
     ensures { IfOk result (λ t. IsTrue (has_key_columns t.columns t.key)) }
 {
     let mut columns = Items::new(alloc);
-    columns.push(column(alloc)?)?;
-    columns.push(column(alloc)?)?;
+    columns.push(column(alloc, SqlType::Integer)?)?;
+    columns.push(column(alloc, SqlType::Integer)?)?;
     let mut key = Items::new(alloc);
     key.push(0usize)?;
+    Ok(RowType { columns, key })
+}
+
+// Texts of at most two characters, and numbers; both columns are the key.
+fn named_numbers(alloc: Global) -> Result<RowType, NoMemory>
+    ensures { IfOk result (λ t. IsTrue (has_key_columns t.columns t.key)) }
+{
+    let mut columns = Items::new(alloc);
+    columns.push(column(alloc, SqlType::Varchar(2))?)?;
+    columns.push(column(alloc, SqlType::Integer)?)?;
+    let mut key = Items::new(alloc);
+    key.push(0usize)?;
+    key.push(1usize)?;
     Ok(RowType { columns, key })
 }
 
@@ -168,4 +196,31 @@ fn rows_go_out_and_tables_are_dropped(rt: HostRuntime) -> Result<(), Fail> {
     assert!(rt; tables.place_of(&second) == Some(0));
     assert!(rt; tables.len() == 1);
     Ok(())
+}
+
+// A table of such rows, where each goes in at its place or is refused.
+fn put_texts(alloc: Global) -> Result<bool, NoMemory> {
+    let mut tables = Tables::new(alloc);
+    let table = Table::new(alloc, named_numbers(alloc)?);
+    tables.add_table(Name::folded(alloc, b"a")?, table)?;
+    for (key, number, place) in [
+        ("b", 1, Some(0)),
+        ("aa", 1, Some(0)),
+        ("aa", 0, Some(0)),
+        ("aa", 1, None),
+        ("", 5, Some(0)),
+        ("B ", 5, Some(1)),
+        ("abc", 5, None),
+        ("éé", 5, Some(5)),
+    ] {
+        if put(&mut tables, 0, text_row(alloc, key, number)?) != place {
+            return Ok(false);
+        }
+    }
+    Ok(true)
+}
+
+#[test]
+fn texts_stand_by_code_points(rt: HostRuntime) {
+    assert!(rt; put_texts(rt.alloc()) == Ok(true));
 }

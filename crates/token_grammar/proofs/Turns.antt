@@ -4,7 +4,8 @@ use Rattle.sql_lex.specs.declared.token.Kind.{Kind}
 use Rattle.token_grammar.specs.declared.stage.Stage.{Stage}
 use Rattle.sql_lex.specs.declared.token.Token.{Token}
 use Rattle.token_grammar.specs.Grammar.{Grammar, many, both, token, staged, map_to, inside}
-use Rattle.token_grammar.specs.Reading.{Outcome, Fault, NoSpelling, TooDeep, first, nullable, begins, next_token, repeat, repeat_from, reading, with_front, ◌>>=◌}
+use Rattle.token_grammar.specs.Reading.{Outcome, Fault, NoSpelling, TooDeep, first, nullable, begins, next_token, repeat, repeat_from, reading, with_front, mapped, ◌>>=◌}
+use Rattle.token_grammar.specs.Notation.{joined}
 use Rattle.token_grammar.specs.Exact.{IsSound}
 use Rattle.token_grammar.specs.Reads.{Reads}
 use Rattle.token_grammar.specs.declared.fault.ParseError.{ParseError}
@@ -114,6 +115,32 @@ module _ {R : Type 0} {Tree : R → Type 0} (rules : (r : R) → Grammar R Tree 
   each_err n g found ts rest b whole error.NoMemory inv eb tb r = tt
   each_err n g found ts rest b whole error.NoStatement inv eb tb r = sym inv ∙ many_err n g found ts (NoSpelling rest) (sym eb ∙ tb) r
   each_err n g found ts rest b whole error.TooDeep inv eb tb r = sym inv ∙ many_err n g found ts (TooDeep rest) (sym eb ∙ tb) r
+
+  -- a list at the very place, put to those before it: `while` the item begins
+  joined_fronts : {A : Type 0} (found x : List A) (o : Outcome (List (List A))) → with_front found (mapped joined (o >>= λ ps. Ok (x ∷ ps.0, ps.1))) ≡ with_front (found ++ x) (mapped joined o)
+  joined_fronts found x (Ok p) = ap (λ (z : List _). Ok (z, p.1)) (sym (append_assoc found x (joined p.0)))
+  joined_fronts found x (Err f) = refl
+
+  pub joined_step : {A : Type 0} (n : ℕ) (g : Grammar R Tree (List A)) → nullable g ≡ false → (found found' : List A) (ts next : List Token) (x : List A) (b : Bool) (whole : Outcome (List A))
+      → with_front found (reading rules n (map_to joined (many g)) ts) ≡ whole → b ≡ begins (first g) ts → b ≡ true → reading rules n g ts ≡ Ok (x, next) → found' ≡ found ++ x
+      → with_front found' (reading rules n (map_to joined (many g)) next) ≡ whole
+  joined_step n g nn found found' ts next x b whole inv eb tb r e =
+      ap (λ z. with_front z (reading rules n (map_to joined (many g)) next)) e
+      ∙ sym (ap (λ z. with_front found (mapped joined z)) (repeat_step n g nn (length ts) ts x next refl (sym eb ∙ tb) r)
+      ∙ joined_fronts found x (reading rules n (many g) next)) ∙ inv
+
+  pub joined_err : {A : Type 0} (n : ℕ) (g : Grammar R Tree (List A)) (found : List A) (ts rest : List Token) (b : Bool) (whole : Outcome (List A)) (e : ParseError)
+      → with_front found (reading rules n (map_to joined (many g)) ts) ≡ whole → b ≡ begins (first g) ts → b ≡ true → Reads (reading rules n g ts) (Err e) rest → Reads whole (Err e) rest
+  joined_err n g found ts rest b whole error.NoMemory inv eb tb r = tt
+  joined_err n g found ts rest b whole error.NoStatement inv eb tb r =
+      sym inv ∙ ap (λ z. with_front found (mapped joined z)) (repeat_err n g (length ts) ts (NoSpelling rest) refl (sym eb ∙ tb) r)
+  joined_err n g found ts rest b whole error.TooDeep inv eb tb r =
+      sym inv ∙ ap (λ z. with_front found (mapped joined z)) (repeat_err n g (length ts) ts (TooDeep rest) refl (sym eb ∙ tb) r)
+
+  pub joined_stop : {A : Type 0} (n : ℕ) (g : Grammar R Tree (List A)) (found : List A) (ts : List Token) → begins (first g) ts ≡ false
+      → with_front found (reading rules n (map_to joined (many g)) ts) ≡ Ok (found, ts)
+  joined_stop n g found ts b =
+      ap (λ z. with_front found (mapped joined z)) (repeat_stop n g (length ts) ts b) ∙ ap (λ (z : List _). Ok (z, ts)) (append-nil found)
 
   -- an item after a word: `while` the word is eaten
   after_reading : {A : Type 0} (n : ℕ) (kind : Kind) (h : Grammar R Tree A) (ts ts1 : List Token) (b : Bool) → b ≡ begins (kind ∷ []) ts → b ≡ true → ts1 ≡ cond b (drop 1 ts) ts

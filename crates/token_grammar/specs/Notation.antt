@@ -1,5 +1,5 @@
 -- Signs and words for grammars, so that a rule reads as it is printed.
-use Rattle.std.specs.Prelude.{ℕ, Bool, true, false, List, [], ◌∷◌, Option, Some, None, ℤ, pos}
+use Rattle.std.specs.Prelude.{ℕ, Bool, true, false, List, [], ◌∷◌, ◌++◌, Option, Some, None, ℤ, pos}
 use Rattle.sql_lex.specs.declared.token.Lexeme.{Lexeme}
 use Rattle.sql_lex.specs.declared.token.Lexeme.TheVariants as lexeme
 use Rattle.sql_lex.specs.declared.token.Kind.TheVariants as kind
@@ -78,3 +78,8 @@ is_there None = false
 abbrev pub followed : {A B : Type 0} → (A → B) → Option (A → B) → A → B
 followed alone None x = alone x
 followed alone (Some f) x = f x
+
+-- the lists, one after another
+abbrev pub joined : {A : Type 0} → List (List A) → List A
+joined [] = []
+joined (xs ∷ more) = xs ++ joined more

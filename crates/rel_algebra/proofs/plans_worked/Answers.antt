@@ -22,7 +22,7 @@ returns c = record {
     (
       (
         inr (tt, inr (refl, inl (refl, inl (refl, tt))), (tt, tt)),
-        (tt, ((tt, tt), ((tt, tt), ((tt, tt), tt))), (tt, tt), tt, (tt, tt)),
+        (tt, ((tt, (tt, tt)), ((tt, (tt, tt)), ((tt, (tt, tt)), tt))), (tt, tt), tt, (tt, tt)),
       ),
       tt,
     ),

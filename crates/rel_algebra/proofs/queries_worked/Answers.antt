@@ -14,7 +14,6 @@ returns c = record {
   condition_first = refl;
   several = refl;
   truth = refl;
-  lazily = refl;
   left_join = refl;
   having_raises = refl;
   several_rows = refl;

@@ -1,36 +1,34 @@
-use Rattle.std.proofs.Common.{refl, [], ◌∷◌}
+use Rattle.std.proofs.Common.{ap, refl, [], ◌∷◌, None}
 use Rattle.std.specs.Prelude.{codes}
-use Rattle.syntax_trees.specs.declared.expr.Expr.{fold-roll-Expr}
-use Rattle.syntax_trees.specs.declared.expr.Link.{fold-roll-Link}
-use Rattle.sql_names.specs.Examples.{called, null, name, call, new_parameter}
-use Rattle.sql_names.proofs.Rows.{null-judged, name-judged, no_argument-judged, null-is, name-is, call-is, select-row, function-row}
+use Rattle.name_faults.specs.Faults.{Noted, least}
+use Rattle.sql_names.specs.declared.statement.BoundStmt.{BoundStmt}
+use Rattle.sql_names.specs.Examples.{null, name, call, integer, new_parameter}
+use Rattle.sql_names.proofs.Rows.{select-row, values-row, insert-row, function-row}
 use Rattle.sql_names.proofs.each_fault_at_its_place.Goals as goal
 
 pub returns : goal.returns
 returns c = record {
-  unknown_table = simp null-judged;
-  function_as_table = simp null-judged;
-  unknown_column = simp (null-judged, name-judged);
-  column_of_unknown_table = simp name-judged;
-  no_column_in_values = simp (null-judged, name-judged);
-  unknown_function = select-row (codes "T") (call (codes "G") 1 (null 3 ∷ [])) _ (call-is (called (codes "G") 1) (null 3) _ (null-is 3));
-  table_as_function = simp no_argument-judged;
-  self_call = function-row (codes "G") (new_parameter (codes "X") 4 ∷ []) (call (codes "G") 10 (name (codes "X") 12 ∷ [])) _ (call-is (called (codes "G") 10) (name (codes "X") 12) _ (name-is (called (codes "X") 12)));
-  taken_name = simp null-judged;
+  unknown_table = ap (λ (x : Noted BoundStmt). least x.faults) (insert-row (codes "U") ((null 5 ∷ []) ∷ []));
+  function_as_table = ap (λ (x : Noted BoundStmt). least x.faults) (select-row (codes "F") (null 1 ∷ []) None);
+  unknown_column = ap (λ (x : Noted BoundStmt). least x.faults) (select-row (codes "T") (null 1 ∷ name (codes "B") 3 ∷ []) None);
+  column_of_unknown_table = ap (λ (x : Noted BoundStmt). least x.faults) (select-row (codes "U") (name (codes "B") 1 ∷ []) None);
+  no_column_in_values = ap (λ (x : Noted BoundStmt). least x.faults) (insert-row (codes "T") ((null 5 ∷ name (codes "A") 7 ∷ []) ∷ []));
+  unknown_function = ap (λ (x : Noted BoundStmt). least x.faults) (select-row (codes "T") (call (codes "G") 1 (null 3 ∷ []) ∷ []) None);
+  table_as_function = ap (λ (x : Noted BoundStmt). least x.faults) (select-row (codes "T") (call (codes "T") 1 [] ∷ []) None);
+  self_call = ap (λ (x : Noted BoundStmt). least x.faults) (function-row (codes "G") (new_parameter (codes "X") 4 (integer 5) ∷ []) (integer 8) (call (codes "G") 10 (name (codes "X") 12 ∷ [])));
+  taken_name = ap (λ (x : Noted BoundStmt). least x.faults) (function-row (codes "F") [] (integer 8) (null 10));
+  second_parameter = ap (λ (x : Noted BoundStmt). least x.faults) (function-row (codes "G") (new_parameter (codes "X") 4 (integer 5) ∷ new_parameter (codes "X") 7 (integer 8) ∷ []) (integer 10) (null 12));
+  arguments = ap (λ (x : Noted BoundStmt). least x.faults) (select-row (codes "T") (call (codes "F") 1 [] ∷ []) None);
+  longer_row = ap (λ (x : Noted BoundStmt). least x.faults) (values-row ((null 4 ∷ []) ∷ (null 6 ∷ null 8 ∷ []) ∷ []));
+  shorter_row = ap (λ (x : Noted BoundStmt). least x.faults) (values-row ((null 4 ∷ null 6 ∷ []) ∷ (null 8 ∷ []) ∷ []));
+  width_of_the_table = ap (λ (x : Noted BoundStmt). least x.faults) (insert-row (codes "T") ((null 5 ∷ []) ∷ []));
+  too_high = ap (λ (x : Noted BoundStmt). least x.faults) (function-row (codes "G") [] (integer 8) (call (codes "F") 17 (null 19 ∷ [])));
+  too_high_behind_unknown = ap (λ (x : Noted BoundStmt). least x.faults) (function-row (codes "G") [] (integer 8) (call (codes "H") 17 (call (codes "F") 19 (null 21 ∷ []) ∷ [])));
   second_column = refl;
   second_key = refl;
   key_of_second_column = refl;
-  second_parameter = simp null-judged;
-  arguments = simp no_argument-judged;
-  longer_row = simp (null-judged, fold-roll-Expr);
-  shorter_row = simp (null-judged, fold-roll-Expr);
-  chain_at_its_operator = simp (fold-roll-Expr, fold-roll-Link);
-  sign_at_the_sign = simp fold-roll-Expr;
-  comparison_at_its_operator = simp fold-roll-Expr;
-  width_of_the_table = simp null-judged;
   no_key = refl;
   taken_before_no_key = refl;
-  too_high = function-row (codes "G") [] (call (codes "F") 7 (null 9 ∷ [])) _ (call-is (called (codes "F") 7) (null 9) _ (null-is 9));
-  too_high_behind_unknown = function-row (codes "G") [] (call (codes "H") 7 (call (codes "F") 9 (null 11 ∷ []) ∷ [])) _ (call-is (called (codes "H") 7) (call (codes "F") 9 (null 11 ∷ [])) _ (call-is (called (codes "F") 9) (null 11) _ (null-is 11)));
+  length_of_a_column = refl;
   free = refl;
 }

@@ -22,16 +22,16 @@ undo_all-requires c =
 pub overflow_add-result : goal.overflow_add-result
 overflow_add-result c = let k = (c.in-Some.ensures.0).count in let s = c.len-before.ensures.small in omega arith
 
-pub returns-then-rise_behind : goal.returns-then-rise_behind
-returns-then-rise_behind c =
+pub returns-then-rise_after : goal.returns-then-rise_after
+returns-then-rise_after c =
     let l = c.args.tables.now in
     let m = c.reserve.new.self in
     let k : IsKept (kept_at m c.args.table) = kept_more l m c.args.table c.reserve.ensures.tables c.reserve.ensures.capacities (subst IsKept c.table_at.ensures c.len-before.ensures.kept) in
-    subst (λ (es : List Edit). IsAnswer l c.insert_behind.new.tables c.args.table (rows_in l.tables c.args.table ++ c.args.new.items) (Ok es)) (sym c.from_vec.ensures)
-    (answer_in l m c.insert_behind.new.tables c.args.table c.args.new.items (Ok c.insert_behind.new.edits.items) c.reserve.ensures.tables c.reserve.ensures.capacities
-    (all_in m c.insert_behind.new.tables c.args.table c.args.new.items c.insert_behind.new.edits.items k
-    (subst (λ (es : List Edit). Going m c.insert_behind.new.tables c.args.table c.args.new.items (length c.args.new.items) es c.insert_behind.new.edits.items) c.in-Ok.ensures.items c.insert_behind.ensures.0)
-    c.insert_behind.ensures.1))
+    subst (λ (es : List Edit). IsAnswer l c.insert_after.new.tables c.args.table (rows_in l.tables c.args.table ++ c.args.new.items) (Ok es)) (sym c.from_vec.ensures)
+    (answer_in l m c.insert_after.new.tables c.args.table c.args.new.items (Ok c.insert_after.new.edits.items) c.reserve.ensures.tables c.reserve.ensures.capacities
+    (all_in m c.insert_after.new.tables c.args.table c.args.new.items c.insert_after.new.edits.items k
+    (subst (λ (es : List Edit). Going m c.insert_after.new.tables c.args.table c.args.new.items (length c.args.new.items) es c.insert_after.new.edits.items) c.in-Ok.ensures.items c.insert_after.ensures.0)
+    c.insert_after.ensures.1))
 
 pub returns-in-None : goal.returns-in-None
 returns-in-None c =

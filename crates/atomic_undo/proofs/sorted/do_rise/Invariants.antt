@@ -5,7 +5,7 @@ use Rattle.atomic_undo.proofs.sorted.do_rise.Given as goal
 
 abbrev pub invariant-loop-i : goal.invariant-loop-i
 invariant-loop-i l = record {
-  behind : 1 ≤ l.i;
+  after : 1 ≤ l.i;
   up : rises (by_key l.fn.key) l.fn.rows ≡ rises (by_key l.fn.key) (drop (l.i - 1) l.fn.rows);
 }
 

@@ -19,7 +19,7 @@ as_before : (c : goal.After-drop-reply-inside-in_err-add_entry) → plain c.add_
 as_before c =
     ap₂ plain c.in_err-add_entry.ensures.err.0
     (c.in_err-add_entry.ensures.err.1 ∙ ap (without_table_named c.args.name) c.in_ok-add_table.ensures.ok
-    ∙ taken_back c.args.name (object_of c.args.catalog.now c.args.object) c.args.tables.now.tables
+    ∙ taken_back c.args.name (object_of c.args.catalog.now c.in_ok-object.object) c.args.tables.now.tables
     (free_of_table c.args.name (database c.args.catalog.now c.args.tables.now) c.requires.whole c.requires.free))
 
 pub returns-in_err-add_entry-clause-err : goal.returns-in_err-add_entry-clause-err
@@ -31,4 +31,4 @@ returns-in_err-add_entry-clause-whole c = subst IsWhole (sym (as_before c)) c.re
 pub returns-clause-whole : goal.returns-clause-whole
 returns-clause-whole c =
     subst IsWhole (sym (ap₂ plain c.in_ok-add_entry.ensures.added (ap (λ m. m.tables) c.in_ok-add_entry.ensures.stays ∙ c.in_ok-add_table.ensures.ok)))
-    (created_is_whole (entry_of c.args.catalog.now c.args.name c.args.object) (database c.args.catalog.now c.args.tables.now) c.requires.whole)
+    (created_is_whole (entry_of c.args.catalog.now c.args.name c.in_ok-object.object) (database c.args.catalog.now c.args.tables.now) c.requires.whole)

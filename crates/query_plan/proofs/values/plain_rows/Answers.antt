@@ -2,7 +2,7 @@ use Rattle.std.proofs.Common.{◌≡◌, length, true, false, ap, ◌∙◌}
 use Rattle.std.specs.Bool.{◌==◌}
 use Rattle.catalog_store.specs.View.{rows_of}
 use Rattle.rel_algebra.specs.Emit.{emit_rows}
-use Rattle.query_plan.specs.Widths.{width_in}
+use Rattle.catalog_store.specs.Widths.{width_in}
 use Rattle.query_plan.proofs.Queries.{nowhere_env, plain_rows_there, rows-length}
 use Rattle.query_plan.proofs.values.plain_rows.Goals as goal
 

@@ -1,8 +1,8 @@
-use Rattle.std.proofs.Common.{◌≡◌, ap, sym, ◌∙◌, arith}
+use Rattle.std.proofs.Common.{◌≡◌, ap, ◌∙◌, arith}
 use Rattle.std.proofs.lemmas.Option.{IfSome_then}
 use Rattle.row_types.specs.declared.cell.Cell.TheVariants.{Val}
 use Rattle.rel_algebra.specs.declared.scalar.Scalar.TheVariants.{Column}
-use Rattle.scalar_eval.proofs.Finding.{same_value}
+use Rattle.scalar_eval.proofs.Operands.{value_there}
 use Rattle.scalar_eval.proofs.Words.{column_is, argument_is}
 use Rattle.scalar_eval.proofs.places.value_in_place.Goals as goal
 
@@ -14,4 +14,4 @@ returns-then-level-eq0 c =
 
 pub returns-then-place-args : goal.returns-then-place-args
 returns-then-place-args c outer =
-    argument_is c.args.scalar.now c.in-Argument.place c.args.row.now outer c.args.args.now c.in-Argument.is ∙ ap Val (sym (same_value c.args.args.now c.in-Argument.place))
+    argument_is c.args.scalar.now c.in-Argument.place c.args.row.now outer c.args.args.now c.in-Argument.is ∙ ap Val (value_there c.args.args.now c.in-Argument.place c.index-args-place.result (omega (arith, c.if-place-args.true)) c.index-args-place.is)

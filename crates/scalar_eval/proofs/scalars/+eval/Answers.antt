@@ -1,12 +1,10 @@
-use Rattle.std.proofs.Common.{◌≡◌, List, [], ◌∷◌, ap, sym, ◌∙◌, map, arith}
+use Rattle.std.proofs.Common.{◌≡◌, List, ap, sym, ◌∙◌, map, arith}
 use Rattle.std.proofs.lemmas.Result.{IfOk-weaker}
 use Rattle.row_types.specs.OuterRows.{outer_rows}
 use Rattle.row_types.specs.declared.cell.Cell.{Cell}
 use Rattle.rel_algebra.specs.declared.scalar.Scalar.{Scalar}
 use Rattle.rel_algebra.specs.declared.scalar.ScalarLink.{ScalarLink}
-use Rattle.rel_algebra.specs.Tree.{Arithmetic}
-use Rattle.rel_algebra.specs.Endings.{op_value}
-use Rattle.rel_algebra.specs.Plan.{cell_of, strictly}
+use Rattle.rel_algebra.specs.Plan.{cell_of}
 use Rattle.rel_algebra.specs.PlanView.{scalar_of, link_of}
 use Rattle.scalar_eval.specs.Sights.{sight_of, chained_cell}
 use Rattle.scalar_eval.proofs.Words.{chain_cell, case_more}
@@ -32,7 +30,4 @@ eval_any-returns-in_ok-cell-in-Chain t c =
 
 pub eval_link-returns-in-Some : goal.eval_link-returns-in-Some
 eval_link-returns-in-Some t c =
-    let right = cell_of (scalar_of c.args.link.now.operand) (sight_of c.args.row.now (outer_rows c.args.outer.now) c.args.args.now) in
-    IfOk-weaker c.outcome_cell.result _ _
-    (λ x h. h ∙ (c.in-Some.ensures (outer_rows c.args.outer.now) ∙ ap (λ (left : Cell). strictly (op_value (Arithmetic c.args.link.now.operator)) (left ∷ right ∷ [])) (sym c.in-Val.is)))
-    c.outcome_cell.ensures
+    rw c.in-Val.is (c.outcome_cell.ensures _ (c.in-Some.ensures (outer_rows c.args.outer.now)))

@@ -1,5 +1,7 @@
-use Rattle.std.proofs.Common.{◌≡◌, ◌-◌, ◌≤◌, true, false, map, drop, length}
-use Rattle.sql_values.specs.declared.value.Value.TheVariants.{Bool as Truth}
+use Rattle.std.proofs.Common.{◌≡◌, ◌≢◌, ◌-◌, ◌≤◌, true, false, map, drop, length}
+use Rattle.sql_values.specs.declared.value.Value.TheVariants.{Bool as TruthValue}
+use Rattle.three_valued.specs.declared.truth.Truth.TheVariants.{True, False}
+use Rattle.three_valued.specs.Truths.{value_of_truth}
 use Rattle.row_types.specs.OuterRows.{outer_rows}
 use Rattle.rel_algebra.specs.Plan.{cells_of, values_of, and_cell, or_cell, case_cell, coalesce_cell}
 use Rattle.rel_algebra.specs.PlanView.{scalars_of, link_of}
@@ -10,12 +12,18 @@ use Rattle.scalar_eval.proofs.scalars.+eval.Given as goal
 abbrev pub invariant-and-loop-operand : goal.invariant-and-loop-operand
 invariant-and-loop-operand l =
     let s = sight_of l.row (outer_rows l.outer) l.args in
-    and_cell l.so_far (cells_of (scalars_of (drop l.operand-index l.operands)) s) ≡ and_cell (Truth true) (cells_of (scalars_of l.operands) s)
+    record {
+      undecided : l.so_far ≢ False;
+      same : and_cell (value_of_truth l.so_far) (cells_of (scalars_of (drop l.operand-index l.operands)) s) ≡ and_cell (TruthValue true) (cells_of (scalars_of l.operands) s);
+    }
 
 abbrev pub invariant-or-loop-operand : goal.invariant-or-loop-operand
 invariant-or-loop-operand l =
     let s = sight_of l.row (outer_rows l.outer) l.args in
-    or_cell l.so_far (cells_of (scalars_of (drop l.operand-index l.operands)) s) ≡ or_cell (Truth false) (cells_of (scalars_of l.operands) s)
+    record {
+      undecided : l.so_far ≢ True;
+      same : or_cell (value_of_truth l.so_far) (cells_of (scalars_of (drop l.operand-index l.operands)) s) ≡ or_cell (TruthValue false) (cells_of (scalars_of l.operands) s);
+    }
 
 abbrev pub invariant-case-loop-at : goal.invariant-case-loop-at
 invariant-case-loop-at l =

@@ -1,7 +1,8 @@
-use Rattle.std.proofs.Common.{◌≡◌, ◌++◌, drop}
+use Rattle.std.proofs.Common.{◌≡◌, drop}
 use Rattle.name_faults.specs.Faults.{taken}
 use Rattle.sql_names.specs.Sight.{seen_by}
 use Rattle.sql_names.specs.Names.{judge_all, judge_links}
+use Rattle.sql_names.proofs.Steps.{appended}
 use Rattle.sql_names.proofs.expr.+bind.Given as goal
 
 abbrev pub invariant-bind_exprs-loop-expr : goal.invariant-bind_exprs-loop-expr
@@ -9,7 +10,7 @@ invariant-bind_exprs-loop-expr l =
     let left = judge_all (drop l.expr-index l.exprs) (seen_by l.sight) in
     let whole = judge_all l.exprs (seen_by l.sight) in
     record {
-      value : l.found ++ left.value ≡ whole.value;
+      value : appended l.so left.value ≡ whole.value;
       notes : taken l.notes left ≡ taken l.initial.notes whole;
     }
 
@@ -18,6 +19,6 @@ invariant-bind_links-loop-link l =
     let left = judge_links (drop l.link-index l.links) (seen_by l.sight) in
     let whole = judge_links l.links (seen_by l.sight) in
     record {
-      value : l.found ++ left.value ≡ whole.value;
+      value : appended l.so left.value ≡ whole.value;
       notes : taken l.notes left ≡ taken l.initial.notes whole;
     }

@@ -1,5 +1,5 @@
 use Rattle.std.proofs.Common.{◌≡◌, map, take}
-use Rattle.sql_names.specs.Statements.{type_of}
+use Rattle.name_kinds.specs.Types.{type_of}
 use Rattle.sql_names.proofs.function.parameter_types.Given as goal
 
 abbrev pub invariant-loop-parameter : goal.invariant-loop-parameter

@@ -6,8 +6,8 @@ use Rattle.sql_names.proofs.query.bind_rows.Given as goal
 
 abbrev pub invariant-loop-row : goal.invariant-loop-row
 invariant-loop-row l =
-    let left = judged_rows l.at l.width (seen_by l.sight) (drop l.row-index l.rows) in
-    let whole = judged_rows l.at l.width (seen_by l.sight) l.rows in
+    let left = judged_rows l.at l.targets (seen_by l.sight) (drop l.row-index l.rows) l.kinds in
+    let whole = judged_rows l.at l.targets (seen_by l.sight) l.rows l.fn.kinds in
     record {
       value : l.found ++ left.value ≡ whole.value;
       notes : taken l.notes left ≡ taken l.initial.notes whole;

@@ -1,35 +1,50 @@
-use Rattle.std.proofs.Common.{refl}
+use Rattle.std.proofs.Common.{◌≡◌, false, refl}
+use Rattle.sql_grammar.specs.declared.chain_level.ChainLevel.{ChainLevel}
+use Rattle.sql_grammar.specs.declared.chain_level.ChainLevel.TheVariants as level
 use Rattle.sql_lex.specs.declared.token.Kind.TheVariants as kind
 use Rattle.sql_lex.specs.declared.sign.Sign.TheVariants as s
 use Rattle.sql_grammar.specs.Expressions as expressions
 use Rattle.sql_grammar.specs.Sql as g
-use Rattle.sql_grammar.specs.Expressions.{more_exprs, factors, factor, factor_operator, addends, addend, addend_operator}
-use Rattle.token_grammar.proofs.Laws.{each_step, each_smaller, after_step, after_smaller, after_err}
+use Rattle.sql_grammar.specs.Expressions.{operator, after, more_exprs, exprs, when_clause, more_when_clauses, when_clauses}
+use Rattle.token_grammar.specs.Reading.{nullable}
+use Rattle.token_grammar.proofs.Laws.{each_step, each_smaller, joined_step}
+use Rattle.sql_parse.proofs.Begun.{after_first, after_first_list}
 use Rattle.sql_parse.proofs.expr.+parser.Goals as goal
 
-pub more_exprs-more-preserved : goal.more_exprs-more-preserved
-unfolding more_exprs
-more_exprs-more-preserved t c = after_step g.rules c.args.room (kind.Sign s.Comma) expressions.expr c.more.found _ c.more.input.rest.now _ _ _ c.eat.result _ c.more.invariant c.eat.ensures.found c.more-test.true c.eat.ensures.after c.in-Ok.ensures c.in_ok-push-in-Ok.ensures.ok
+-- A link has an operator.
+link_is_some : (l : ChainLevel) → nullable (expressions.link_at l) ≡ false
+unfolding operator
+link_is_some level.Or = refl
+link_is_some level.And = refl
+link_is_some level.Additive = refl
+link_is_some level.Multiplicative = refl
 
-pub more_exprs-more-smaller : goal.more_exprs-more-smaller
-more_exprs-more-smaller t c = after_smaller g.rules c.args.room (kind.Sign s.Comma) expressions.expr c.more.input.rest.now _ _ _ c.eat.result c.eat.ensures.found c.more-test.true c.eat.ensures.after c.in-Ok.ensures
+pub links-more-preserved : goal.links-more-preserved
+links-more-preserved t c = each_step g.rules c.args.room (expressions.link_at c.args.level) (link_is_some c.args.level) c.more.found _ c.more.input.rest.now _ _ c.begins_link.result _ c.more.invariant c.begins_link.ensures c.more-test.true c.in-Ok.ensures c.in_ok-push-in-Ok.ensures.ok
 
-pub more_exprs-returns-in-Err : goal.more_exprs-returns-in-Err
-unfolding more_exprs
-more_exprs-returns-in-Err t c = after_err g.rules c.args.room (kind.Sign s.Comma) expressions.expr c.more.found c.more.input.rest.now _ _ c.eat.result _ _ c.more.invariant c.eat.ensures.found c.more-test.true c.eat.ensures.after c.in-Err.ensures
+pub links-more-smaller : goal.links-more-smaller
+links-more-smaller t c = each_smaller g.rules c.args.room (expressions.link_at c.args.level) (link_is_some c.args.level) c.more.input.rest.now _ _ c.in-Ok.ensures
 
-pub factors-more-preserved : goal.factors-more-preserved
-unfolding factors factor factor_operator
-factors-more-preserved t c = each_step g.rules c.args.room expressions.factor refl c.more.found _ c.more.input.rest.now _ _ c.begins_factor.result _ c.more.invariant c.begins_factor.ensures c.more-test.true c.in-Ok.ensures c.in_ok-push-in-Ok.ensures.ok
+pub exprs-more-init : goal.exprs-more-init
+unfolding exprs
+exprs-more-init t c = after_first c.args.room expressions.expr expressions.more_exprs c.args.input.now.rest.now _ _ _ c.in_ok-first.ensures c.in_ok-found.ensures
 
-pub factors-more-smaller : goal.factors-more-smaller
-unfolding factor factor_operator
-factors-more-smaller t c = each_smaller g.rules c.args.room expressions.factor refl c.more.input.rest.now _ _ c.in-Ok.ensures
+pub exprs-more-preserved : goal.exprs-more-preserved
+unfolding more_exprs after
+exprs-more-preserved t c = each_step g.rules c.args.room (expressions.after (kind.Sign s.Comma)) refl c.more.found _ c.more.input.rest.now _ _ c.begins_more.result _ c.more.invariant c.begins_more.ensures c.more-test.true c.in-Ok.ensures c.in_ok-push-in-Ok.ensures.ok
 
-pub addends-more-preserved : goal.addends-more-preserved
-unfolding addends addend addend_operator
-addends-more-preserved t c = each_step g.rules c.args.room expressions.addend refl c.more.found _ c.more.input.rest.now _ _ c.begins_addend.result _ c.more.invariant c.begins_addend.ensures c.more-test.true c.in-Ok.ensures c.in_ok-push-in-Ok.ensures.ok
+pub exprs-more-smaller : goal.exprs-more-smaller
+unfolding after
+exprs-more-smaller t c = each_smaller g.rules c.args.room (expressions.after (kind.Sign s.Comma)) refl c.more.input.rest.now _ _ c.in-Ok.ensures
 
-pub addends-more-smaller : goal.addends-more-smaller
-unfolding addend addend_operator
-addends-more-smaller t c = each_smaller g.rules c.args.room expressions.addend refl c.more.input.rest.now _ _ c.in-Ok.ensures
+pub when_clauses-more-init : goal.when_clauses-more-init
+unfolding when_clauses
+when_clauses-more-init t c = after_first_list c.args.room expressions.when_clause expressions.more_when_clauses c.args.input.now.rest.now _ _ c.in_ok-found.ensures
+
+pub when_clauses-more-preserved : goal.when_clauses-more-preserved
+unfolding more_when_clauses when_clause after
+when_clauses-more-preserved t c = joined_step g.rules c.args.room expressions.when_clause refl c.more.found _ c.more.input.rest.now _ _ c.begins_when_clause.result _ c.more.invariant c.begins_when_clause.ensures c.more-test.true c.in-Ok.ensures c.in_ok-append-in-Ok.ensures
+
+pub when_clauses-more-smaller : goal.when_clauses-more-smaller
+unfolding when_clause after
+when_clauses-more-smaller t c = each_smaller g.rules c.args.room expressions.when_clause refl c.more.input.rest.now _ _ c.in-Ok.ensures

@@ -2,7 +2,7 @@ use Rattle.std.proofs.Common.{◌≡◌, ◌∷◌, ◌++◌, [], None, ap, ◌�
 use Rattle.std.specs.Str.{bytes_eq}
 use Rattle.indexmap.proofs.CallerLemmas.{insert_entry-new}
 use Rattle.catalog_store.specs.Catalog.{Catalog, object_named}
-use Rattle.catalog_store.specs.Entries.{plain, entry_of, ObjectFits, AreSound}
+use Rattle.catalog_store.specs.Entries.{plain, entry_of, Stands, AreSound}
 use Rattle.catalog_store.proofs.Sound.{none_held, sound_more, with_all-append}
 use Rattle.catalog_store.proofs.catalog.Catalog.add.Goals as goal
 
@@ -16,8 +16,8 @@ entries c =
 
 pub invariant_of-self-2 : goal.invariant_of-self-2
 invariant_of-self-2 c =
-    let fits = subst (λ (k : Catalog). ObjectFits k c.args.object) (sym c.self.view_is) c.requires.fits in
-    subst (AreSound []) (sym (entries c)) (sound_more c.args.name c.args.object c.self.inside.objects.entries c.self.invariant (free c) fits)
+    let stands = subst (λ (k : Catalog). Stands k c.args.object) (sym c.self.view_is) (record { fits = c.requires.fits; planned = c.requires.planned }) in
+    subst (AreSound []) (sym (entries c)) (sound_more c.args.name c.args.object c.self.inside.objects.entries c.self.invariant (free c) stands)
 
 pub returns-clause-ok : goal.returns-clause-ok
 returns-clause-ok c =

@@ -3,8 +3,9 @@ use Rattle.std.specs.Option.{option_copied, option_map}
 use Rattle.std.specs.Map.{lookup}
 use Rattle.std.specs.Str.{bytes_eq}
 use Rattle.catalog_store.specs.Catalog.{Catalog, object_named}
-use Rattle.catalog_store.specs.Entries.{object_of, ObjectFits}
+use Rattle.catalog_store.specs.Entries.{object_of, ObjectFits, IsPlanned}
 use Rattle.catalog_store.proofs.Sound.{named_in_all, fits_in_all}
+use Rattle.catalog_store.proofs.Lasting.{none_lasting, planned_in_all}
 use Rattle.catalog_store.proofs.catalog.Catalog.get.Goals as goal
 
 -- what holds of what is found holds of what is lent
@@ -21,3 +22,8 @@ pub returns-clause-fits : goal.returns-clause-fits
 returns-clause-fits c =
     if_some (ObjectFits c.args.self.now) c.get.result (lookup (bytes_eq c.args.name.now) c.self.inside.objects.entries) c.get.ensures.value
     (λ o q. subst (λ (k : Catalog). ObjectFits k o) c.self.view_is (fits_in_all (bytes_eq c.args.name.now) [] c.self.inside.objects.entries o c.self.invariant q))
+
+pub returns-clause-planned : goal.returns-clause-planned
+returns-clause-planned c =
+    if_some (IsPlanned c.args.self.now) c.get.result (lookup (bytes_eq c.args.name.now) c.self.inside.objects.entries) c.get.ensures.value
+    (λ o q. subst (λ (k : Catalog). IsPlanned k o) c.self.view_is (planned_in_all (bytes_eq c.args.name.now) [] c.self.inside.objects.entries o none_lasting c.self.invariant q))

@@ -1,0 +1,43 @@
+-- The plan that is kept with a function: what the emitter makes of its body, its parameters the arguments. ISO/IEC 9075-2, 10.4 (routine
+-- invocation).
+use Rattle.std.specs.Prelude.{◌≡◌, false, List, [], ◌∷◌, length, Option, Some, None}
+use Rattle.rel_algebra.specs.declared.plan.Node.{Node}
+use Rattle.rel_algebra.specs.declared.plan.Node.TheVariants as node
+use Rattle.rel_algebra.specs.Tree.{Function as FunctionTree}
+use Rattle.rel_algebra.specs.Plan.{Scalars, Nodes, no_node, extend_by}
+use Rattle.rel_algebra.specs.PlanView.{scalar_of, scalars_of}
+use Rattle.rel_algebra.specs.Emit.{Emitted, emit_body, top}
+use Rattle.catalog_store.specs.declared.entry.FunctionPlan.{FunctionPlan}
+use Rattle.catalog_store.specs.declared.entry.RoutineRecord.{RoutineRecord}
+use Rattle.catalog_store.specs.Catalog.{Catalog}
+use Rattle.catalog_store.specs.View.{tree_of}
+use Rattle.catalog_store.specs.Widths.{width_in}
+
+-- a run with one node more below it
+abbrev pub extended : Scalars → Option Nodes → Option Nodes
+extended ss None = None
+extended ss (Some rest) = Some (extend_by ss rest)
+
+-- the run of nodes that a list of nodes is, where each of them adds columns
+abbrev pub run_of : List Node → Option Nodes
+run_of [] = Some no_node
+run_of (node.Extend ss ∷ ns) = extended (scalars_of ss) (run_of ns)
+run_of (_ ∷ ns) = None
+
+-- a plan in memory is this emission
+pub record IsPlan (p : FunctionPlan) (e : Emitted) : Type 0 where
+  pub nodes : run_of p.nodes ≡ Some e.nodes
+  pub scalar : scalar_of p.scalar ≡ e.scalar
+
+-- a plan is there, and is this emission
+abbrev pub HasPlan : Option FunctionPlan → Emitted → Type 0
+HasPlan None e = ⊥
+HasPlan (Some p) e = IsPlan p e
+
+-- what the emitter makes of a function's body, seen by this catalog
+abbrev pub own_plan : Catalog → RoutineRecord → Emitted
+own_plan known r = emit_body (FunctionTree false r.head.parameters r.head.returns (tree_of known r.body)) (width_in known) (top (length r.head.parameters)) 0
+
+-- a function's plan is kept, and is what the emitter makes of it
+abbrev pub IsKept : Catalog → RoutineRecord → Type 0
+IsKept known r = HasPlan r.plan (own_plan known r)

@@ -1,0 +1,7 @@
+pub mod Types
+pub mod Kinds
+pub mod Chains
+pub mod Operations
+pub mod Words
+pub mod Conjuncts
+pub mod Examples

@@ -1,0 +1,2 @@
+-- What holds of runs, for the crates above.
+pub use Rattle.psm_interp.proofs.Stays.{stays_same}

@@ -1,0 +1,24 @@
+-- How many Apply nodes a plan has, inner plans included.
+use Rattle.std.specs.Prelude.{ℕ, suc, ◌+◌}
+use Rattle.rel_algebra.specs.Plan.{Nodes, PlanTree, apply, apply_by, cross, extend, extend_by, filter, group, keep, left_outer, no_node, scan, settle, sort, unit_row, values}
+
+abbrev mutual
+  pub applies : PlanTree → ℕ
+  applies unit_row = 0
+  applies (scan name n) = 0
+  applies (values lists) = 0
+  applies (extend ss input) = applies input
+  applies (apply when kind inner input) = suc (applies inner + applies input)
+  applies (filter s input) = applies input
+  applies (keep is input) = applies input
+  applies (cross a b) = applies a + applies b
+  applies (left_outer nodes s n a b) = applies_in nodes + (applies a + applies b)
+  applies (settle input) = applies input
+  applies (group keys ags input) = applies input
+  applies (sort keys input) = applies input
+
+  -- of a run of nodes
+  pub applies_in : Nodes → ℕ
+  applies_in no_node = 0
+  applies_in (extend_by ss rest) = applies_in rest
+  applies_in (apply_by when kind inner rest) = suc (applies inner + applies_in rest)

@@ -1,0 +1,16 @@
+//! The words whose operands stand in brackets after them.
+
+/// A word whose operands stand in brackets after it.
+#[derive(Clone, Copy, Debug, PartialEq, Eq)]
+pub enum FunctionWord {
+    /// COALESCE (ISO/IEC 9075-2, 6.12).
+    Coalesce,
+    /// MOD (6.28).
+    Modulo,
+    /// CHAR_LENGTH (6.28).
+    CharLength,
+    /// SUBSTRING (6.32).
+    Substring,
+    /// CAST (6.13).
+    Cast,
+}

@@ -1,0 +1,69 @@
+//! Bound expressions with their heads.
+
+ghost use Rattle.std.specs.Prelude.{◌≡◌, IfOk, OnOk, not, is_some};
+ghost use Rattle.name_faults.specs.Faults.{merged};
+ghost use Rattle.sql_names.specs.Names as spec;
+
+use bound_trees::BoundExpr;
+use name_faults::Fault;
+use name_kinds::{Head, Kind, head_of};
+use sql_values::NoMemory;
+use sqlite_items::Items;
+use std::alloc::Global;
+use syntax_trees::Anchor;
+
+/// A bound expression with its head.
+#[derive(Drop)]
+pub struct Typed {
+    pub head: Head,
+    pub tree: BoundExpr,
+}
+
+/// Several bound expressions, and their heads.
+#[derive(Drop)]
+pub struct Operands {
+    pub heads: Items<Head>,
+    pub trees: Items<BoundExpr>,
+}
+
+pub(crate) fn with_kind(kind: Kind, at: Anchor, tree: BoundExpr) -> Typed
+    ensures { result ≡ spec.with_kind kind at tree }
+{
+    Typed {
+        head: head_of(kind, at),
+        tree,
+    }
+}
+
+/// An expression in which these faults were noted apart: its kind is Null where there are any. They
+/// are added to those before.
+pub(crate) fn settle(typed: Typed, before: Option<Fault>, least: &mut Option<Fault>) -> Typed
+    ensures value { result ≡ spec.settle (not (is_some least.old)) typed }
+    ensures faults { least.new ≡ merged before least.old }
+{
+    Typed {
+        head: name_kinds::settle(typed.head, before, least),
+        tree: typed.tree,
+    }
+}
+
+/// No operand, with room for some.
+pub(crate) fn no_operands(alloc: Global, room: usize) -> Result<Operands, NoMemory>
+    ensures { IfOk result (λ so. so ≡ spec.no_operands) }
+{
+    let heads = Vec::with_capacity(alloc, room)?;
+    let trees = Vec::with_capacity(alloc, room)?;
+    Ok(Operands {
+        heads: Items::from_vec(heads),
+        trees: Items::from_vec(trees),
+    })
+}
+
+/// One operand more.
+pub(crate) fn add_operand(so: &mut Operands, typed: Typed) -> Result<(), NoMemory>
+    ensures { OnOk result (so.new ≡ spec.with_last so.old typed) }
+{
+    so.heads.push(typed.head)?;
+    so.trees.push(typed.tree)?;
+    Ok(())
+}
