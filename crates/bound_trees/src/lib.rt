@@ -2,7 +2,9 @@
 #![tactic(auto)]
 
 mod expr;
+mod query;
 mod statement;
 
 pub use expr::{BoundExpr, BoundLink, BoundOperation};
-pub use statement::{BoundFrom, BoundInsert, BoundQuery, BoundRow, BoundSelect};
+pub use query::{BoundFromItem, BoundQuery, BoundRow, BoundSelect, BoundSource};
+pub use statement::BoundInsert;

@@ -6,6 +6,7 @@ pub use Rattle.catalog_store.proofs.Trees.{Same, same_tree, fit_in_both}
 pub use Rattle.catalog_store.proofs.Planned.{planned_trees}
 pub use Rattle.catalog_store.proofs.Sound.{named_in_all, fits_in_all}
 pub use Rattle.catalog_store.proofs.Lasting.{AllLasting, lasting_tree, lasting_more}
+pub use Rattle.catalog_store.proofs.Bound.{query_of-Select, query_of-Values, query_of-Ordered, select_of-parts, source_of-Table, source_of-Derived, item_of-Comma, item_of-Cross, item_of-Inner, item_of-Left}
 use Rattle.catalog_store.proofs.Named.{named_more, named_less, other_bytes}
 
 pub adding_leaves_others : AddingLeavesOthers

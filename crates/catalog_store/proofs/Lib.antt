@@ -5,4 +5,5 @@ pub mod Sound
 pub mod Lasting
 pub mod Planned
 pub mod Dropped
+pub mod Bound
 pub mod Laws

@@ -3,11 +3,12 @@ use Rattle.std.specs.Prelude.{ℕ, false, pos, ◌≡◌, List, [], ◌∷◌, N
 use Rattle.sql_values.specs.declared.value.Value.TheVariants.{Int}
 use Rattle.sql_values.specs.declared.value.SqlType.TheVariants.{Integer}
 use Rattle.sql_values.specs.declared.operators.Operator.TheVariants.{Add}
-use Rattle.rel_algebra.specs.Tree.{Expr, Literal, Chain, Call, NoLink, MoreLinks, NoExpr, Function as FunctionTree}
+use Rattle.rel_algebra.specs.Tree.{Expr, Literal, Chain, Call, NoLink, MoreLinks, NoExpr, Function as FunctionTree, From, Table, Cross, Inner, LeftOuter}
 use Rattle.rel_algebra.specs.World.{World, Gives, no_self, no_frame}
 use Rattle.rel_algebra.specs.Meaning.{ev}
 use Rattle.catalog_store.specs.Catalog.{TableObject, FunctionObject, Entry, Catalog, object_named, routine_named, missing}
 use Rattle.catalog_store.specs.Users.{users_of, without}
+use Rattle.catalog_store.specs.View.{after_comma, crossing, matching, matching_or_nulls, from_of}
 
 -- CREATE TABLE T (K INTEGER PRIMARY KEY)
 abbrev pub table : Entry
@@ -55,3 +56,15 @@ pub record CallsAfterADrop : Type 0 where
   pub left : without (codes "TWO") known ≡ one ∷ table ∷ next ∷ []
   pub same : routine_named (codes "NEXT") (without (codes "TWO") known) ≡ routine_named (codes "NEXT") known
   pub gives : ev (Call (codes "NEXT") (routine_named (codes "NEXT") (without (codes "TWO") known)) NoExpr) no_self [] no_frame no_tables ≡ Gives (Int (pos 2)) no_tables
+
+abbrev pub table_at : List ℕ → From
+table_at name = Table name
+
+-- What stands after a comma is joined by itself, and then with what stands before.
+pub record ItemsFromTheLeft : Type 0 where
+  -- A, B JOIN C ON .., D
+  pub commas : from_of (after_comma (table_at (codes "A")) ∷ after_comma (table_at (codes "B")) ∷ matching (table_at (codes "C")) NoExpr ∷ after_comma (table_at (codes "D")) ∷ [])
+      ≡ Cross (Cross (Table (codes "A")) (Inner (Table (codes "B")) (Table (codes "C")) NoExpr)) (Table (codes "D"))
+  -- A LEFT JOIN B ON .. CROSS JOIN C
+  pub joins : from_of (after_comma (table_at (codes "A")) ∷ matching_or_nulls (table_at (codes "B")) NoExpr ∷ crossing (table_at (codes "C")) ∷ [])
+      ≡ Cross (LeftOuter (Table (codes "A")) (Table (codes "B")) NoExpr) (Table (codes "C"))

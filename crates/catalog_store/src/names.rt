@@ -1,6 +1,6 @@
 //! How names keep what they stand for as the catalog changes.
 
-ghost use Rattle.catalog_store.specs.Examples.{ObjectsByName, UsersOfNames, CallsAfterADrop};
+ghost use Rattle.catalog_store.specs.Examples.{ObjectsByName, UsersOfNames, CallsAfterADrop, ItemsFromTheLeft};
 ghost use Rattle.catalog_store.specs.Laws.{AddingLeavesOthers, DroppingLeavesOthers};
 
 /// One more entry leaves what every other name stands for, and so the trees that calls run.
@@ -27,4 +27,10 @@ pub fn users_of_names()
 /// dropped.
 pub fn calls_after_a_drop()
     ensures { CallsAfterADrop }
+{}
+
+/// The items of FROM are joined from the left; a comma joins all that stands from it on to the next
+/// one with what stands before.
+pub fn items_from_the_left()
+    ensures { ItemsFromTheLeft }
 {}

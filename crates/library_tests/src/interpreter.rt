@@ -1,11 +1,13 @@
 //! What the interpreter answers where memory is there.
 
 use crate::small_table::{
-    End, QUERIES, Query, catalog, difference, end_of_area, literal, quotient, total, tree_of, world,
+    End, QUERIES, Query, catalog, difference, digits, end_of_area, literal, quotient, tree_of,
+    world,
 };
 use bound_trees::{BoundExpr, BoundQuery};
 use catalog_store::Catalog;
-use psm_interp::{Frame, Stop, World, eval, run_insert, run_query};
+use expr_interp::{Frame, Stop, World, eval};
+use psm_interp::{run_insert, run_query};
 use sql_values::{Name, Value};
 use std::alloc::Global;
 
@@ -34,7 +36,7 @@ fn eval_end(expr: &BoundExpr, world: &mut World, catalog: &Catalog) -> End {
 
 fn query_end(query: &BoundQuery, world: &mut World, catalog: &Catalog) -> End {
     match run_query(query, world, catalog) {
-        Ok(rows) => End::Number(total(rows.as_slice())),
+        Ok(rows) => End::Number(digits(rows.as_slice())),
         Err(stop) => end_of_stop(&stop),
     }
 }

@@ -33,7 +33,7 @@ fn end(part: Part, alloc: Global, read: &Tokens, open: u32) -> Result<usize, Par
     }
 }
 
-static ROWS: [(&str, Part, u32, Result<usize, ParseFault>); 35] = [
+static ROWS: [(&str, Part, u32, Result<usize, ParseFault>); 43] = [
     ("VALUES ((1)))", Part::Query, 22, Ok(6)),
     (
         "VALUES ((1)))",
@@ -55,6 +55,49 @@ static ROWS: [(&str, Part, u32, Result<usize, ParseFault>); 35] = [
         Err(ParseFault::NoStatement(5)),
     ),
     ("SELECT k FROM t WHERE k = 1;", Part::Query, 24, Ok(8)),
+    (
+        "SELECT * FROM a x JOIN (VALUES (1)) AS y (k) ON x.k = y.k ORDER BY k DESC, j;",
+        Part::Statement,
+        0,
+        Ok(32),
+    ),
+    (
+        "SELECT a.k AS x, 1 y FROM a, b LEFT OUTER JOIN c ON TRUE CROSS JOIN d WHERE k",
+        Part::Query,
+        24,
+        Ok(24),
+    ),
+    (
+        "SELECT * FROM (SELECT * FROM (VALUES (1)) t) k",
+        Part::Query,
+        21,
+        Ok(16),
+    ),
+    (
+        "SELECT * FROM (SELECT * FROM (VALUES (1)) t) k",
+        Part::Query,
+        22,
+        Err(ParseFault::TooDeep(9)),
+    ),
+    ("VALUES (1) ORDER BY k;", Part::Query, 23, Ok(4)),
+    (
+        "SELECT k FROM t JOIN u;",
+        Part::Query,
+        0,
+        Err(ParseFault::NoStatement(6)),
+    ),
+    (
+        "SELECT k FROM (VALUES (1));",
+        Part::Query,
+        0,
+        Err(ParseFault::NoStatement(9)),
+    ),
+    (
+        "SELECT *, k FROM t;",
+        Part::Query,
+        0,
+        Err(ParseFault::NoStatement(2)),
+    ),
     ("INSERT INTO t VALUES (1);", Part::Change, 23, Ok(7)),
     (
         "INSERT INTO t VALUES (1);",

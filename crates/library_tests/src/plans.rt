@@ -3,10 +3,10 @@
 ghost use Rattle.std.specs.Prelude.{◌≡◌};
 
 use crate::interpreter::inserted;
-use crate::small_table::{End, QUERIES, Query, catalog, end_of_area, total, tree_of, world};
+use crate::small_table::{End, QUERIES, Query, catalog, digits, end_of_area, tree_of, world};
 use catalog_store::Catalog;
+use expr_interp::World;
 use plan_exec::{Values, collect_values, execute};
-use psm_interp::World;
 use query_plan::plan_query;
 use rel_algebra::Plan;
 use row_types::Steps;
@@ -28,7 +28,7 @@ fn end_of<L: Ledger>(blank: Blank, plan: &Plan, world: &World) -> Option<End>
     let (book, share) = blank.open();
     let mut steps = Steps::<L>::new(book, share);
     match executed(plan, world, &mut steps)? {
-        Values::Rows(rows) => Some(End::Number(total(rows.as_slice()))),
+        Values::Rows(rows) => Some(End::Number(digits(rows.as_slice()))),
         Values::Raised(area) => Some(end_of_area(&area)),
     }
 }

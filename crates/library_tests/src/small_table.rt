@@ -7,12 +7,13 @@ ghost use Rattle.catalog_store.specs.Catalog.{Catalog as PlainCatalog};
 ghost use Rattle.catalog_store.specs.Entries.{ObjectFits};
 
 use bound_trees::{
-    BoundExpr, BoundFrom, BoundLink, BoundOperation, BoundQuery, BoundRow, BoundSelect,
+    BoundExpr, BoundFromItem, BoundLink, BoundOperation, BoundQuery, BoundRow, BoundSelect,
+    BoundSource,
 };
 use catalog_store::{Body, Catalog, Head, Object, RoutineRecord};
-use psm_interp::World;
+use expr_interp::World;
 use query_plan::with_plan;
-use row_types::{ColumnType, Row, RowType};
+use row_types::{ColumnType, Row, RowType, SortKey};
 use sql_conditions::Area;
 use sql_values::{Comparison, Name, Operator, SqlType, Value};
 use sqlite_items::{Boxed, Items};
@@ -22,7 +23,7 @@ use table_store::{Table, Tables};
 // How a run ends.
 #[derive(Clone, Copy, PartialEq)]
 pub enum End {
-    // With a number, or rows whose first values add up to it.
+    // With a number, or rows that stand in it (`digits`).
     Number(i64),
     // So many rows are stored.
     Stored(u64),
@@ -45,15 +46,29 @@ pub fn end_of_area(area: &Area) -> End {
     }
 }
 
-// The first values of rows, added up.
-pub fn total(rows: &[Row]) -> i64 {
-    let mut total: i64 = 0;
+// All values of rows in turn, two digits each, what is no number as 99.
+pub fn digits(rows: &[Row]) -> i64 {
+    let mut digits = 0;
     for row in rows {
-        if let Some(Value::Int(number)) = row.get(0) {
-            total = total.saturating_add(*number);
-        }
+        digits = more_digits(digits, row.as_slice());
     }
-    total
+    digits
+}
+
+// The same with the values of a row more.
+fn more_digits(before: i64, values: &[Value]) -> i64 {
+    let mut digits = before;
+    for value in values {
+        digits = digits.saturating_mul(100).saturating_add(two_digits(value));
+    }
+    digits
+}
+
+fn two_digits(value: &Value) -> i64 {
+    match value {
+        Value::Int(number) => *number,
+        _ => 99,
+    }
 }
 
 fn one<T: Drop>(alloc: Global, only: T) -> Option<Items<T>>
@@ -126,17 +141,35 @@ fn differs(alloc: Global, left: Option<BoundExpr>, skipped: i64) -> Option<Bound
     Some(BoundExpr::Operation(word, sides))
 }
 
+fn table_t(alloc: Global) -> Option<BoundSource> {
+    let name = Name::folded(alloc, b"T").ok()?;
+    Some(BoundSource::Table(name))
+}
+
 // SELECT items FROM T WHERE conjuncts
 fn select(
     alloc: Global,
     items: Items<BoundExpr>,
     conjuncts: Items<BoundExpr>,
 ) -> Option<BoundQuery> {
-    let name = Name::folded(alloc, b"T").ok()?;
+    let source = table_t(alloc)?;
+    let from = one(alloc, BoundFromItem::Comma(source))?;
     Some(BoundQuery::Select(BoundSelect {
         items,
-        from: BoundFrom::Table(name),
+        from,
         conjuncts,
+    }))
+}
+
+// SELECT * FROM T X and an item that has one column.
+fn joined(alloc: Global, item: BoundFromItem) -> Option<BoundQuery> {
+    let source = table_t(alloc)?;
+    let from = two(alloc, BoundFromItem::Comma(source), item)?;
+    let items = two(alloc, column(0), column(1))?;
+    Some(BoundQuery::Select(BoundSelect {
+        items,
+        from,
+        conjuncts: Items::new(alloc),
     }))
 }
 
@@ -151,10 +184,18 @@ pub enum Query {
     QuotientOfAllBut(i64),
     // SELECT K FROM T WHERE 100 / F(K) <> ..
     QuotientIsNot(i64),
+    // SELECT * FROM T X CROSS JOIN T Y
+    Crossed,
+    // SELECT * FROM T X LEFT JOIN T Y ON FALSE
+    LeftAlone,
+    // SELECT * FROM T X JOIN (VALUES (..), (..)) Y (N) ON Y.N = X.K
+    Matched(i64, i64),
+    // SELECT K FROM T ORDER BY K DESC
+    Descending,
 }
 
-fn column() -> BoundExpr {
-    BoundExpr::Column(0, 0)
+fn column(place: usize) -> BoundExpr {
+    BoundExpr::Column(0, place)
 }
 
 fn values_of(alloc: Global, first: i64, second: i64) -> Option<BoundQuery> {
@@ -167,15 +208,47 @@ fn quotients_of(alloc: Global, first: i64, second: i64) -> Option<BoundQuery> {
 }
 
 fn quotient_of_all_but(alloc: Global, skipped: i64) -> Option<BoundQuery> {
-    let items = only(alloc, quotient(alloc, column()))?;
-    let conjuncts = only(alloc, differs(alloc, Some(column()), skipped))?;
+    let items = only(alloc, quotient(alloc, column(0)))?;
+    let conjuncts = only(alloc, differs(alloc, Some(column(0)), skipped))?;
     select(alloc, items, conjuncts)
 }
 
 fn quotient_is_not(alloc: Global, skipped: i64) -> Option<BoundQuery> {
-    let items = only(alloc, Some(column()))?;
-    let conjuncts = only(alloc, differs(alloc, quotient(alloc, column()), skipped))?;
+    let items = only(alloc, Some(column(0)))?;
+    let conjuncts = only(alloc, differs(alloc, quotient(alloc, column(0)), skipped))?;
     select(alloc, items, conjuncts)
+}
+
+fn crossed(alloc: Global) -> Option<BoundQuery> {
+    let source = table_t(alloc)?;
+    joined(alloc, BoundFromItem::Cross(source))
+}
+
+fn left_alone(alloc: Global) -> Option<BoundQuery> {
+    let source = table_t(alloc)?;
+    let on = one(alloc, BoundExpr::Literal(Value::Bool(false)))?;
+    joined(alloc, BoundFromItem::Left(source, on))
+}
+
+fn matched(alloc: Global, first: i64, second: i64) -> Option<BoundQuery> {
+    let query = Boxed::new(alloc, values_of(alloc, first, second)?).ok()?;
+    let sides = two(alloc, column(1), column(0))?;
+    let word = BoundOperation::Comparing(Comparison::Equals);
+    let on = one(alloc, BoundExpr::Operation(word, sides))?;
+    joined(alloc, BoundFromItem::Inner(BoundSource::Derived(query), on))
+}
+
+fn descending(alloc: Global) -> Option<BoundQuery> {
+    let items = one(alloc, column(0))?;
+    let query = select(alloc, items, Items::new(alloc))?;
+    let keys = one(
+        alloc,
+        SortKey {
+            place: 0,
+            descending: true,
+        },
+    )?;
+    Some(BoundQuery::Ordered(Boxed::new(alloc, query).ok()?, keys))
 }
 
 pub fn tree_of(alloc: Global, query: Query) -> Option<BoundQuery> {
@@ -184,13 +257,17 @@ pub fn tree_of(alloc: Global, query: Query) -> Option<BoundQuery> {
         Query::Quotients(first, second) => quotients_of(alloc, first, second),
         Query::QuotientOfAllBut(skipped) => quotient_of_all_but(alloc, skipped),
         Query::QuotientIsNot(skipped) => quotient_is_not(alloc, skipped),
+        Query::Crossed => crossed(alloc),
+        Query::LeftAlone => left_alone(alloc),
+        Query::Matched(first, second) => matched(alloc, first, second),
+        Query::Descending => descending(alloc),
     }
 }
 
 // Queries over the rows 2 and 0, and how they end.
-pub static QUERIES: [(&str, Query, End); 6] = [
-    ("numbers", Query::Numbers(3, 4), End::Number(7)),
-    ("quotients", Query::Quotients(7, 2), End::Number(64)),
+pub static QUERIES: [(&str, Query, End); 10] = [
+    ("numbers", Query::Numbers(3, 4), End::Number(304)),
+    ("quotients", Query::Quotients(7, 2), End::Number(1450)),
     (
         "second row raises",
         Query::Quotients(7, 0),
@@ -207,6 +284,10 @@ pub static QUERIES: [(&str, Query, End); 6] = [
         End::DivisionByZero,
     ),
     ("test raises", Query::QuotientIsNot(50), End::DivisionByZero),
+    ("pairs", Query::Crossed, End::Number(202000202)),
+    ("beside NULL", Query::LeftAlone, End::Number(990299)),
+    ("2 beside 2", Query::Matched(1, 2), End::Number(202)),
+    ("2 before 0", Query::Descending, End::Number(200)),
 ];
 
 // The columns of T.

@@ -3,7 +3,7 @@
 use crate::scalars::text;
 use crate::small_table::{catalog, literal, quotient, world};
 use bound_trees::{BoundExpr, BoundOperation};
-use psm_interp::{Frame, Stop, eval};
+use expr_interp::{Frame, Stop, eval};
 use sql_values::{Comparison, NoMemory, SqlType, Value};
 use sqlite_items::Items;
 use std::alloc::Global;

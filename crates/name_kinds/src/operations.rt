@@ -58,8 +58,8 @@ fn ask_cast(to: DataType, heads: &[Head], least: &mut Option<Fault>)
 }
 
 /// What a word asks of its operands.
-pub fn ask(operation: Operation, heads: &[Head], least: &mut Option<Fault>)
-    ensures { least.new ≡ noted least.old (spec.asked operation heads.now) }
+pub fn ask(operation: &Operation, heads: &[Head], least: &mut Option<Fault>)
+    ensures { least.new ≡ noted least.old (spec.asked operation.now heads.now) }
 {
     match operation {
         Operation::Plus | Operation::Minus | Operation::Modulo => {
@@ -68,20 +68,20 @@ pub fn ask(operation: Operation, heads: &[Head], least: &mut Option<Fault>)
         Operation::Not => all_of_kind(Kind::Boolean, heads, least),
         Operation::CharLength => all_of_kind(Kind::Text, heads, least),
         Operation::Compare(_) | Operation::Coalesce => alike(heads, least),
-        Operation::Is(test) | Operation::IsNot(test) => ask_test(test, heads, least),
+        Operation::Is(test) | Operation::IsNot(test) => ask_test(*test, heads, least),
         Operation::In | Operation::NotIn => like_first(heads, least),
         Operation::Substring => {
             in_turn(&[Kind::Text, Kind::Integer, Kind::Integer], heads, least);
         }
-        Operation::Cast(to) => ask_cast(to, heads, least),
+        Operation::Cast(to) => ask_cast(*to.get(), heads, least),
         Operation::Case => arms(Kind::Boolean, heads, least),
         Operation::CaseOf => arms_of(heads, least),
     }
 }
 
 /// The kind of what a word gives.
-pub fn kind_given(operation: Operation, heads: &[Head]) -> Kind
-    ensures { result ≡ spec.given operation heads.now }
+pub fn kind_given(operation: &Operation, heads: &[Head]) -> Kind
+    ensures { result ≡ spec.given operation.now heads.now }
 {
     match operation {
         Operation::Plus | Operation::Minus | Operation::Modulo => Kind::Integer,
@@ -90,7 +90,7 @@ pub fn kind_given(operation: Operation, heads: &[Head]) -> Kind
         Operation::Is(_) | Operation::IsNot(_) => Kind::Boolean,
         Operation::In | Operation::NotIn => Kind::Boolean,
         Operation::Substring => Kind::Text,
-        Operation::Cast(to) => kind_of_type(type_of(to)),
+        Operation::Cast(to) => kind_of_type(type_of(*to.get())),
         Operation::Coalesce => common(heads),
         Operation::Case => kind_of_arms(heads),
         Operation::CaseOf => kind_of_arms_of(heads),

@@ -64,23 +64,23 @@ fn plus(operands: Items<BoundExpr>) -> BoundExpr
 /// A word over its operands.
 pub fn tree_of(
     alloc: Global,
-    operation: Operation,
+    operation: &Operation,
     operands: Items<BoundExpr>,
 ) -> Result<BoundExpr, NoMemory>
-    ensures { IfOk result (λ e. e ≡ spec.tree_of operation operands) }
+    ensures { IfOk result (λ e. e ≡ spec.tree_of operation.now operands) }
 {
     match operation {
         Operation::Plus => Ok(plus(operands)),
         Operation::Minus => Ok(BoundExpr::Operation(BoundOperation::Negation, operands)),
         Operation::Not => Ok(BoundExpr::Operation(BoundOperation::Opposite, operands)),
         Operation::Compare(comparison) => Ok(BoundExpr::Operation(
-            BoundOperation::Comparing(comparison),
+            BoundOperation::Comparing(*comparison),
             operands,
         )),
-        Operation::Is(test) => Ok(BoundExpr::Operation(word_of_test(test), operands)),
+        Operation::Is(test) => Ok(BoundExpr::Operation(word_of_test(*test), operands)),
         Operation::IsNot(test) => opposite(
             alloc,
-            BoundExpr::Operation(word_of_test(test), operands),
+            BoundExpr::Operation(word_of_test(*test), operands),
         ),
         Operation::In => Ok(BoundExpr::Operation(BoundOperation::AnyOf, operands)),
         Operation::NotIn => opposite(alloc, BoundExpr::Operation(BoundOperation::AnyOf, operands)),
@@ -88,7 +88,7 @@ pub fn tree_of(
         Operation::CharLength => Ok(BoundExpr::Operation(BoundOperation::CharLength, operands)),
         Operation::Substring => Ok(BoundExpr::Operation(BoundOperation::Substring, operands)),
         Operation::Cast(to) => Ok(BoundExpr::Operation(
-            BoundOperation::Cast(type_of(to)),
+            BoundOperation::Cast(type_of(*to.get())),
             operands,
         )),
         Operation::Coalesce => Ok(BoundExpr::Operation(BoundOperation::Coalesce, operands)),

@@ -34,7 +34,7 @@ abbrev pub rows_and : List Row → Ending (List Row) → Ending (List Row)
 rows_and [] end = end
 rows_and (r ∷ rs) end = after (rows_and rs end) (λ qs. Ok (r ∷ qs))
 
-rows_and_push : (rs : List Row) (r : Row) (end : Ending (List Row)) → rows_and (rs ++ r ∷ []) end ≡ rows_and rs (first_and (Ok r) end)
+pub rows_and_push : (rs : List Row) (r : Row) (end : Ending (List Row)) → rows_and (rs ++ r ∷ []) end ≡ rows_and rs (first_and (Ok r) end)
 rows_and_push [] r end = refl
 rows_and_push (q ∷ rs) r end = ap (λ e. after e (λ qs. Ok (q ∷ qs))) (rows_and_push rs r end)
 

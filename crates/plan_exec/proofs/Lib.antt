@@ -1,5 +1,9 @@
 pub mod Collected
+pub mod Matching
 pub mod Nodes
+pub mod Paired
 pub mod Picks
-pub mod Plans
 pub mod Read
+pub mod Settled
+pub mod Stretched
+pub mod Whole

@@ -1,6 +1,7 @@
 -- One row of a table more was passed through the nodes.
 use Rattle.std.proofs.Common.{◌≡◌, ℕ, ◌+◌, ◌<◌, List, [], ◌∷◌, ◌++◌, map, length, drop, slice_index_or, sym, ap, ◌∙◌}
-use Rattle.std.proofs.lemmas.List.{drop_more, append-nil, append_assoc}
+use Rattle.std.proofs.lemmas.List.{drop_more, append-nil, append_assoc, reverse-reverse}
+use Rattle.std.specs.Prelude.{reverse}
 use Rattle.sql_values.specs.declared.value.Value.{Value}
 use Rattle.row_types.specs.Rows.{Row}
 use Rattle.row_types.specs.declared.cell.Cell.{Cell}
@@ -26,3 +27,6 @@ row_passed ns o args rows i row out new whole f l h e n k =
     let at : drop i rows ≡ row ∷ drop (i + 1) rows = drop_more rows i row l ∙ ap (λ r. r ∷ drop (i + 1) rows) (sym h) in
     ap (λ xs. xs ++ rest) (n ∙ ap (λ g. out ++ fate_rows g) e)
     ∙ (append_assoc out (fate_rows (fate ns (map Val row) o args)) rest ∙ (ap (λ rs. out ++ passed ns o args (shown_rows rs)) (sym at) ∙ k))
+
+pub turned_twice : (rows : List Row) → reverse (reverse rows) ≡ rows
+turned_twice rows = reverse-reverse rows

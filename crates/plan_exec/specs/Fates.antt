@@ -23,11 +23,12 @@ abbrev pub tested : Cell → List Cell → Fate
 tested (Cond area) row = Raises area
 tested (Val v) row = if is_true v then Stays row else Gone
 
--- what a node makes of a row
+-- what a node makes of a row; one that takes whole lists does nothing
 abbrev pub node_fate : Node → List Cell → List (List Cell) → List Value → Fate
 node_fate (Extend ss) row outer args = Stays (row ++ cells_of (scalars_of ss) (sight_of row outer args))
 node_fate (Filter s) row outer args = tested (cell_of (scalar_of s) (sight_of row outer args)) row
 node_fate (Keep places) row outer args = Stays (cells_at row places)
+node_fate _ row outer args = Stays row
 
 -- goes on with a row that stays
 abbrev pub go_on : Fate → (List Cell → Fate) → Fate
@@ -50,8 +51,23 @@ fate_rows (Raises area) = Poisoned area ∷ []
 abbrev pub passed : List Node → List (List Cell) → List Value → List PlanRow → List PlanRow
 passed ns outer args rows = each (λ row. fate_rows (fate ns row outer args)) rows
 
+-- what a row becomes by nodes of which none but an Extend does anything
+abbrev pub grown_by : Node → List Cell → List (List Cell) → List Value → List Cell
+grown_by (Extend ss) row outer args = row ++ cells_of (scalars_of ss) (sight_of row outer args)
+grown_by _ row outer args = row
+
+abbrev pub grown : List Node → List Cell → List (List Cell) → List Value → List Cell
+grown [] row outer args = row
+grown (n ∷ ns) row outer args = grown ns (grown_by n row outer args) outer args
+
 -- a node that leaves no row out
 abbrev pub keeps : Node → Bool
-keeps (Extend ss) = true
 keeps (Filter s) = false
-keeps (Keep places) = true
+keeps _ = true
+
+-- a node that acts on each row alone
+abbrev pub by_row : Node → Bool
+by_row (Extend ss) = true
+by_row (Filter s) = true
+by_row (Keep places) = true
+by_row _ = false

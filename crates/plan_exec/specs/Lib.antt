@@ -1,4 +1,5 @@
 pub mod Answers
 pub mod Fates
+pub mod Joins
 pub mod Passing
 pub mod Ways

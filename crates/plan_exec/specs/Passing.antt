@@ -11,7 +11,7 @@ use Rattle.plan_exec.specs.Fates.{Fate, Stays, Gone, Raises}
 
 -- with the cells that are left
 abbrev pub fate_of : RowFate → List Cell → Fate
-fate_of (code.Stays front) cells = Stays (map Val front.now ++ cells)
+fate_of (code.Stays front) cells = Stays (map Val front ++ cells)
 fate_of code.Gone cells = Gone
 fate_of (code.Raises area) cells = Raises area
 

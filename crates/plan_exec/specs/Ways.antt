@@ -2,13 +2,14 @@
 use Rattle.std.specs.Prelude.{List, ◌++◌}
 use Rattle.sql_values.specs.declared.value.Value.{Value}
 use Rattle.row_types.specs.declared.cell.Cell.{Cell}
-use Rattle.rel_algebra.specs.Plan.{cells_of, cells_at}
+use Rattle.row_types.specs.Cells.{PlanRow}
+use Rattle.rel_algebra.specs.Plan.{cells_of, cells_at, each}
 use Rattle.rel_algebra.specs.PlanView.{scalars_of}
 use Rattle.scalar_eval.specs.Sights.{sight_of}
 use Rattle.plan_exec.specs.declared.last.Last.{Last}
 use Rattle.plan_exec.specs.declared.last.Last.TheVariants.{Whole, Picked}
 use Rattle.plan_exec.specs.declared.last.Way.{Way}
-use Rattle.plan_exec.specs.Fates.{Fate, Stays, fate, go_on}
+use Rattle.plan_exec.specs.Fates.{Fate, Stays, fate, fate_rows, go_on}
 
 -- the row's own, or those picked of it with the cells of scalars behind its own
 abbrev pub last_cells : Last → List Cell → List (List Cell) → List Value → List Cell
@@ -18,3 +19,7 @@ last_cells (Picked scalars places) row outer args = cells_at (row ++ cells_of (s
 -- what becomes of a row on a way
 abbrev pub way_fate : Way → List Cell → List (List Cell) → List Value → Fate
 way_fate way row outer args = go_on (fate way.nodes.now row outer args) (λ r. Stays (last_cells way.last r outer args))
+
+-- the rows that come of rows on a way
+abbrev pub way_rows : Way → List (List Cell) → List Value → List PlanRow → List PlanRow
+way_rows way outer args rows = each (λ row. fate_rows (way_fate way row outer args)) rows

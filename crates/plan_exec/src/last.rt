@@ -1,7 +1,7 @@
 //! The last nodes of a plan, by which a row gets its final cells. They are worked out straight into
 //! the memory of the row that comes out.
 
-ghost use Rattle.std.specs.Prelude.{◌≡◌, ◌++◌, [], ◌-◌, List, length, take, map, IfOk, IfSome};
+ghost use Rattle.std.specs.Prelude.{◌≡◌, ◌++◌, [], ◌-◌, List, length, take, map, slice_get, Some, IfOk, IfSome};
 ghost use Rattle.sql_values.specs.declared.value.Value.{Value as PlainValue};
 ghost use Rattle.row_types.specs.declared.cell.Cell.{Cell as PlainCell};
 ghost use Rattle.row_types.specs.declared.cell.Cell.TheVariants.{Val};
@@ -9,13 +9,14 @@ ghost use Rattle.row_types.specs.Cells.{Whole as WholeRow};
 ghost use Rattle.row_types.specs.OuterRows.{outer_rows};
 ghost use Rattle.rel_algebra.specs.Plan.{cell_at, cells_of, cells_at};
 ghost use Rattle.rel_algebra.specs.PlanView.{scalars_of};
+ghost use Rattle.rel_algebra.specs.declared.plan.Node.TheVariants.{Extend, Keep};
 ghost use Rattle.scalar_eval.specs.Sights.{sight_of};
 ghost use Rattle.plan_exec.specs.Fates.{Stays, fate, go_on};
 ghost use Rattle.plan_exec.specs.Ways.{last_cells, way_fate};
 
 use crate::scratch::Scratch;
 use rel_algebra::{Node, Scalar};
-use row_types::{Cell, Outer, PlanRow, Row, RowInSight, gathered};
+use row_types::{Cell, Outer, PlanRow, Row, RowInSight, ValuesInSight, gathered};
 use scalar_eval::{eval_on, own_cell};
 use sql_values::{NoMemory, Value};
 use sqlite_items::Items;
@@ -43,9 +44,9 @@ impl<'a> Way<'a> {
         ensures { (row : List PlainCell) (outer : List (List PlainCell)) (args : List PlainValue) →
             fate nodes.now row outer args ≡ way_fate result row outer args }
     {
-        match nodes.last() {
-            Some(Node::Keep(places)) => before_keep(without_last(nodes), places.as_slice()),
-            _ => Way {
+        match last_places(nodes) {
+            Some(places) => before_keep(without_last(nodes), places),
+            None => Way {
                 nodes,
                 last: Last::Whole,
             },
@@ -58,15 +59,35 @@ fn before_keep<'a>(nodes: &'a [Node], places: &'a [usize]) -> Way<'a>
     ensures { (row : List PlainCell) (outer : List (List PlainCell)) (args : List PlainValue) →
         go_on (fate nodes.now row outer args) (λ r. Stays (cells_at r places.now)) ≡ way_fate result row outer args }
 {
-    match nodes.last() {
-        Some(Node::Extend(scalars)) => Way {
+    match last_scalars(nodes) {
+        Some(scalars) => Way {
             nodes: without_last(nodes),
-            last: Last::Picked(scalars.as_slice(), places),
+            last: Last::Picked(scalars, places),
         },
-        _ => Way {
+        None => Way {
             nodes,
             last: Last::Picked(&[], places),
         },
+    }
+}
+
+// The places of the last node, where it is a Keep.
+fn last_places(nodes: &[Node]) -> Option<&[usize]>
+    ensures { IfSome result (λ places. slice_get nodes.now (length nodes.now - 1) ≡ Some (Keep places.now)) }
+{
+    match nodes.last()? {
+        Node::Keep(places) => Some(places.as_slice()),
+        _ => None,
+    }
+}
+
+// The scalars of the last node, where it is an Extend.
+fn last_scalars(nodes: &[Node]) -> Option<&[Scalar]>
+    ensures { IfSome result (λ scalars. slice_get nodes.now (length nodes.now - 1) ≡ Some (Extend scalars.now)) }
+{
+    match nodes.last()? {
+        Node::Extend(scalars) => Some(scalars.as_slice()),
+        _ => None,
     }
 }
 
@@ -82,7 +103,7 @@ fn without_last(nodes: &[Node]) -> &[Node]
 pub fn finished(
     alloc: Global,
     last: &Last,
-    front: &[Value],
+    front: &ValuesInSight,
     scratch: &mut Scratch,
     outer: &Outer,
     args: &[Value],
@@ -92,7 +113,9 @@ pub fn finished(
     match last {
         Last::Whole => gathered(alloc, front, scratch.cells.as_mut_slice()),
         Last::Picked(scalars, places) => {
-            let row = RowInSight::of(front, scratch.cells.as_slice());
+            let (first, second) = front.slices();
+            let values = ValuesInSight::of_pair(first, second);
+            let row = RowInSight::over(&values, scratch.cells.as_slice());
             match picked_values(alloc, scalars, places, &row, outer, args)? {
                 Some(values) => Ok(PlanRow::of_values(values)),
                 None => picked_cells(alloc, scalars, places, front, scratch, outer, args),
@@ -106,7 +129,7 @@ fn picked_cells(
     alloc: Global,
     scalars: &[Scalar],
     places: &[usize],
-    front: &[Value],
+    front: &ValuesInSight,
     scratch: &mut Scratch,
     outer: &Outer,
     args: &[Value],
@@ -116,7 +139,7 @@ fn picked_cells(
 {
     scratch.extend(alloc, scalars, front, outer, args)?;
     scratch.keep(alloc, places, front)?;
-    gathered(alloc, &[], scratch.cells.as_mut_slice())
+    gathered(alloc, &ValuesInSight::none(), scratch.cells.as_mut_slice())
 }
 
 // The same where each of the cells is a value. `None` says nothing.

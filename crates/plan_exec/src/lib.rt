@@ -2,14 +2,19 @@
 #![tactic(auto)]
 
 mod collecting;
+mod ends;
 mod last;
 mod leaves;
 mod lists;
+mod outer;
+mod pairs;
 mod pass;
 #[cfg(test)]
 mod run_tests;
 mod running;
 mod scratch;
+mod sides;
+mod stretches;
 
 pub use collecting::{Answer, Values, collect, collect_values};
 pub use running::execute;

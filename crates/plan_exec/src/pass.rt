@@ -8,7 +8,7 @@ ghost use Rattle.plan_exec.specs.Passing.{fate_of};
 
 use crate::scratch::Scratch;
 use rel_algebra::Node;
-use row_types::{Cell, Outer, RowInSight};
+use row_types::{Cell, Outer, RowInSight, ValuesInSight};
 use scalar_eval::{eval_on, is_true};
 use sql_conditions::Area;
 use sql_values::{NoMemory, Value};
@@ -18,32 +18,36 @@ use std::alloc::Global;
 /// What becomes of a row.
 pub enum RowFate<'a> {
     /// It stays: these values, and the cells that are left in the scratch behind them.
-    Stays(&'a [Value]),
+    Stays(ValuesInSight<'a>),
     /// It is left out.
     Gone,
     /// Deciding on it raises.
     Raises(Boxed<Area>),
 }
 
-/// What nodes make of the row of these values and of the cells in the scratch behind them.
+/// What nodes make of the row of these values and of the cells in the scratch behind them. A node
+/// that takes whole lists does nothing here.
 pub fn pass<'a>(
     alloc: Global,
     nodes: &[Node],
-    values: &'a [Value],
+    values: &ValuesInSight<'a>,
     scratch: &mut Scratch,
     outer: &Outer,
     args: &[Value],
 ) -> Result<RowFate<'a>, NoMemory>
     ensures { IfOk result (λ f. fate_of f scratch.new.cells.items ≡ fate nodes.now (map Val values.now ++ scratch.old.cells.items) (outer_rows outer.now) args.now) }
 {
-    let mut front = values;
+    let (first, second) = values.slices();
+    let mut front = ValuesInSight::of_pair(first, second);
     for node in nodes {
         match node {
             Node::Extend(scalars) => {
-                scratch.extend(alloc, scalars.as_slice(), front, outer, args)?;
+                scratch.extend(alloc, scalars.as_slice(), &front, outer, args)?;
             }
             Node::Filter(test) => {
-                let row = RowInSight::of(front, scratch.cells.as_slice());
+                let (first, second) = front.slices();
+                let values = ValuesInSight::of_pair(first, second);
+                let row = RowInSight::over(&values, scratch.cells.as_slice());
                 match eval_on(alloc, test, &row, outer, args)? {
                     Cell::Val(value) => {
                         if !is_true(&value) {
@@ -54,9 +58,10 @@ pub fn pass<'a>(
                 }
             }
             Node::Keep(places) => {
-                scratch.keep(alloc, places.as_slice(), front)?;
-                front = &[];
+                scratch.keep(alloc, places.as_slice(), &front)?;
+                front = ValuesInSight::none();
             }
+            _ => {}
         }
     }
     Ok(RowFate::Stays(front))

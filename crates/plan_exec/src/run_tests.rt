@@ -1,10 +1,10 @@
-//! Rows of values on their way through a filter that raises, and what they come to.
+//! Rows of values on their way through a filter that raises, joins and a sort, and what they come to.
 
 ghost use Rattle.std.specs.Prelude.{◌≡◌};
 
 use crate::{Answer, Values, collect, collect_values, execute};
 use rel_algebra::{Leaf, Node, Plan, Scalar, ScalarLink, ScalarRow};
-use row_types::{PlanRow, RowEnd, Steps};
+use row_types::{PlanRow, RowEnd, SortKey, Steps};
 use sql_values::{Comparison, Name, NoMemory, Operator, Value};
 use sqlite_items::{Boxed, Items};
 use std::alloc::Global;
@@ -26,13 +26,80 @@ fn with_column(alloc: Global, number: i64, operator: Operator) -> Result<Scalar,
 
 // The rows of VALUES 1, 0, 2.
 fn numbers(alloc: Global) -> Result<Leaf, NoMemory> {
+    listed(alloc, &[1, 0, 2])
+}
+
+// A row for each of these numbers.
+fn listed(alloc: Global, numbers: &[i64]) -> Result<Leaf, NoMemory> {
     let mut rows = Items::new(alloc);
-    for number in [1, 0, 2] {
+    for number in numbers {
         let mut scalars = Items::new(alloc);
-        scalars.push(Scalar::Constant(Value::Int(number)))?;
+        scalars.push(Scalar::Constant(Value::Int(*number)))?;
         rows.push(ScalarRow { scalars })?;
     }
     Ok(Leaf::Values(rows))
+}
+
+// A comparison of columns 0 and 1.
+fn compared(alloc: Global, comparison: Comparison) -> Result<Scalar, NoMemory> {
+    let first = Boxed::new(alloc, Scalar::Column(0, 0))?;
+    let second = Boxed::new(alloc, Scalar::Column(0, 1))?;
+    Ok(Scalar::Compare(comparison, first, second))
+}
+
+// A leaf with one node, and perhaps a second.
+fn under(
+    alloc: Global,
+    leaf: Result<Leaf, NoMemory>,
+    node: Node,
+    second: Option<Node>,
+) -> Result<Plan, NoMemory> {
+    let mut nodes = Items::new(alloc);
+    nodes.push(node)?;
+    if let Some(second) = second {
+        nodes.push(second)?;
+    }
+    Ok(Plan { leaf: leaf?, nodes })
+}
+
+// Values 1, 0, 2, Cross with Values 0, 2, 1, Filter #0 < #1
+fn pairs(alloc: Global) -> Result<Plan, NoMemory> {
+    let right = Boxed::new(alloc, without_nodes(alloc, listed(alloc, &[0, 2, 1]))?)?;
+    let test = Node::Filter(compared(alloc, Comparison::LessThan)?);
+    under(alloc, numbers(alloc), Node::Cross(right), Some(test))
+}
+
+// Values 1, 0, 2, LeftOuter eq(#0, #1) with Values 2, 2, Keep #1
+fn outer_pairs(alloc: Global) -> Result<Plan, NoMemory> {
+    let right = Boxed::new(alloc, without_nodes(alloc, listed(alloc, &[2, 2]))?)?;
+    let test = compared(alloc, Comparison::Equals)?;
+    let mut places = Items::new(alloc);
+    places.push(1usize)?;
+    let join = Node::LeftOuter(Items::new(alloc), test, 1, right);
+    under(alloc, numbers(alloc), join, Some(Node::Keep(places)))
+}
+
+// no rows, Cross with Values 20 / 10, 20 / 0, 20 / 5
+fn raised_behind_none(alloc: Global) -> Result<Plan, NoMemory> {
+    let right = Boxed::new(alloc, without_nodes(alloc, quotients(alloc))?)?;
+    under(alloc, listed(alloc, &[]), Node::Cross(right), None)
+}
+
+// Values 2, 1, Cross with Values 7, 8, Sort #1 descending
+fn sorted_pairs(alloc: Global) -> Result<Plan, NoMemory> {
+    let right = Boxed::new(alloc, without_nodes(alloc, listed(alloc, &[7, 8]))?)?;
+    let mut keys = Items::new(alloc);
+    keys.push(SortKey {
+        place: 1,
+        descending: true,
+    })?;
+    let sort = Node::Sort(keys);
+    under(
+        alloc,
+        listed(alloc, &[2, 1]),
+        Node::Cross(right),
+        Some(sort),
+    )
 }
 
 // The rows of VALUES 20 / 10, 20 / 0, 20 / 5.
@@ -186,5 +253,27 @@ fn a_test_that_raises_keeps_its_row(rt: HostRuntime) -> Result<(), Fail> {
     assert!(rt; rows.as_slice() == [100, 200].as_slice());
     let rows = tell(alloc, unit(alloc)).ok().ok_or("no memory")?;
     assert!(rt; rows.as_slice() == [0, 101, 201].as_slice());
+    Ok(())
+}
+
+#[test]
+fn joins_make_their_lists_first(rt: HostRuntime) -> Result<(), Fail> {
+    let alloc = rt.alloc();
+    let rows = tell(alloc, pairs(alloc)).ok().ok_or("no memory")?;
+    assert!(rt; rows.as_slice() == [1, 0, 0, 103, 203].as_slice());
+    let rows = tell(alloc, outer_pairs(alloc)).ok().ok_or("no memory")?;
+    assert!(rt; rows.as_slice() == [0, 0, 2, 2, 104, 204].as_slice());
+    let rows = tell(alloc, raised_behind_none(alloc))
+        .ok()
+        .ok_or("no memory")?;
+    assert!(rt; rows.as_slice() == [-1, -100, -200].as_slice());
+    Ok(())
+}
+
+#[test]
+fn rows_that_tie_keep_their_order(rt: HostRuntime) -> Result<(), Fail> {
+    let alloc = rt.alloc();
+    let rows = tell(alloc, sorted_pairs(alloc)).ok().ok_or("no memory")?;
+    assert!(rt; rows.as_slice() == [2, 1, 2, 1, 104, 204].as_slice());
     Ok(())
 }

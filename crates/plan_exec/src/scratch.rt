@@ -8,7 +8,7 @@ ghost use Rattle.rel_algebra.specs.PlanView.{scalars_of};
 ghost use Rattle.scalar_eval.specs.Sights.{sight_of};
 
 use rel_algebra::Scalar;
-use row_types::{Cell, Outer, RowInSight};
+use row_types::{Cell, Outer, RowInSight, ValuesInSight};
 use scalar_eval::{eval_on, own_cell};
 use sql_values::{NoMemory, Value};
 use std::alloc::Global;
@@ -45,7 +45,7 @@ impl Scratch {
         &mut self,
         alloc: Global,
         scalars: &[Scalar],
-        values: &[Value],
+        values: &ValuesInSight,
         outer: &Outer,
         args: &[Value],
     ) -> Result<(), NoMemory>
@@ -60,12 +60,14 @@ impl Scratch {
         &mut self,
         alloc: Global,
         places: &[usize],
-        values: &[Value],
+        values: &ValuesInSight,
     ) -> Result<(), NoMemory>
         ensures { OnOk result (self.new.cells.items ≡ cells_at (map Val values.now ++ self.old.cells.items) places.now) }
     {
         self.spare.clear();
-        let row = RowInSight::of(values, self.cells.as_slice());
+        let (first, second) = values.slices();
+        let values = ValuesInSight::of_pair(first, second);
+        let row = RowInSight::over(&values, self.cells.as_slice());
         pick(&mut self.spare, alloc, places, &row)?;
         swap(&mut self.cells, &mut self.spare);
         Ok(())
@@ -77,16 +79,18 @@ fn extend(
     cells: &mut Vec<Cell>,
     alloc: Global,
     scalars: &[Scalar],
-    values: &[Value],
+    values: &ValuesInSight,
     outer: &Outer,
     args: &[Value],
 ) -> Result<(), NoMemory>
     ensures { OnOk result (cells.new.items ≡ cells.old.items ++ cells_of (scalars_of scalars.now) (sight_of (map Val values.now ++ cells.old.items) (outer_rows outer.now) args.now)) }
 {
+    let (first, second) = values.slices();
     let width = cells.len();
     for scalar in scalars {
         let (came, _) = cells.split_at(width);
-        let cell = eval_on(alloc, scalar, &RowInSight::of(values, came), outer, args)?;
+        let values = ValuesInSight::of_pair(first, second);
+        let cell = eval_on(alloc, scalar, &RowInSight::over(&values, came), outer, args)?;
         cells.push(cell)?;
     }
     Ok(())

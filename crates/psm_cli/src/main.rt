@@ -15,6 +15,8 @@ mod command;
 mod fault_tests;
 mod law;
 mod program;
+#[cfg(test)]
+mod query_tests;
 mod read;
 mod run;
 mod status;

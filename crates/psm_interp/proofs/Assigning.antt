@@ -10,11 +10,10 @@ use Rattle.row_types.specs.declared.ColumnType.{ColumnType}
 use Rattle.row_types.specs.Rows.{Row}
 use Rattle.rel_algebra.specs.World.{World, Ends, Gives, after, give, outcome}
 use Rattle.rel_algebra.specs.Writing.{assigned_row}
-use Rattle.psm_interp.specs.declared.stop.Stop.{Stop}
-use Rattle.psm_interp.specs.Ending.{Tells}
-use Rattle.psm_interp.specs.Faults.{stopped_by}
-use Rattle.psm_interp.proofs.Going.{after_give, regrouped, outcome_gives, stops_too, fault_tells}
-use Rattle.psm_interp.proofs.Trees.{rest}
+use Rattle.expr_interp.specs.declared.stop.Stop.{Stop}
+use Rattle.expr_interp.specs.Ending.{Tells}
+use Rattle.expr_interp.specs.Faults.{stopped_by}
+use Rattle.expr_interp.proofs.Laws.{after_give, regrouped, outcome_gives, stops_too, fault_tells, rest}
 
 -- values without a column are left out
 cut_short : (cs : List ColumnType) (vs : Row) (w : World) → assigned_row cs (take (length cs) vs) w ≡ assigned_row cs vs w

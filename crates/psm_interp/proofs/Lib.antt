@@ -1,10 +1,5 @@
-pub mod Stays
-pub mod Going
-pub mod Trees
-pub mod Steps
-pub mod Cases
-pub mod Words
 pub mod Storing
 pub mod Assigning
-pub mod Flat
-pub mod Laws
+pub mod RowByRow
+pub mod LeftToRight
+pub mod Counted

@@ -17,13 +17,13 @@ use Rattle.atomic_undo.specs.declared.fault.ApplyFault.TheVariants.{Constraint, 
 use Rattle.atomic_undo.specs.Applying.{KeepsMarks, IsApplied}
 use Rattle.rel_algebra.specs.World.{World, Gives, Raises, each, after}
 use Rattle.rel_algebra.specs.Writing.{row_for, store_in, keep_rows}
-use Rattle.psm_interp.specs.declared.stop.Stop.{Stop}
-use Rattle.psm_interp.specs.declared.stop.Stop.TheVariants.{Raised}
-use Rattle.psm_interp.specs.Content.{Content, world_of}
-use Rattle.psm_interp.specs.Ending.{Tells, Ended}
-use Rattle.psm_interp.specs.Inserts.{TellsAnywhere, refused_by}
-use Rattle.psm_interp.proofs.Stays.{stays_same}
-use Rattle.psm_interp.proofs.Going.{going, stops}
+use Rattle.expr_interp.specs.declared.stop.Stop.{Stop}
+use Rattle.expr_interp.specs.declared.stop.Stop.TheVariants.{Raised}
+use Rattle.expr_interp.specs.Content.{Content, world_of}
+use Rattle.expr_interp.specs.Ending.{Tells, Ended}
+use Rattle.expr_interp.specs.Faults.{refused_by}
+use Rattle.psm_interp.specs.Inserts.{TellsAnywhere}
+use Rattle.expr_interp.proofs.Laws.{stays_same, going, stops}
 
 -- the table of the name is that at the place
 store_at : (name : List ℕ) (place : ℕ) (ts : Tables) (new : List Row) (w : World) → place_named name ts ≡ Some place →

@@ -7,13 +7,8 @@ use Rattle.rel_algebra.specs.Tree.{Query}
 use Rattle.rel_algebra.specs.World.{World, Eval, ◌>>=◌, no_self, no_frame}
 use Rattle.rel_algebra.specs.Meaning.{answer}
 use Rattle.rel_algebra.specs.Writing.{stored}
-use Rattle.sql_conditions.specs.declared.condition.EngineCondition.TheVariants.{ConstraintViolated}
-use Rattle.sql_conditions.specs.Conditions.{area_of}
-use Rattle.atomic_undo.specs.declared.fault.ApplyFault.{ApplyFault}
-use Rattle.atomic_undo.specs.declared.fault.ApplyFault.TheVariants.{Constraint, NoMemory}
-use Rattle.psm_interp.specs.declared.stop.Stop.{Stop}
-use Rattle.psm_interp.specs.declared.stop.Stop.TheVariants.{Raised, NoMemory as WantOfMemory}
-use Rattle.psm_interp.specs.Ending.{Tells}
+use Rattle.expr_interp.specs.declared.stop.Stop.{Stop}
+use Rattle.expr_interp.specs.Ending.{Tells}
 
 -- an INSERT but for what it leaves where it raises
 abbrev pub insert_rows_of : List ℕ → Query → Eval ℕ
@@ -32,8 +27,3 @@ listed (Err stop) = Err stop
 -- the same where the rows are in a vector
 abbrev pub TellsRows : Result (Vec Row Global) Stop → Eval (List Row) → Type 0
 TellsRows answer e = TellsAnywhere (listed answer) e
-
--- why a table refuses a change: a key would stand twice, or no memory is there
-abbrev pub refused_by : ApplyFault → Stop
-refused_by (Constraint at) = Raised (area_of ConstraintViolated)
-refused_by NoMemory = WantOfMemory

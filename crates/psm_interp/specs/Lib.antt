@@ -1,10 +1,3 @@
-pub mod Content
-pub mod Ending
-pub mod Sight
-pub mod Cost
-pub mod Units
-pub mod Queries
+pub mod Joins
 pub mod Inserts
-pub mod Flat
-pub mod Words
-pub mod Faults
+pub mod Examples

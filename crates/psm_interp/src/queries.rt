@@ -1,26 +1,20 @@
 //! Queries.
 
-ghost use Rattle.std.specs.Prelude.{◌≡◌, [], ◌∷◌, IfOk, OnOk, IfErr, ◌++◌};
-ghost use Rattle.row_types.specs.Tables.{rows_named};
-ghost use Rattle.rel_algebra.specs.World.{no_self, with_front, each_kept};
-ghost use Rattle.rel_algebra.specs.Meaning.{ev_all, holds as holds_by, ev_rows, answer, ask, record_of as record_by};
-ghost use Rattle.bound_trees.specs.declared.statement.BoundQuery.TheVariants.{Select};
-ghost use Rattle.catalog_store.specs.View.{exprs_of, rows_of, query_of};
-ghost use Rattle.psm_interp.specs.declared.stop.Stop.TheVariants.{NoMemory as WantOfMemory};
-ghost use Rattle.psm_interp.specs.Content.{world_of};
-ghost use Rattle.psm_interp.specs.Ending.{Ended};
-ghost use Rattle.psm_interp.specs.Queries.{from_rows_of};
-ghost use Rattle.psm_interp.specs.Sight.{seen};
+ghost use Rattle.std.specs.Prelude.{[], ◌∷◌, map};
+ghost use Rattle.row_types.specs.Rows.{Row as Values};
+ghost use Rattle.rel_algebra.specs.World.{no_self, each_kept};
+ghost use Rattle.rel_algebra.specs.Meaning.{answer, ask, from_rows as from_by, record_of as record_by};
+ghost use Rattle.catalog_store.specs.View.{exprs_of, query_of, select_of, item_of, source_of, from_of, itself};
+ghost use Rattle.expr_interp.specs.Content.{world_of};
+ghost use Rattle.expr_interp.specs.Ending.{Ended};
 
-use crate::expr::eval;
-use crate::flat_rows::FlatRows;
-use crate::units::leave;
-use crate::values::is_true;
-use crate::{Frame, Stop, World};
-use bound_trees::{BoundExpr, BoundFrom, BoundQuery, BoundRow, BoundSelect};
+use crate::from::{closed, join, table_rows};
+use crate::joins::add;
+use bound_trees::{BoundFromItem, BoundQuery, BoundSelect, BoundSource};
 use catalog_store::Catalog;
+use expr_interp::{Frame, Stop, World, eval_all, eval_rows, holds, leave};
+use row_sort::sorted;
 use row_types::Row;
-use sql_values::{NoMemory, Value};
 use sqlite_items::Items;
 
 /// The rows of a query that is a statement (ISO/IEC 9075-2, 7.17). Where it raises, the tables are
@@ -40,8 +34,9 @@ pub fn run_query(
     }
 }
 
-/// The rows of a query that no query stands around: of a SELECT in the order of the table's keys,
-/// of VALUES as they stand.
+/// The rows of a query that no query stands around: of a SELECT in the order of the rows of its
+/// FROM, of VALUES as they stand. An order is made of the whole list.
+#[cycle(query)]
 pub fn answer_query(
     query: &BoundQuery,
     frame: &Frame,
@@ -53,133 +48,113 @@ pub fn answer_query(
     match query {
         BoundQuery::Select(query) => select(query, frame, world, catalog),
         BoundQuery::Values(rows) => eval_rows(rows.as_slice(), frame, world, catalog),
+        BoundQuery::Ordered(query, keys) => {
+            let rows = answer_query(query.get(), frame, world, catalog)?;
+            Ok(sorted(world.allocator(), rows, keys.as_slice())?)
+        }
     }
-}
-
-// The rows of VALUES, in turn.
-fn eval_rows(
-    rows: &[BoundRow],
-    frame: &Frame,
-    world: &mut World,
-    catalog: &Catalog,
-) -> Result<Items<Row>, Stop>
-    ensures { Ended world.old world.new result (ev_rows (rows_of catalog.now rows.now) no_self [] frame.now (world_of world.old)) }
-{
-    let mut values = Items::from_vec(Vec::with_capacity(world.allocator(), rows.len())?);
-    for row in rows {
-        values.push(eval_all(row.values.as_slice(), &[], frame, world, catalog)?)?;
-    }
-    Ok(values)
-}
-
-// The values of several expressions.
-fn eval_all(
-    exprs: &[BoundExpr],
-    rows: &[&[Value]],
-    frame: &Frame,
-    world: &mut World,
-    catalog: &Catalog,
-) -> Result<Row, Stop>
-    ensures { Ended world.old world.new result (ev_all (exprs_of catalog.now exprs.now) no_self (seen rows.now) frame.now (world_of world.old)) }
-{
-    let mut values = Items::from_vec(Vec::with_capacity(world.allocator(), exprs.len())?);
-    for expr in exprs {
-        values.push(eval(expr, rows, frame, world, catalog)?)?;
-    }
-    Ok(values)
 }
 
 // The rows of a SELECT. FROM is complete before its first row goes on.
+#[cycle(query)]
 fn select(
     query: &BoundSelect,
     frame: &Frame,
     world: &mut World,
     catalog: &Catalog,
 ) -> Result<Items<Row>, Stop>
-    ensures { Ended world.old world.new result (answer (query_of catalog.now (Select query.now)) no_self [] frame.now (world_of world.old)) }
+    ensures { Ended world.old world.new result (answer (select_of catalog.now query.now) no_self [] frame.now (world_of world.old)) }
 {
-    let rows = from_rows(&query.from, world)?;
-    records_of(query, &rows, frame, world, catalog)
+    let rows = from_rows(query.from.as_slice(), frame, world, catalog)?;
+    records_of(query, rows.as_slice(), frame, world, catalog)
+}
+
+// The rows of FROM: of each item in turn they are made, and then joined to those before it.
+#[cycle(query)]
+fn from_rows(
+    items: &[BoundFromItem],
+    frame: &Frame,
+    world: &mut World,
+    catalog: &Catalog,
+) -> Result<Items<Row>, Stop>
+    ensures { Ended world.old world.new result (from_by (from_of (map (item_of catalog.now) items.now)) no_self [] frame.now (world_of world.old)) }
+{
+    let mut joined = None;
+    for item in items {
+        let rows = item_rows(item, frame, world, catalog)?;
+        joined = Some(join(joined, item, rows, frame, world, catalog)?);
+    }
+    Ok(closed(world.allocator(), joined)?)
+}
+
+// The rows of an item of FROM by itself.
+#[cycle(query)]
+fn item_rows(
+    item: &BoundFromItem,
+    frame: &Frame,
+    world: &mut World,
+    catalog: &Catalog,
+) -> Result<Items<Row>, Stop>
+    ensures { Ended world.old world.new result (from_by (itself (item_of catalog.now item.now)) no_self [] frame.now (world_of world.old)) }
+{
+    match item {
+        BoundFromItem::Comma(source) => source_rows(source, frame, world, catalog),
+        BoundFromItem::Cross(source) => source_rows(source, frame, world, catalog),
+        BoundFromItem::Inner(source, _) => source_rows(source, frame, world, catalog),
+        BoundFromItem::Left(source, _) => source_rows(source, frame, world, catalog),
+    }
+}
+
+// The rows of a table, or of a derived table.
+#[cycle(query)]
+fn source_rows(
+    source: &BoundSource,
+    frame: &Frame,
+    world: &mut World,
+    catalog: &Catalog,
+) -> Result<Items<Row>, Stop>
+    ensures { Ended world.old world.new result (from_by (source_of catalog.now source.now) no_self [] frame.now (world_of world.old)) }
+{
+    match source {
+        BoundSource::Table(name) => Ok(table_rows(name, world)?),
+        BoundSource::Derived(query) => answer_query(query.get(), frame, world, catalog),
+    }
 }
 
 // What a SELECT makes of the rows of its FROM, one by one.
 fn records_of(
     query: &BoundSelect,
-    rows: &FlatRows,
+    rows: &[Row],
     frame: &Frame,
     world: &mut World,
     catalog: &Catalog,
 ) -> Result<Items<Row>, Stop>
-    ensures { Ended world.old world.new result (each_kept (λ row. record_by (exprs_of catalog.now query.now.items) (exprs_of catalog.now query.now.conjuncts) no_self (row ∷ []) frame.now) rows.now (world_of world.old)) }
+    ensures { Ended world.old world.new result (each_kept (λ (row : Values). record_by (exprs_of catalog.now query.now.items) (exprs_of catalog.now query.now.conjuncts) no_self (row ∷ []) frame.now) rows.now (world_of world.old)) }
 {
     let mut records = Items::new(world.allocator());
-    for at in 0..rows.len() {
-        let record = record_of(query, rows.row_at(at), frame, world, catalog)?;
+    for row in rows {
+        let record = record_of(query, row, frame, world, catalog)?;
         add(&mut records, record)?;
     }
     Ok(records)
-}
-
-// The rows of FROM: those of a table in key order.
-fn from_rows(from: &BoundFrom, world: &World) -> Result<FlatRows, NoMemory>
-    ensures { IfOk result (λ rows. rows ≡ from_rows_of from.now world.now.memory.tables) }
-{
-    match from {
-        BoundFrom::Table(name) => match world.tables().table(name) {
-            Some(table) => FlatRows::of(world.allocator(), table),
-            None => Ok(FlatRows::new(world.allocator())),
-        },
-    }
-}
-
-// A record more, where there is one.
-fn add(records: &mut Items<Row>, more: Option<Row>) -> Result<(), NoMemory>
-    ensures { OnOk result (records.new ≡ records.old ++ with_front more []) }
-{
-    match more {
-        Some(record) => {
-            records.push(record)?;
-            Ok(())
-        }
-        None => Ok(()),
-    }
 }
 
 // The record of a row, where the row is kept: first the conjuncts, and where they are true the
 // select list.
 fn record_of(
     query: &BoundSelect,
-    row: &[Value],
+    row: &Row,
     frame: &Frame,
     world: &mut World,
     catalog: &Catalog,
 ) -> Result<Option<Row>, Stop>
     ensures { Ended world.old world.new result (record_by (exprs_of catalog.now query.now.items) (exprs_of catalog.now query.now.conjuncts) no_self (row.now ∷ []) frame.now (world_of world.old)) }
 {
-    let rows = [row];
+    let rows = [row.as_slice()];
     if holds(query.conjuncts.as_slice(), &rows, frame, world, catalog)? {
         let record = eval_all(query.items.as_slice(), &rows, frame, world, catalog)?;
         Ok(Some(record))
     } else {
         Ok(None)
     }
-}
-
-// Whether all conjuncts are true; the first that isn't ends it.
-fn holds(
-    conjuncts: &[BoundExpr],
-    rows: &[&[Value]],
-    frame: &Frame,
-    world: &mut World,
-    catalog: &Catalog,
-) -> Result<bool, Stop>
-    ensures { Ended world.old world.new result (holds_by (exprs_of catalog.now conjuncts.now) no_self (seen rows.now) frame.now (world_of world.old)) }
-{
-    for conjunct in conjuncts {
-        let value = eval(conjunct, rows, frame, world, catalog)?;
-        if !is_true(&value) {
-            return Ok(false);
-        }
-    }
-    Ok(true)
 }

@@ -27,11 +27,11 @@ use Rattle.std.specs.Prelude.{Result, IfOk}
 use Rattle.sql_texts.specs.declared.memory.NoMemory.{NoMemory}
 use Rattle.sql_conditions.specs.Conditions.{Area}
 use Rattle.reply_text.specs.Texts.{rows_text, area_text}
-use Rattle.psm_interp.specs.declared.stop.Stop.{Stop}
-use Rattle.psm_interp.specs.declared.stop.Stop.TheVariants as stop
-use Rattle.psm_interp.specs.Content.{Content, world_of}
-use Rattle.psm_interp.specs.Ending.{Ended}
-use Rattle.psm_interp.proofs.Laws.{stays_same}
+use Rattle.expr_interp.specs.declared.stop.Stop.{Stop}
+use Rattle.expr_interp.specs.declared.stop.Stop.TheVariants as stop
+use Rattle.expr_interp.specs.Content.{Content, world_of}
+use Rattle.expr_interp.specs.Ending.{Ended}
+use Rattle.expr_interp.proofs.Laws.{stays_same}
 use Rattle.psm_session.specs.Effects.{Effect, replied}
 use Rattle.psm_session.specs.Answering.{ends_with, HasValues}
 use Rattle.psm_session.specs.Conclusions.{database, IsEffect}

@@ -6,7 +6,7 @@ use Rattle.rel_algebra.specs.World.{Ends, Gives}
 use Rattle.catalog_store.specs.Catalog.{Catalog}
 use Rattle.atomic_undo.specs.Undo.{back_to}
 use Rattle.atomic_undo.proofs.Laws.{back_to-end}
-use Rattle.psm_interp.specs.Content.{Content, world_of, Stays, IsBackAt}
+use Rattle.expr_interp.specs.Content.{Content, world_of, Stays, IsBackAt}
 use Rattle.psm_session.specs.Effects.{replied}
 use Rattle.psm_session.specs.Conclusions.{database, IsEffect, KeepsShapes}
 use Rattle.psm_session.specs.Shapes.{shapes_of}

@@ -9,8 +9,8 @@ use Rattle.sql_grammar.specs.Sql.{rules, statement}
 use Rattle.sql_grammar.specs.Decides.{all_decide, statement_decides, statement_ends}
 use Rattle.name_faults.specs.declared.fault.Fault.{Fault}
 use Rattle.name_faults.specs.Faults.{Noted, least}
-use Rattle.sql_names.specs.declared.statement.BoundStmt.{BoundStmt}
-use Rattle.sql_names.specs.Statements.{judged_statement}
+use Rattle.psm_names.specs.declared.statement.BoundStmt.{BoundStmt}
+use Rattle.psm_names.specs.Statements.{judged_statement}
 use Rattle.reply_text.specs.declared.fault.FaultText.{FaultText}
 use Rattle.reply_text.specs.Texts.{fault_text}
 use Rattle.psm_session.specs.Database.{Plain}

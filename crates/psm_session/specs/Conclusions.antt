@@ -5,9 +5,9 @@ use Rattle.sql_texts.specs.declared.memory.NoMemory.{NoMemory}
 use Rattle.table_store.specs.Memory.{Memory}
 use Rattle.catalog_store.specs.Catalog.{Catalog}
 use Rattle.reply_text.specs.Texts.{area_text, spent_text}
-use Rattle.psm_interp.specs.Content.{Content, IsBackAt}
-use Rattle.psm_interp.specs.declared.stop.Stop.{Stop}
-use Rattle.psm_interp.specs.declared.stop.Stop.TheVariants.{Raised, Spent, NoMemory as WantOfMemory}
+use Rattle.expr_interp.specs.Content.{Content, IsBackAt}
+use Rattle.expr_interp.specs.declared.stop.Stop.{Stop}
+use Rattle.expr_interp.specs.declared.stop.Stop.TheVariants.{Raised, Spent, NoMemory as WantOfMemory}
 use Rattle.psm_session.specs.Database.{Plain}
 use Rattle.psm_session.specs.Effects.{Effect}
 use Rattle.psm_session.specs.Shapes.{shapes_of}

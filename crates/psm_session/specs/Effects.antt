@@ -9,8 +9,8 @@ use Rattle.rel_algebra.specs.Writing.{insert}
 use Rattle.catalog_store.specs.Catalog.{Entry, Object, TableObject, FunctionObject}
 use Rattle.catalog_store.specs.Entries.{entry_of}
 use Rattle.catalog_store.specs.View.{query_of}
-use Rattle.sql_names.specs.declared.statement.BoundStmt.{BoundStmt}
-use Rattle.sql_names.specs.declared.statement.BoundStmt.TheVariants.{Create, Insert, Query}
+use Rattle.psm_names.specs.declared.statement.BoundStmt.{BoundStmt}
+use Rattle.psm_names.specs.declared.statement.BoundStmt.TheVariants.{Create, Insert, Query}
 use Rattle.reply_text.specs.Texts.{rows_text, done_text, area_text, spent_text}
 use Rattle.psm_session.specs.declared.budget.TheConstants.{DEFAULT_BUDGET}
 use Rattle.psm_session.specs.Database.{Plain, with_tables}

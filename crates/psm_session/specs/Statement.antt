@@ -5,7 +5,7 @@ use Rattle.sql_lex.specs.Openings.{place_at}
 use Rattle.syntax_trees.specs.declared.statement.Stmt.{Stmt}
 use Rattle.token_grammar.specs.Statement.{SpellsWithin, ReadsNothing, IsStuck, IsTooDeep, most_open}
 use Rattle.sql_grammar.specs.Sql.{rules, statement}
-use Rattle.sql_names.specs.Statements.{judged_statement}
+use Rattle.psm_names.specs.Statements.{judged_statement}
 use Rattle.reply_text.specs.declared.fault.FaultText.{FaultText}
 use Rattle.reply_text.specs.declared.fault.FaultText.TheVariants.{Syntax, TooDeep}
 use Rattle.reply_text.specs.Texts.{fault_text}

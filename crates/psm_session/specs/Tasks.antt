@@ -1,6 +1,6 @@
 -- What is done in a world of tables.
-use Rattle.bound_trees.specs.declared.statement.BoundQuery.{BoundQuery}
-use Rattle.sql_names.specs.declared.statement.BoundStmt.TheVariants.{Insert, Query}
+use Rattle.bound_trees.specs.declared.query.BoundQuery.{BoundQuery}
+use Rattle.psm_names.specs.declared.statement.BoundStmt.TheVariants.{Insert, Query}
 use Rattle.psm_session.specs.declared.world.Task.{Task}
 use Rattle.psm_session.specs.declared.world.Task.TheVariants.{Store, Answer}
 use Rattle.psm_session.specs.Database.{Plain}

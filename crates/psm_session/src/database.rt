@@ -1,7 +1,7 @@
 //! The database.
 
 ghost use Rattle.std.specs.Prelude.{◌≡◌, IfOk, OnErr};
-ghost use Rattle.sql_names.specs.Statements.{judged_statement};
+ghost use Rattle.psm_names.specs.Statements.{judged_statement};
 ghost use Rattle.psm_session.specs.Executing.{Executes};
 
 #[cfg(test)]
@@ -9,8 +9,8 @@ mod tests;
 
 use crate::effect::run_bound;
 use catalog_store::Catalog;
+use psm_names::{NameFault, bind_statement};
 use reply_text::{FaultText, Reply, fault_reply};
-use sql_names::{NameFault, bind_statement};
 use sql_values::NoMemory;
 use std::alloc::Global;
 use std::marker::Model;

@@ -1,7 +1,7 @@
 //! What a bound statement does.
 
 ghost use Rattle.std.specs.Prelude.{◌≡◌, IfOk, OnErr};
-ghost use Rattle.sql_names.specs.Binds.{StatementFits};
+ghost use Rattle.psm_names.specs.Binds.{StatementFits};
 ghost use Rattle.psm_session.specs.Effects.{effect};
 ghost use Rattle.psm_session.specs.Conclusions.{database, IsEffect};
 ghost use Rattle.psm_session.specs.Shapes.{IsWhole};
@@ -9,8 +9,8 @@ ghost use Rattle.psm_session.specs.Shapes.{IsWhole};
 use crate::create::create;
 use crate::world::{Task, do_task};
 use catalog_store::Catalog;
+use psm_names::BoundStmt;
 use reply_text::Reply;
-use sql_names::BoundStmt;
 use sql_values::NoMemory;
 use std::alloc::Global;
 use table_store::Tables;

@@ -8,9 +8,9 @@ use Rattle.rel_algebra.specs.Plan.{case_word, Scalar, constant, word, Scalars, n
 use Rattle.rel_algebra.specs.PlanView.{scalar_of, scalars_of}
 use Rattle.rel_algebra.specs.Emit.{EmittedAll, numbers, nulls, else_arms, either_of, either_all, chosen, scalar_count}
 use Rattle.query_plan.specs.Choosing.{number_test, prepend, column_from, columns_from, with_row, closed, arms_of, all_arms_of}
-use Rattle.query_plan.specs.Emission.{put}
-use Rattle.query_plan.proofs.Lists.{put-none, put-append, turned_last}
-use Rattle.query_plan.proofs.Views.{scalar_of-Constant}
+use Rattle.expr_plan.specs.Emission.{put}
+use Rattle.expr_plan.proofs.Laws.{put-none, put-append, turned_last}
+use Rattle.expr_plan.proofs.Laws.{scalar_of-Constant}
 
 pub numbers-next : (p end : ℕ) → p < end → numbers p (end - p) ≡ more (constant (Int (pos p))) none ∷ numbers (p + 1) (end - (p + 1))
 numbers-next p end h =

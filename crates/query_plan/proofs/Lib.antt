@@ -1,14 +1,6 @@
 pub mod Places
-pub mod Joins
-pub mod Nodes
-pub mod Views
-pub mod Lists
-pub mod Checks
-pub mod Emitting
-pub mod Moving
-pub mod Running
-pub mod Arms
 pub mod Tests
 pub mod Own
 pub mod Choosing
 pub mod Queries
+pub mod Joining

@@ -9,9 +9,9 @@ use Rattle.rel_algebra.specs.Joins.{places}
 use Rattle.rel_algebra.specs.PlanView.{Link, chained, scalar_of, scalars_of, link_of}
 use Rattle.rel_algebra.specs.Emit.{EmittedAll, with_place, own_places, listed_by, listed, width, scalar_count}
 use Rattle.query_plan.specs.Listing.{place_of, listed_only}
-use Rattle.query_plan.proofs.Joins.{on_each-joined}
-use Rattle.query_plan.proofs.Lists.{rest}
-use Rattle.query_plan.proofs.Views.{scalar_of-Chain}
+use Rattle.expr_plan.proofs.Laws.{on_each-joined}
+use Rattle.expr_plan.proofs.Laws.{rest}
+use Rattle.expr_plan.proofs.Laws.{scalar_of-Chain}
 
 -- places in front, where there are others
 abbrev pub in_front : List ℕ → Option (List ℕ) → Option (List ℕ)

@@ -2,7 +2,7 @@
 use Rattle.std.proofs.Common.{ℕ, ◌≡◌, ◌<◌, ◌≤◌, ◌+◌, ◌∷◌, [], ◌++◌, List, Option, Some, None, MatchOption, Bool, true, false, ◌&&◌, if◌then◌else◌, replicate, length, drop, get_or, slice_get, suc, refl, sym, ap, ◌∙◌, subst, arith, append_assoc}
 use Rattle.std.proofs.lemmas.List.{drop_all, length-replicate, append-nil}
 use Rattle.bound_trees.specs.declared.expr.BoundExpr.{BoundExpr}
-use Rattle.bound_trees.specs.declared.statement.BoundRow.{BoundRow}
+use Rattle.bound_trees.specs.declared.query.BoundRow.{BoundRow}
 use Rattle.catalog_store.specs.Catalog.{Catalog}
 use Rattle.catalog_store.specs.View.{exprs_of, rows_of}
 use Rattle.rel_algebra.specs.declared.plan.ScalarRow.{ScalarRow}
@@ -11,16 +11,17 @@ use Rattle.rel_algebra.specs.Plan.{Scalar, Scalars, PlanTree, Nodes, no_node, ex
 use Rattle.rel_algebra.specs.Joins.{from_width, rows_width}
 use Rattle.rel_algebra.specs.PlanView.{scalars_of, lists_of}
 use Rattle.rel_algebra.specs.Emit.{Env, EmittedAll, top, lifted, entered, none_waits, emit_all, emit_rows, emit_tests, filters, filters_width, listed, list_nodes, chosen, several, numbers, is_plain, all_plain, values_plan, scalars_of as all_scalars_of, from_plan, plan, width}
-use Rattle.query_plan.specs.declared.draft.Draft.{Draft}
-use Rattle.query_plan.specs.Drafts.{drafted}
-use Rattle.query_plan.specs.Emission.{EmitsAll}
+use Rattle.expr_plan.specs.declared.draft.Draft.{Draft}
+use Rattle.expr_plan.specs.Drafts.{drafted}
+use Rattle.expr_plan.specs.Emission.{EmitsAll}
 use Rattle.query_plan.specs.Listing.{listed_only}
 use Rattle.query_plan.specs.Plainness.{ArePlain}
-use Rattle.query_plan.specs.Choosing.{is_unit_row, columns_from, with_row, closed, all_arms_of}
+use Rattle.expr_plan.specs.Drafts.{is_unit_row}
+use Rattle.query_plan.specs.Choosing.{columns_from, with_row, closed, all_arms_of}
 use Rattle.catalog_store.specs.Widths.{width_in}
-use Rattle.query_plan.proofs.Joins.{on_each-joined, width-joined}
-use Rattle.query_plan.proofs.Lists.{rest, map-last}
-use Rattle.query_plan.proofs.Nodes.{plain_unit}
+use Rattle.expr_plan.proofs.Laws.{on_each-joined, width-joined}
+use Rattle.expr_plan.proofs.Laws.{rest, map-last}
+use Rattle.expr_plan.proofs.Laws.{plain_unit}
 use Rattle.query_plan.proofs.Own.{listed-after}
 use Rattle.query_plan.proofs.Choosing.{columns_more, rows_narrow, columns_first, columns_last}
 

@@ -10,12 +10,13 @@ use Rattle.catalog_store.specs.View.{tree_of, exprs_of, operated}
 use Rattle.rel_algebra.specs.Tree.{Comparing, Expr, Exprs, NoExpr, MoreExprs, Operate, Column, Variable}
 use Rattle.rel_algebra.specs.Plan.{strict, Scalar, constant, word, more, none, filter}
 use Rattle.rel_algebra.specs.Emit.{nowhere, Key, Emitted, Waiting, none_waits, entered, top, read, columns_within, turned, key_of, key_step, test_step, emit, emit_tests, filters, filters_width, width}
-use Rattle.query_plan.specs.declared.draft.Draft.{Draft}
-use Rattle.query_plan.specs.Drafts.{drafted}
-use Rattle.query_plan.specs.Emission.{Emits}
-use Rattle.query_plan.specs.Conjuncts.{is_zero, inner_place, is_outer, own_place, is_equality, key_place, test_by, test_of, turned_at}
+use Rattle.expr_plan.specs.declared.draft.Draft.{Draft}
+use Rattle.expr_plan.specs.Drafts.{drafted}
+use Rattle.expr_plan.specs.Emission.{Emits}
+use Rattle.expr_plan.specs.Scopes.{is_zero}
+use Rattle.query_plan.specs.Conjuncts.{inner_place, is_outer, own_place, is_equality, key_place, test_by, test_of, turned_at}
 use Rattle.catalog_store.specs.Widths.{width_in}
-use Rattle.query_plan.proofs.Lists.{rest}
+use Rattle.expr_plan.proofs.Laws.{rest}
 
 turned_alone : (x : Expr) (columns : ℕ) (a : Emitted) → test_by (key_of (Operate (Comparing Equals) (MoreExprs x NoExpr)) (entered (top 0) columns)) a ≡ a
 turned_alone (Column zero i) columns a = refl

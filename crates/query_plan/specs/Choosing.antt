@@ -1,11 +1,11 @@
 -- VALUES of several rows as one list over their numbers: a column is a CASE whose tests are the numbers. It is made from the first row to the
 -- last.
-use Rattle.std.specs.Prelude.{ℕ, Bool, true, false, List, [], ◌∷◌, ◌++◌, map, pos}
+use Rattle.std.specs.Prelude.{ℕ, List, [], ◌∷◌, ◌++◌, map, pos}
 use Rattle.sql_values.specs.declared.value.Value.TheVariants.{Null, Int}
 use Rattle.sql_values.specs.declared.operators.Comparison.TheVariants.{Equals}
 use Rattle.rel_algebra.specs.declared.plan.ScalarRow.{ScalarRow}
 use Rattle.rel_algebra.specs.Tree.{Comparing}
-use Rattle.rel_algebra.specs.Plan.{strict, case_word, Scalar, constant, column, word, Scalars, none, more, PlanTree, unit_row}
+use Rattle.rel_algebra.specs.Plan.{strict, case_word, Scalar, constant, column, word, Scalars, none, more}
 use Rattle.rel_algebra.specs.PlanView.{scalar_of}
 use Rattle.rel_algebra.specs.Emit.{else_arms}
 
@@ -43,8 +43,3 @@ arms_of c = map scalar_of c.scalars
 
 abbrev pub all_arms_of : List ScalarRow → List (List Scalar)
 all_arms_of cs = map arms_of cs
-
--- whether a plan is the single row without cells
-abbrev pub is_unit_row : PlanTree → Bool
-is_unit_row unit_row = true
-is_unit_row _ = false

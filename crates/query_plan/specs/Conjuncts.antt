@@ -1,14 +1,11 @@
 -- Which conjuncts of a query that no query stands around are read as a comparison of a column with NULL: those of a column with a name from
 -- outside, of which there is none.
-use Rattle.std.specs.Prelude.{ℕ, zero, suc, List, Bool, true, false, if◌then◌else◌, Option, Some, None}
+use Rattle.std.specs.Prelude.{ℕ, List, Bool, true, false, if◌then◌else◌, Option, Some, None}
 use Rattle.sql_values.specs.declared.operators.Comparison.{Comparison}
 use Rattle.sql_values.specs.declared.operators.Comparison.TheVariants.{Equals}
 use Rattle.rel_algebra.specs.Tree.{Expr, Column, Variable, Comparing, Operate, NoExpr, MoreExprs}
 use Rattle.rel_algebra.specs.Emit.{Env, Key, Emitted, nowhere, key_of, turned, emit, columns_within, top}
-
-abbrev pub is_zero : ℕ → Bool
-is_zero zero = true
-is_zero (suc n) = false
+use Rattle.expr_plan.specs.Scopes.{is_zero}
 
 -- the place of a column of the query's own row
 abbrev pub inner_place : Expr → Option ℕ

@@ -1,10 +1,6 @@
-pub mod Drafts
-pub mod Scopes
-pub mod Emission
 pub mod Conjuncts
+pub mod Joining
 pub mod Listing
 pub mod Choosing
 pub mod Plainness
-pub mod Cost
-pub mod Merging
-pub mod Words
+pub mod Examples

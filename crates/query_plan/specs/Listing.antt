@@ -2,7 +2,7 @@
 use Rattle.std.specs.Prelude.{ℕ, if◌then◌else◌, Option, Some, None}
 use Rattle.rel_algebra.specs.Plan.{Scalar, column, Scalars, PlanTree, no_node}
 use Rattle.rel_algebra.specs.Emit.{listed}
-use Rattle.query_plan.specs.Conjuncts.{is_zero}
+use Rattle.expr_plan.specs.Scopes.{is_zero}
 
 -- the place of a column of the row itself
 abbrev pub place_of : Scalar → Option ℕ

@@ -7,7 +7,7 @@ ghost use Rattle.rel_algebra.specs.Plan.{constant};
 ghost use Rattle.rel_algebra.specs.PlanView.{scalar_of, scalars_of, lists_of};
 ghost use Rattle.query_plan.specs.Choosing.{number_test, column_from, with_row, closed, arms_of, all_arms_of};
 
-use crate::scalars::compare;
+use expr_plan::{compare, turned_scalars};
 use rel_algebra::{ListWord, Scalar, ScalarRow};
 use sql_values::{Comparison, NoMemory, Value};
 use sqlite_items::Items;
@@ -126,18 +126,6 @@ fn turned_columns(alloc: Global, columns: Items<ScalarRow>) -> Result<Items<Scal
     let mut turned = Items::from_vec(Vec::with_capacity(alloc, left.len())?);
     while let Some(column) = left.pop() {
         turned.push(column)?;
-    }
-    Ok(turned)
-}
-
-/// Scalars from the last to the first.
-pub fn turned_scalars(alloc: Global, scalars: Items<Scalar>) -> Result<Items<Scalar>, NoMemory>
-    ensures { IfOk result (λ turned. turned ≡ reverse scalars) }
-{
-    let mut left = scalars;
-    let mut turned = Items::from_vec(Vec::with_capacity(alloc, left.len())?);
-    while let Some(scalar) = left.pop() {
-        turned.push(scalar)?;
     }
     Ok(turned)
 }

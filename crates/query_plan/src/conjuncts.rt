@@ -7,16 +7,13 @@ ghost use Rattle.rel_algebra.specs.PlanView.{scalar_of};
 ghost use Rattle.catalog_store.specs.Catalog.{Catalog as PlainCatalog};
 ghost use Rattle.catalog_store.specs.View.{tree_of, exprs_of, operated};
 ghost use Rattle.query_plan.specs.Conjuncts.{is_equality as is_equality_by, inner_place as inner_place_by, is_outer as is_outer_by, own_place as own_place_by, key_place as key_place_by, test_of};
-ghost use Rattle.query_plan.specs.Drafts.{drafted};
-ghost use Rattle.query_plan.specs.Emission.{Emits};
+ghost use Rattle.expr_plan.specs.Drafts.{drafted};
+ghost use Rattle.expr_plan.specs.Emission.{Emits};
 ghost use Rattle.catalog_store.specs.Widths.{width_in};
 
-use crate::draft::Draft;
-use crate::emit::emit_expr;
-use crate::scalars::compare;
-use crate::scope::{Scope, is_inner};
 use bound_trees::{BoundExpr, BoundOperation};
 use catalog_store::Catalog;
+use expr_plan::{Draft, Scope, compare, emit_expr, is_inner};
 use rel_algebra::Scalar;
 use sql_values::{Comparison, NoMemory, Value};
 

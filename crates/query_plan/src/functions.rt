@@ -10,18 +10,16 @@ ghost use Rattle.catalog_store.specs.Kept.{IsPlan, IsKept};
 ghost use Rattle.catalog_store.specs.View.{tree_of};
 ghost use Rattle.catalog_store.specs.Widths.{width_in};
 
-use crate::assigning::assigned;
-use crate::draft::Draft;
-use crate::emit::emit_expr;
-use crate::scope::Scope;
 use bound_trees::BoundExpr;
 use catalog_store::{Catalog, FunctionPlan, Object, RoutineRecord};
+use expr_plan::{Draft, Scope, assigned, emit_expr};
 use rel_algebra::Leaf;
 use sql_values::{NoMemory, SqlType};
 use std::alloc::Global;
 
-/// The plan of a function by itself, which returns this, assigned to the type of its result (ISO/IEC
-/// 9075-2, 10.4): its parameters, so many, are the arguments, and the plan of each function that it calls is merged into its own.
+/// The plan of a function by itself, which returns this, assigned to the type of its result
+/// (ISO/IEC 9075-2, 10.4): its parameters, so many, are the arguments, and the plan of each function
+/// that it calls is merged into its own.
 pub fn plan_function(
     alloc: Global,
     returned: &BoundExpr,
@@ -35,7 +33,7 @@ pub fn plan_function(
     let mut draft = Draft::over(alloc, Leaf::Unit, 0);
     let value = emit_expr(returned, Scope::Arguments(parameters), &mut draft, catalog)?;
     let scalar = assigned(alloc, returns, value)?;
-    let nodes = draft.into_plan().nodes;
+    let nodes = draft.into_nodes();
     Ok(FunctionPlan { nodes, scalar })
 }
 

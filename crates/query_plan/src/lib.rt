@@ -1,22 +1,23 @@
-//! The plans of queries and of functions: the plan of each called function stands in the place of the call.
+//! The plans of queries and of functions.
 #![tactic(auto)]
 
-mod assigning;
-mod cases;
+ghost use Rattle.query_plan.specs.Examples.{JoinsPlanned};
+
 mod chosen;
 mod conjuncts;
-mod draft;
-mod emit;
+mod from;
 mod functions;
-mod guards;
+mod joins;
 mod listing;
-mod merge;
-mod moved;
 mod plans;
-mod scalars;
-mod scope;
+mod tables;
 mod values;
-mod words;
 
 pub use functions::{plan_function, with_plan};
 pub use plans::plan_query;
+
+/// The plans of worked queries over joined tables, commas and derived tables (ISO/IEC 9075-2, 7.5
+/// and 7.10), and in an order.
+pub fn joins_planned()
+    ensures { JoinsPlanned }
+{}

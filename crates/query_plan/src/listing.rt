@@ -5,11 +5,10 @@ ghost use Rattle.rel_algebra.specs.Emit.{own_places as own_places_by};
 ghost use Rattle.rel_algebra.specs.Joins.{places};
 ghost use Rattle.rel_algebra.specs.Plan.{extend, keep};
 ghost use Rattle.rel_algebra.specs.PlanView.{scalar_of, scalars_of};
-ghost use Rattle.query_plan.specs.Drafts.{drafted};
+ghost use Rattle.expr_plan.specs.Drafts.{drafted};
 ghost use Rattle.query_plan.specs.Listing.{place_of, listed_only};
 
-use crate::draft::Draft;
-use crate::scope::is_inner;
+use expr_plan::{Draft, is_inner};
 use rel_algebra::Scalar;
 use sql_values::NoMemory;
 use sqlite_items::Items;
@@ -50,7 +49,8 @@ fn own_places(alloc: Global, scalars: &[Scalar]) -> Result<Option<Items<usize>>,
     Ok(Some(places))
 }
 
-// The place of a scalar that is a column of the row itself. A chain without operators is its operand.
+// The place of a scalar that is a column of the row itself. A chain without operators is its
+// operand.
 fn own_place(scalar: &Scalar) -> Option<usize>
     ensures { result ≡ place_of (scalar_of scalar.now) }
 {
@@ -71,8 +71,8 @@ fn own_place(scalar: &Scalar) -> Option<usize>
     }
 }
 
-// The places from one on to another, without that.
-fn places_between(alloc: Global, first: usize, end: usize) -> Result<Items<usize>, NoMemory>
+/// The places from one on to another, without that.
+pub fn places_between(alloc: Global, first: usize, end: usize) -> Result<Items<usize>, NoMemory>
     requires { first ≤ end }
     ensures { IfOk result (λ ps. ps ≡ places first (end - first)) }
 {

@@ -1,71 +1,89 @@
 //! The plans of queries.
 
 ghost use Rattle.std.specs.Prelude.{◌≡◌, IfOk};
-ghost use Rattle.bound_trees.specs.declared.statement.BoundQuery.TheVariants.{Select};
-ghost use Rattle.rel_algebra.specs.Joins.{from_width};
-ghost use Rattle.rel_algebra.specs.Emit.{top, plan, from_plan};
+ghost use Rattle.row_types.specs.declared.sort_key.SortKey.{SortKey as KeyOf};
+ghost use Rattle.rel_algebra.specs.Emit.{top, plan};
+ghost use Rattle.rel_algebra.specs.Plan.{sort};
 ghost use Rattle.rel_algebra.specs.PlanView.{tree_of};
-ghost use Rattle.catalog_store.specs.View.{from_of, query_of};
-ghost use Rattle.query_plan.specs.Drafts.{drafted};
+ghost use Rattle.rel_algebra.specs.Tree.{From, Select as PlainSelect};
+ghost use Rattle.catalog_store.specs.View.{exprs_of, query_of, select_of};
 ghost use Rattle.catalog_store.specs.Widths.{width_in};
+ghost use Rattle.query_plan.specs.Joining.{IsFrom};
 
 use crate::conjuncts::filter_by;
-use crate::draft::Draft;
-use crate::emit::emit_list;
+use crate::from::draft_from;
 use crate::listing::list;
-use crate::scope::Scope;
+use crate::tables::columns_of;
 use crate::values::plan_values;
-use bound_trees::{BoundFrom, BoundQuery, BoundSelect};
-use catalog_store::{Catalog, Object};
-use rel_algebra::{Leaf, Plan};
-use sql_values::{Name, NoMemory};
+use bound_trees::{BoundExpr, BoundQuery, BoundSelect};
+use catalog_store::Catalog;
+use expr_plan::{Draft, Scope, emit_list};
+use rel_algebra::Plan;
+use row_types::SortKey;
+use sql_values::NoMemory;
+use sqlite_items::Items;
 use std::alloc::Global;
 
 /// The plan of a query that no query stands around (ISO/IEC 9075-2, 7.17), with the body of each
 /// function that it calls in the place of the call. Tables are as wide as the catalog says. It can
 /// fail for want of memory alone.
+#[cycle(query)]
 pub fn plan_query(alloc: Global, query: &BoundQuery, catalog: &Catalog) -> Result<Plan, NoMemory>
     ensures { IfOk result (λ p. tree_of p ≡ plan (query_of catalog.now query.now) (width_in catalog.now) (top 0)) }
 {
     match query {
-        BoundQuery::Select(query) => plan_select(alloc, query, catalog),
-        BoundQuery::Values(rows) => plan_values(alloc, rows.as_slice(), catalog),
-    }
-}
-
-// The plan of a SELECT: FROM, a Filter for each conjunct, and the list.
-fn plan_select(alloc: Global, query: &BoundSelect, catalog: &Catalog) -> Result<Plan, NoMemory>
-    ensures { IfOk result (λ p. tree_of p ≡ plan (query_of catalog.now (Select query.now)) (width_in catalog.now) (top 0)) }
-{
-    let mut draft = draft_from(alloc, &query.from, catalog)?;
-    let columns = draft.columns();
-    filter_by(query.conjuncts.as_slice(), columns, &mut draft, catalog)?;
-    let scope = Scope::Row(columns);
-    let scalars = emit_list(query.items.as_slice(), scope, &mut draft, catalog)?;
-    list(scalars, &mut draft)?;
-    Ok(draft.into_plan())
-}
-
-// The rows of FROM.
-fn draft_from(alloc: Global, from: &BoundFrom, catalog: &Catalog) -> Result<Draft, NoMemory>
-    ensures tree { IfOk result (λ d. (drafted d).tree ≡ from_plan (from_of from.now) (width_in catalog.now) (top 0)) }
-    ensures width { IfOk result (λ d. (drafted d).width ≡ from_width (from_of from.now) (width_in catalog.now)) }
-{
-    match from {
-        BoundFrom::Table(name) => {
-            let columns = table_width(name, catalog);
-            Ok(Draft::over(alloc, Leaf::Scan(name.copied()?, columns), columns))
+        BoundQuery::Select(select) => Ok(plan_select(alloc, select, catalog)?),
+        BoundQuery::Values(rows) => Ok(plan_values(alloc, rows.as_slice(), catalog)?),
+        BoundQuery::Ordered(query, keys) => {
+            let plan = plan_query(alloc, query.get(), catalog)?;
+            Ok(sorted(alloc, plan, columns_of(query.get()), keys.as_slice())?)
         }
     }
 }
 
-// The number of columns of the table of a name; 0 where there is no table.
-fn table_width(name: &Name, catalog: &Catalog) -> usize
-    ensures { result ≡ width_in catalog.now name.now }
+// The plan of a SELECT (7.16).
+#[cycle(query)]
+fn plan_select(alloc: Global, select: &BoundSelect, catalog: &Catalog) -> Result<Plan, NoMemory>
+    ensures { IfOk result (λ p. tree_of p ≡ plan (select_of catalog.now select.now) (width_in catalog.now) (top 0)) }
 {
-    match catalog.get(name) {
-        Some(Object::Table(row_type)) => row_type.columns.len(),
-        Some(Object::Function(_)) => 0,
-        None => 0,
+    let draft = draft_from(alloc, select.from.as_slice(), catalog)?;
+    let items = select.items.as_slice();
+    Ok(selected(items, select.conjuncts.as_slice(), draft, catalog)?)
+}
+
+// The plan of a SELECT over the rows of FROM: a Filter for each conjunct, and the list.
+fn selected(
+    items: &[BoundExpr],
+    conjuncts: &[BoundExpr],
+    rows: Draft,
+    catalog: &Catalog,
+) -> Result<Plan, NoMemory>
+    ensures { IfOk result (λ p. (f : From) → IsFrom catalog.now rows f → tree_of p ≡ plan (PlainSelect (exprs_of catalog.now items.now) f (exprs_of catalog.now conjuncts.now)) (width_in catalog.now) (top 0)) }
+{
+    let mut draft = rows;
+    let columns = draft.columns();
+    filter_by(conjuncts, columns, &mut draft, catalog)?;
+    let scalars = emit_list(items, Scope::Row(columns), &mut draft, catalog)?;
+    list(scalars, &mut draft)?;
+    Ok(draft.into_plan())
+}
+
+// The rows of a plan, which have so many columns, in the order of these columns (14.3).
+fn sorted(alloc: Global, plan: Plan, columns: usize, keys: &[SortKey]) -> Result<Plan, NoMemory>
+    ensures { IfOk result (λ p. tree_of p ≡ sort keys.now (tree_of plan)) }
+{
+    let mut draft = Draft::of_plan(alloc, plan, columns);
+    draft.sort(copied_keys(alloc, keys)?)?;
+    Ok(draft.into_plan())
+}
+
+// The same columns once more.
+fn copied_keys(alloc: Global, keys: &[SortKey]) -> Result<Items<SortKey>, NoMemory>
+    ensures { IfOk result (λ ks. ks ≡ keys.now) }
+{
+    let mut copies = Items::from_vec(Vec::with_capacity(alloc, keys.len())?);
+    for key in keys {
+        copies.push(*key)?;
     }
+    Ok(copies)
 }

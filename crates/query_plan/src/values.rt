@@ -12,12 +12,10 @@ ghost use Rattle.query_plan.specs.Plainness.{IsPlain, ArePlain};
 ghost use Rattle.catalog_store.specs.Widths.{width_in};
 
 use crate::chosen::{add_row, close_columns, empty_columns, numbers};
-use crate::draft::Draft;
-use crate::emit::emit_list;
 use crate::listing::list;
-use crate::scope::Scope;
 use bound_trees::BoundRow;
 use catalog_store::Catalog;
+use expr_plan::{Draft, Scope, emit_list};
 use rel_algebra::{Leaf, Plan, ScalarRow};
 use sql_values::NoMemory;
 use sqlite_items::Items;
@@ -125,8 +123,8 @@ fn plan_numbered(alloc: Global, rows: &[BoundRow], catalog: &Catalog) -> Result<
     Ok(draft.into_plan())
 }
 
-// How many columns the first row has; 0 where there is none.
-fn first_width(rows: &[BoundRow]) -> usize
+/// How many columns the first row has; 0 where there is none.
+pub fn first_width(rows: &[BoundRow]) -> usize
     ensures { (known : PlainCatalog) → result ≡ rows_width (rows_of known rows.now) }
 {
     match rows.first() {

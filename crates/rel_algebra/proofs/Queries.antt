@@ -8,11 +8,13 @@ use Rattle.row_types.specs.declared.cell.Cell.{Cell}
 use Rattle.row_types.specs.declared.cell.Cell.TheVariants.{Val}
 use Rattle.rel_algebra.specs.Emit.{all_true, all_values, emit_all, emit_tests, entered, filters, filters_width, from_plan, none_waits, plan, selected}
 use Rattle.rel_algebra.specs.Endings.{Ending, after}
-use Rattle.rel_algebra.specs.Groups.{Group, groups, in_order}
+use Rattle.rel_algebra.specs.Groups.{Group, groups}
+use Rattle.row_types.specs.Sorting.{in_order}
 use Rattle.rel_algebra.specs.Joins.{from_width, group_row, numbered, or_nulls, pairs, places}
 use Rattle.rel_algebra.specs.Plain.{answer, columns_in, each_of, from_rows, holds, joined_row, kept_if, within}
 use Rattle.rel_algebra.specs.Plan.{added, cell_of, cells_at, collected, cross, crossed, den, each, filter, finish_cells, finished, group, group_rows, grouped, joined, keep, kept, or_null_cells, settled, shown, shown_rows, sight, sorted, values_of, with_settled}
-use Rattle.rel_algebra.specs.Tree.{Aggregate, Cross, Derived, Exprs, From, Grouped, Inner, LeftOuter, Ordered, Query, Select, SortKey, Table}
+use Rattle.rel_algebra.specs.Tree.{Aggregate, Cross, Derived, Exprs, From, Grouped, Inner, LeftOuter, Ordered, Query, Select, Table}
+use Rattle.row_types.specs.declared.sort_key.SortKey.{SortKey}
 use Rattle.rel_algebra.proofs.Growing.{grown_columns, grows_same, shown_long}
 use Rattle.rel_algebra.proofs.Truths.{both}
 use Rattle.rel_algebra.proofs.Counts.{numbered_long}

@@ -8,11 +8,13 @@ use Rattle.sql_values.specs.declared.value.Value.{Value}
 use Rattle.sql_values.specs.declared.value.Value.TheVariants.{Null}
 use Rattle.row_types.specs.Rows.{Row}
 use Rattle.rel_algebra.specs.Endings.{Ending, after}
-use Rattle.rel_algebra.specs.Groups.{Group, first_groups, grouped_from, groups, in_order, keys_cmp, put, same_row, values_at}
+use Rattle.rel_algebra.specs.Groups.{Group, first_groups, grouped_from, groups, put, same_row, values_at}
+use Rattle.row_types.specs.Sorting.{in_order, keys_cmp}
 use Rattle.rel_algebra.specs.Joins.{from_width, group_row, numbered, or_nulls, pairs, places, query_width, rows_width}
 use Rattle.rel_algebra.specs.Plain.{Inputs, Scope, all_even, answer, columns_in, each_of, ev, ev_all, ev_rows, from_rows, holds, joined_row, kept_if, list_where, one_row, within}
 use Rattle.rel_algebra.specs.Theorem.{AllWide, Fits}
-use Rattle.rel_algebra.specs.Tree.{Cross, Derived, Exprs, From, Grouped, Inner, LeftOuter, MoreExprs, MoreRows, NoExpr, NoRow, Ordered, Query, Rows, Select, SortKey, Table, Values, count}
+use Rattle.rel_algebra.specs.Tree.{Cross, Derived, Exprs, From, Grouped, Inner, LeftOuter, MoreExprs, MoreRows, NoExpr, NoRow, Ordered, Query, Rows, Select, Table, Values, count}
+use Rattle.row_types.specs.declared.sort_key.SortKey.{SortKey}
 use Rattle.rel_algebra.proofs.Truths.{both, equal_numbers, left_true, right_true}
 use Rattle.rel_algebra.proofs.Planned.{FromPlans, QueryPlans}
 use Rattle.rel_algebra.proofs.Rows.{WideEnd}

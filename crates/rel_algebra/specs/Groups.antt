@@ -1,15 +1,11 @@
--- Groups, aggregates and orders of finished rows. ISO/IEC 9075-2, 7.13 (group by clause), 10.9 (aggregate function) and 10.10 (sort specification
--- list).
+-- Groups and aggregates of finished rows. ISO/IEC 9075-2, 7.13 (group by clause) and 10.9 (aggregate function).
 use Rattle.std.specs.Prelude.{ℕ, suc, Bool, true, false, ◌&&◌, if◌then◌else◌, nat_eq, List, [], ◌∷◌, ◌++◌, map, ℤ, pos, ◌+ℤ◌, int_div, Ok}
-use Rattle.std.specs.Ordering.{is_eq, is_lt, ordering_then}
-use Rattle.std.specs.declared.cmp.Ordering.{Ordering}
-use Rattle.std.specs.declared.cmp.Ordering.TheVariants.{Equal}
+use Rattle.std.specs.Ordering.{is_eq, is_lt}
 use Rattle.sql_values.specs.declared.value.Value.{Value}
 use Rattle.sql_values.specs.declared.value.Value.TheVariants.{Null, Int}
 use Rattle.sql_values.specs.Values.{ranged, is_null}
 use Rattle.row_types.specs.Rows.{Row, value_cmp}
-use Rattle.row_types.specs.Ordered as ordered
-use Rattle.rel_algebra.specs.Tree.{Aggregate, Count, Sum, Average, Min, Max, SortKey}
+use Rattle.rel_algebra.specs.Tree.{Aggregate, Count, Sum, Average, Min, Max}
 use Rattle.rel_algebra.specs.Endings.{Ending, ending_of, value_at}
 
 -- NULL equals NULL here
@@ -86,17 +82,3 @@ finish Sum vs = of_some (λ count total. total) vs
 finish Average vs = of_some (λ count total. int_div total (pos count)) vs
 finish Min vs = Ok (extreme_by (λ a b. is_lt (value_cmp a b)) vs)
 finish Max vs = Ok (extreme_by (λ a b. is_lt (value_cmp b a)) vs)
-
--- how two rows stand by a column: NULL first, and last for a descending one
-abbrev pub key_cmp : SortKey → Row → Row → Ordering
-key_cmp key a b =
-    let x = value_at a key.place in let y = value_at b key.place in if key.descending then value_cmp y x else value_cmp x y
-
--- the first of these columns in which they differ decides
-abbrev pub keys_cmp : List SortKey → Row → Row → Ordering
-keys_cmp [] a b = Equal
-keys_cmp (key ∷ keys) a b = ordering_then (key_cmp key a b) (keys_cmp keys a b)
-
--- rows in this order; equal ones keep theirs
-abbrev pub in_order : List SortKey → List Row → List Row
-in_order keys rows = ordered.in_order (keys_cmp keys) rows

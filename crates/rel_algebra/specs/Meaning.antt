@@ -12,7 +12,8 @@ use Rattle.row_types.specs.Tables.{rows_named}
 use Rattle.rel_algebra.specs.Tree.{Expr, Literal, Column, Variable, Chain, Operate, And, Or, Case, CaseOf, Coalesce, In, Exists, Single, Call, CallSelf, Links, NoLink, MoreLinks, Exprs, NoExpr, MoreExprs, Routine, Function, parameters_of, Rows, NoRow, MoreRows, From, Table, Derived, Cross, Inner, LeftOuter, Query, Select, Grouped, Values, Ordered}
 use Rattle.rel_algebra.specs.World.{Frame, Eval, Gives, Raises, ◌>>=◌, give, unit, outcome, choose, column_of, variable_of, frame_of, no_frame, tested, each_kept, each_listed, Called, no_self, call_of}
 use Rattle.rel_algebra.specs.Endings.{Ending, is_false, equal_values, op_value}
-use Rattle.rel_algebra.specs.Groups.{groups, in_order}
+use Rattle.rel_algebra.specs.Groups.{groups}
+use Rattle.row_types.specs.Sorting.{in_order}
 use Rattle.rel_algebra.specs.Joins.{places, numbered, pairs, or_nulls, single_of, exists_of, member_of, group_row, from_width, table_width}
 
 -- the value that the next target takes; with no target left, the value itself

@@ -11,7 +11,8 @@ use Rattle.row_types.specs.Rows.{Row}
 use Rattle.row_types.specs.Tables.{Tables, rows_named}
 use Rattle.rel_algebra.specs.Tree.{Expr, Literal, Column, Variable, Chain, Operate, And, Or, Case, CaseOf, Coalesce, In, Exists, Single, Call, CallSelf, Links, NoLink, MoreLinks, Exprs, NoExpr, MoreExprs, count, Routine, Function, Rows, NoRow, MoreRows, From, Table, Derived, Cross, Inner, LeftOuter, Query, Select, Grouped, Values, Ordered, parameters_of}
 use Rattle.rel_algebra.specs.Endings.{Ending, ◌>>=◌, ending_of, is_false, equal_values, op_value, value_at, row_at}
-use Rattle.rel_algebra.specs.Groups.{groups, in_order}
+use Rattle.rel_algebra.specs.Groups.{groups}
+use Rattle.row_types.specs.Sorting.{in_order}
 use Rattle.rel_algebra.specs.Joins.{places, numbered, pairs, or_nulls, single_of, exists_of, member_of, group_row, rows_width, from_width, table_width}
 use Rattle.rel_algebra.specs.Meaning.{assigned_first}
 

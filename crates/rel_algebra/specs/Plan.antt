@@ -8,9 +8,11 @@ use Rattle.row_types.specs.Tables.{rows_named}
 use Rattle.row_types.specs.declared.cell.Cell.{Cell}
 use Rattle.row_types.specs.declared.cell.Cell.TheVariants.{Val, Cond}
 use Rattle.row_types.specs.Cells.{PlanRow, Whole, Poisoned}
-use Rattle.rel_algebra.specs.Tree.{Operation, Aggregate, SortKey}
+use Rattle.rel_algebra.specs.Tree.{Operation, Aggregate}
+use Rattle.row_types.specs.declared.sort_key.SortKey.{SortKey}
 use Rattle.rel_algebra.specs.Endings.{Ending, after, ◌>>=◌, cell_end, is_false, op_value, value_at}
-use Rattle.rel_algebra.specs.Groups.{Group, groups, finish, values_of_column, in_order}
+use Rattle.rel_algebra.specs.Groups.{Group, groups, finish, values_of_column}
+use Rattle.row_types.specs.Sorting.{in_order}
 use Rattle.rel_algebra.specs.Joins.{single_of, exists_of, member_of}
 use Rattle.rel_algebra.specs.Plain.{Inputs}
 

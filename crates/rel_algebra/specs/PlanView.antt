@@ -11,11 +11,11 @@ use Rattle.rel_algebra.specs.declared.scalar.ListWord.TheVariants as listed
 use Rattle.rel_algebra.specs.declared.plan.ScalarRow.{ScalarRow}
 use Rattle.rel_algebra.specs.declared.plan.Leaf.{Leaf}
 use Rattle.rel_algebra.specs.declared.plan.Leaf.TheVariants as leaf
-use Rattle.rel_algebra.specs.declared.plan.Node.{Node}
-use Rattle.rel_algebra.specs.declared.plan.Node.TheVariants as node
-use Rattle.rel_algebra.specs.declared.plan.Plan.{Plan}
+use Rattle.rel_algebra.specs.declared.plan.Node.{Node, fold-Node}
+use Rattle.rel_algebra.specs.declared.plan.Node.TheOpen.{Node-F, Plan-F}
+use Rattle.rel_algebra.specs.declared.plan.Plan.{Plan, fold-Plan}
 use Rattle.rel_algebra.specs.Tree.{Operation, Negation, Arithmetic, Comparing, Modulo, CharLength, Substring, Cast, Assign, Opposite, NullTest, TrueTest, FalseTest, AnyOf}
-use Rattle.rel_algebra.specs.Plan.{Word, strict, and_word, or_word, case_word, coalesce_word, Scalar, constant, column, argument, word, Scalars, none, more, PlanTree, unit_row, scan, values, extend, filter, keep}
+use Rattle.rel_algebra.specs.Plan.{Word, strict, and_word, or_word, case_word, coalesce_word, Scalar, constant, column, argument, word, Scalars, none, more, PlanTree, unit_row, scan, values, extend, filter, keep, cross, left_outer, settle, sort, Nodes, no_node, extend_by}
 
 -- an operator with the plain scalar right of it
 pub record Link : Type 0 where
@@ -81,16 +81,52 @@ leaf_of leaf.Unit = unit_row
 leaf_of (leaf.Scan name columns) = scan name columns
 leaf_of (leaf.Values rows) = values (lists_of rows)
 
+-- what a node makes of the plan below it, and of a run of nodes one that has an Extend more at its lower end
+pub record NodeTree : Type 0 where
+  pub over : PlanTree → PlanTree
+  pub below : Nodes → Nodes
+
+-- a node that adds nothing to the rows of a run
+abbrev pub acting : (PlanTree → PlanTree) → NodeTree
+acting f = record { over = f; below = λ rest. rest }
+
+-- the nodes of a run, the first of them lowest; only an Extend is one
+abbrev pub run : List NodeTree → Nodes
+run [] = no_node
+run (n ∷ ns) = n.below (run ns)
+
+-- one level, with what stands inside already seen as its plain tree
+abbrev pub node_step : Node-F NodeTree PlanTree → NodeTree
+node_step (Node-F.Extend ss) = record { over = λ input. extend (scalars_of ss) input; below = λ rest. extend_by (scalars_of ss) rest }
+node_step (Node-F.Filter s) = acting (λ input. filter (scalar_of s) input)
+node_step (Node-F.Keep places) = acting (λ input. keep places input)
+node_step (Node-F.Cross right) = acting (λ input. cross input right)
+node_step (Node-F.LeftOuter nodes s n right) = acting (λ input. left_outer (run nodes) (scalar_of s) n input right)
+node_step Node-F.Settle = acting (λ input. settle input)
+node_step (Node-F.Sort keys) = acting (λ input. sort keys input)
+
+-- nodes over an input, the first of them lowest
+abbrev pub all_over : List NodeTree → PlanTree → PlanTree
+all_over [] input = input
+all_over (n ∷ ns) input = all_over ns (n.over input)
+
+abbrev pub plan_step : Plan-F NodeTree PlanTree → PlanTree
+plan_step p = all_over p.nodes (leaf_of p.leaf)
+
+abbrev pub node_of : Node → NodeTree
+node_of = fold-Node NodeTree PlanTree node_step plan_step
+
 -- a node over its input
 abbrev pub with_node : Node → PlanTree → PlanTree
-with_node (node.Extend ss) input = extend (scalars_of ss) input
-with_node (node.Filter s) input = filter (scalar_of s) input
-with_node (node.Keep places) input = keep places input
+with_node n input = (node_of n).over input
 
 -- nodes over an input, the first of them lowest
 abbrev pub with_nodes : List Node → PlanTree → PlanTree
-with_nodes [] input = input
-with_nodes (n ∷ ns) input = with_nodes ns (with_node n input)
+with_nodes ns input = all_over (map node_of ns) input
+
+-- nodes as a run that is done on each row
+abbrev pub run_of : List Node → Nodes
+run_of ns = run (map node_of ns)
 
 abbrev pub tree_of : Plan → PlanTree
-tree_of p = with_nodes p.nodes (leaf_of p.leaf)
+tree_of = fold-Plan NodeTree PlanTree node_step plan_step

@@ -4,6 +4,7 @@ use Rattle.sql_values.specs.declared.value.Value.{Value}
 use Rattle.sql_values.specs.declared.value.SqlType.{SqlType}
 use Rattle.sql_values.specs.declared.operators.Operator.{Operator}
 use Rattle.sql_values.specs.declared.operators.Comparison.{Comparison}
+use Rattle.row_types.specs.declared.sort_key.SortKey.{SortKey}
 
 -- The operations that take all their operands, from left to right. ISO/IEC 9075-2, 6.13, 6.27, 6.28, 6.32, 8.2, 8.4, 8.8, 6.39 and 9.2.
 pub data Operation : Type 0 where
@@ -37,11 +38,6 @@ pub data Aggregate : Type 0 where
   Average : Aggregate
   Min : Aggregate
   Max : Aggregate
-
--- a column of ORDER BY, and whether it is descending
-pub record SortKey : Type 0 where
-  pub place : ℕ
-  pub descending : Bool
 
 mutual
   pub data Expr : Type 0 where

@@ -6,7 +6,8 @@ use Rattle.rel_algebra.specs.Joins.{query_width, rows_width}
 use Rattle.rel_algebra.specs.Plain.{all_even}
 use Rattle.rel_algebra.specs.Plan.{Kind, Nodes, PlanTree, Scalar, Scalars, aggregate, apply, apply_by, argument, column, constant, cross, exists, extend, extend_by, filter, group, keep, kind_width, left_outer, member, more, no_node, none, scan, settle, single, sort, unit_row, values, word}
 use Rattle.rel_algebra.specs.Removal.{less, lists_width, tree_width}
-use Rattle.rel_algebra.specs.Tree.{Aggregate, And, Call, CallSelf, Case, CaseOf, Chain, Coalesce, Column, Cross, Derived, Exists, Expr, Exprs, From, Function, Grouped, In, Inner, LeftOuter, Links, Literal, MoreExprs, MoreLinks, MoreRows, NoExpr, NoLink, NoRow, Operate, Or, Ordered, Query, Routine, Rows, Select, Single, SortKey, Table, Values, Variable, count, parameters_of}
+use Rattle.rel_algebra.specs.Tree.{Aggregate, And, Call, CallSelf, Case, CaseOf, Chain, Coalesce, Column, Cross, Derived, Exists, Expr, Exprs, From, Function, Grouped, In, Inner, LeftOuter, Links, Literal, MoreExprs, MoreLinks, MoreRows, NoExpr, NoLink, NoRow, Operate, Or, Ordered, Query, Routine, Rows, Select, Single, Table, Values, Variable, count, parameters_of}
+use Rattle.row_types.specs.declared.sort_key.SortKey.{SortKey}
 
 -- a column that a row has: the widths are those of the rows in sight, the innermost first
 abbrev pub has_column : List ℕ → ℕ → ℕ → Bool

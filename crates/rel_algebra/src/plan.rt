@@ -5,8 +5,9 @@ ghost use Rattle.rel_algebra.specs.Applies.{applies};
 ghost use Rattle.rel_algebra.specs.PlanView.{tree_of};
 
 use crate::scalar::Scalar;
+use row_types::SortKey;
 use sql_values::Name;
-use sqlite_items::Items;
+use sqlite_items::{Boxed, Items};
 
 /// Scalars that are the cells of one row.
 #[derive(Drop)]
@@ -25,7 +26,10 @@ pub enum Leaf {
     Values(Items<ScalarRow>),
 }
 
-/// A node of a plan. A poisoned row passes each of them as it is.
+/// A node of a plan. A poisoned row passes each of those that act row by row as it is. The others
+/// settle what they take: where a row is poisoned, or a cell of one is a condition, the first such
+/// area in the order of the rows is all that they give, in one poisoned row.
+#[cycle(plan)]
 #[derive(Drop)]
 pub enum Node {
     /// Each row with the cells of the scalars behind its own. Each scalar is read on the row as it
@@ -35,9 +39,20 @@ pub enum Node {
     Filter(Scalar),
     /// Of each row the cells at these places, in this order.
     Keep(Items<usize>),
+    /// Each row with each row of the plan at its right, both settled, the left one first.
+    Cross(Boxed<Plan>),
+    /// Each row with those rows of the plan at its right for which the scalar is true, or, where
+    /// there is none, with so many NULLs; both settled as before, and the result too. The nodes are
+    /// run on each pair before the scalar is read on it; of these only an Extend does anything.
+    LeftOuter(Items<Node>, Scalar, usize, Boxed<Plan>),
+    /// The rows, settled.
+    Settle,
+    /// The rows, settled, in the order of these columns; rows that tie keep their order.
+    Sort(Items<SortKey>),
 }
 
 /// A plan: its leaf, and the nodes above it, the lowest first.
+#[cycle(plan)]
 #[derive(Drop)]
 pub struct Plan {
     pub leaf: Leaf,
@@ -45,8 +60,8 @@ pub struct Plan {
 }
 
 /// The number of Apply nodes of a plan, inner plans included. Of the nodes of which plans are made
-/// none is an Apply, and none has an inner plan, so that today it is 0; a node that is one has to
-/// count here, or the clause is no longer proved.
+/// none is an Apply, so that today it is 0; a node that is one has to count here, or the clause is no
+/// longer proved.
 pub fn apply_count(plan: &Plan) -> u64
     ensures { result ≡ applies (tree_of plan.now) }
 {

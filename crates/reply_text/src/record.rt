@@ -1,12 +1,11 @@
 //! Records, written as csv writes them.
 
-ghost use Rattle.std.specs.Prelude.{◌≡◌, [], ◌∷◌, ◌++◌, IfOk, OnOk, map};
-ghost use Rattle.csv.specs.Records.{fields_of, partial_of};
+ghost use Rattle.std.specs.Prelude.{◌≡◌, ◌<◌, ◌+◌, ◌^◌, ℕ, List, [], ◌∷◌, ◌++◌, length, IfOk, OnOk};
 ghost use Rattle.csv.specs.Writing.{row_text};
-ghost use Rattle.reply_text.specs.Texts.{doubled, quoted as quoted_by, value_text, record_writer as record_writer_by};
-ghost use Rattle.reply_text.specs.Writers.{written, IsBetween};
+ghost use Rattle.reply_text.specs.Texts.{doubled, quoted as quoted_by, value_text, record_text, record_writer as record_writer_by};
+ghost use Rattle.reply_text.specs.Writers.{written, IsBetween, IsWithin};
 
-use csv::{ByteRecord, Writer, WriterBuilder};
+use csv::{Writer, WriterBuilder};
 use itoa::Buffer;
 use sql_values::{NoMemory, Text, Value};
 use std::alloc::Global;
@@ -36,47 +35,41 @@ fn quoted(alloc: Global, text: &Text) -> Result<Vec<u8>, NoMemory>
     Ok(field)
 }
 
-// A field more in a record.
-fn push_field(fields: &mut ByteRecord, field: &[u8]) -> Result<(), NoMemory>
-    requires { partial_of fields.old ≡ [] }
-    ensures fields { OnOk result (fields_of fields.new ≡ fields_of fields.old ++ field.now ∷ []) }
-    ensures partial { OnOk result (partial_of fields.new ≡ []) }
+// Writes one more field of a record.
+fn write_field(writer: &mut Writer<Vec<u8>>, field: &[u8]) -> Result<(), NoMemory>
+    ensures { (before : List ℕ) (fields : List (List ℕ)) → IsWithin writer.old before fields → length fields + 1 < 2 ^ 64 → OnOk result (IsWithin writer.new before (fields ++ field.now ∷ [])) }
 {
-    fields.push_field(field)?;
-    Ok(())
+    match writer.write_field(field) {
+        Ok(()) => Ok(()),
+        Err(_) => Err(NoMemory),
+    }
 }
 
-// A value more in a record.
-fn push_value(fields: &mut ByteRecord, alloc: Global, value: &Value) -> Result<(), NoMemory>
-    requires { partial_of fields.old ≡ [] }
-    ensures fields { OnOk result (fields_of fields.new ≡ fields_of fields.old ++ value_text value.now ∷ []) }
-    ensures partial { OnOk result (partial_of fields.new ≡ []) }
+// Writes one more value of a record.
+fn write_value(writer: &mut Writer<Vec<u8>>, alloc: Global, value: &Value) -> Result<(), NoMemory>
+    ensures { (before : List ℕ) (fields : List (List ℕ)) → IsWithin writer.old before fields → length fields + 1 < 2 ^ 64 → OnOk result (IsWithin writer.new before (fields ++ value_text value.now ∷ [])) }
 {
     match value {
-        Value::Null => push_field(fields, b"NULL"),
+        Value::Null => write_field(writer, b"NULL"),
         Value::Int(number) => {
             let mut buffer = Buffer::new();
-            push_field(fields, buffer.format(*number).as_bytes())
+            write_field(writer, buffer.format(*number).as_bytes())
         }
-        Value::Str(text) => push_field(fields, quoted(alloc, text)?.as_slice()),
-        Value::Bool(true) => push_field(fields, b"TRUE"),
-        Value::Bool(false) => push_field(fields, b"FALSE"),
+        Value::Str(text) => write_field(writer, quoted(alloc, text)?.as_slice()),
+        Value::Bool(true) => write_field(writer, b"TRUE"),
+        Value::Bool(false) => write_field(writer, b"FALSE"),
     }
 }
 
-/// The record of values, in the memory of one that is no longer wanted.
-pub(crate) fn put_values(
-    fields: &mut ByteRecord,
-    alloc: Global,
-    values: &[Value],
-) -> Result<(), NoMemory>
-    ensures { OnOk result (fields_of fields.new ≡ map value_text values.now) }
+// Ends a record.
+fn end_record(writer: &mut Writer<Vec<u8>>) -> Result<(), NoMemory>
+    ensures between { (before : List ℕ) (fields : List (List ℕ)) → IsWithin writer.old before fields → OnOk result (IsBetween writer.new) }
+    ensures text { (before : List ℕ) (fields : List (List ℕ)) → IsWithin writer.old before fields → OnOk result (written writer.new ≡ before ++ row_text record_writer_by fields) }
 {
-    fields.clear();
-    for value in values {
-        push_value(fields, alloc, value)?;
+    match writer.end_record() {
+        Ok(()) => Ok(()),
+        Err(_) => Err(NoMemory),
     }
-    Ok(())
 }
 
 /// A writer of the records of a reply, which has written none.
@@ -89,19 +82,20 @@ pub(crate) fn record_writer(alloc: Global) -> Writer<Vec<u8>>
         .from_writer(Vec::new(alloc))
 }
 
-/// Writes one more record.
+/// Writes the record of these values.
 pub(crate) fn write_record(
     writer: &mut Writer<Vec<u8>>,
-    fields: &ByteRecord,
+    alloc: Global,
+    values: &[Value],
 ) -> Result<(), NoMemory>
     requires { IsBetween writer.old }
     ensures between { OnOk result (IsBetween writer.new) }
-    ensures text { OnOk result (written writer.new ≡ written writer.old ++ row_text record_writer_by (fields_of fields.now)) }
+    ensures text { OnOk result (written writer.new ≡ written writer.old ++ record_text values.now) }
 {
-    match writer.write_byte_record(fields) {
-        Ok(()) => Ok(()),
-        Err(_) => Err(NoMemory),
+    for value in values {
+        write_value(writer, alloc, value)?;
     }
+    end_record(writer)
 }
 
 /// What a writer has written.

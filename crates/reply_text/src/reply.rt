@@ -7,8 +7,8 @@ ghost use Rattle.reply_text.specs.Writers.{written, IsBetween};
 ghost use Rattle.reply_text.specs.Texts.{record_text, count_text, rows_text, values_text, end_text, done_text};
 
 use crate::put::{put, put_count};
-use crate::record::{put_values, record_writer, write_record, written_text};
-use csv::{ByteRecord, Writer};
+use crate::record::{record_writer, write_record, written_text};
+use csv::Writer;
 use row_types::{PlanRow, RowEnd, RowList, Steps};
 use sql_values::{NoMemory, Value};
 use std::alloc::Global;
@@ -57,22 +57,14 @@ fn put_total(text: &mut Vec<u8>, count: u64) -> Result<(), NoMemory>
     put(text, b"\n")
 }
 
-// Writes the record of a row that has values, in the memory of `fields`.
-fn write_row(
-    writer: &mut Writer<Vec<u8>>,
-    fields: &mut ByteRecord,
-    alloc: Global,
-    row: PlanRow,
-) -> Result<(), NoMemory>
+// Writes the record of a row that has values.
+fn write_row(writer: &mut Writer<Vec<u8>>, alloc: Global, row: PlanRow) -> Result<(), NoMemory>
     requires { IsBetween writer.old }
     ensures between { OnOk result (IsBetween writer.new) }
     ensures text { OnOk result (written writer.new ≡ written writer.old ++ flat_map record_text (with_values (row_end row) [])) }
 {
     match row.into_end(alloc)? {
-        RowEnd::Values(values) => {
-            put_values(fields, alloc, values.as_slice())?;
-            write_record(writer, fields)
-        }
+        RowEnd::Values(values) => write_record(writer, alloc, values.as_slice()),
         RowEnd::Raised(_) => Ok(()),
     }
 }
@@ -88,10 +80,9 @@ fn records_text<L: Ledger>(
 {
     let mut rows = rows;
     let mut writer = record_writer(alloc);
-    let mut fields = ByteRecord::new(alloc);
     while rows.len() > 0 {
         if let Some(row) = rows.take_first(steps) {
-            write_row(&mut writer, &mut fields, alloc, row)?;
+            write_row(&mut writer, alloc, row)?;
         }
     }
     written_text(writer)
@@ -122,9 +113,7 @@ fn handed_out(alloc: Global, values: &[Value]) -> Result<Vec<u8>, NoMemory>
         return Ok(Vec::new(alloc));
     }
     let mut writer = record_writer(alloc);
-    let mut fields = ByteRecord::new(alloc);
-    put_values(&mut fields, alloc, values)?;
-    write_record(&mut writer, &fields)?;
+    write_record(&mut writer, alloc, values)?;
     written_text(writer)
 }
 

@@ -6,3 +6,4 @@ pub mod OuterRows
 pub mod Tables
 pub mod Writing
 pub mod Examples
+pub mod Sorting

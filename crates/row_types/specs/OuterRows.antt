@@ -8,4 +8,4 @@ use Rattle.row_types.specs.declared.cell.Cell.TheVariants.{Val}
 -- the rows, the innermost first
 abbrev pub outer_rows : Outer → List (List Cell)
 outer_rows Outermost = []
-outer_rows (Under' values cells p outer) = (map Val values.now ++ cells.now) ∷ outer_rows outer
+outer_rows (Under' values more cells p outer) = (map Val (values.now ++ more.now) ++ cells.now) ∷ outer_rows outer

@@ -14,6 +14,7 @@ mod plan_row;
 mod row;
 mod row_in_sight;
 mod row_list;
+mod sort_key;
 mod steps;
 
 pub use cell::{Cell, copied_area, copied_cell};
@@ -22,8 +23,9 @@ pub use key::Key;
 pub use order::{order_by_key, order_of, order_to_key};
 pub use plan_row::{PlanRow, RowEnd, first_area_in};
 pub use row::{Row, copied_row, copied_value, fits};
-pub use row_in_sight::{Outer, RowInSight, outer_cell};
+pub use row_in_sight::{Outer, RowInSight, ValuesInSight, outer_cell};
 pub use row_list::RowList;
+pub use sort_key::{SortKey, order_by_keys};
 use sql_values::{Name, NoMemory, SqlType};
 use sqlite_items::Items;
 use std::alloc::Global;

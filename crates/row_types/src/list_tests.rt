@@ -2,7 +2,9 @@
 
 ghost use Rattle.std.specs.Prelude.{◌≡◌};
 
-use crate::{Cell, Outer, PlanRow, RowEnd, RowList, Steps, copied_cell, gathered, outer_cell};
+use crate::{
+    Cell, Outer, PlanRow, RowEnd, RowList, Steps, ValuesInSight, copied_cell, gathered, outer_cell,
+};
 use sql_conditions::{Area, Condition, EngineCondition};
 use sql_values::{NoMemory, Value};
 use sqlite_items::{Boxed, Items};
@@ -32,9 +34,10 @@ fn told(alloc: Global, row: PlanRow) -> Result<Option<i64>, NoMemory> {
 fn three(alloc: Global) -> Result<RowList, NoMemory> {
     let mut rows = RowList::with_capacity(alloc, 1)?;
     let mut cells = [Cell::Val(Value::Int(7))];
-    rows.push(gathered(alloc, &[], &mut cells)?)?;
+    rows.push(gathered(alloc, &ValuesInSight::none(), &mut cells)?)?;
     let mut cells = [Cell::Cond(divided_by_zero(alloc)?)];
-    rows.push(gathered(alloc, &[Value::Int(8)], &mut cells)?)?;
+    let eight = [Value::Int(8)];
+    rows.push(gathered(alloc, &ValuesInSight::of(eight.as_slice()), &mut cells)?)?;
     rows.push(PlanRow::poisoned(divided_by_zero(alloc)?))?;
     Ok(rows)
 }
@@ -72,7 +75,7 @@ fn third(
     cells: &[Cell],
     further: &Outer,
 ) -> Result<Cell, NoMemory> {
-    let outer = Outer::Under(&*values, &*cells, &*further);
+    let outer = Outer::Under(&*values, &[], &*cells, &*further);
     outer_cell(alloc, &outer, 0, 2)
 }
 

@@ -53,8 +53,8 @@ fn order_of_null(value: &Value) -> Ordering
     }
 }
 
-// The order of two rows by their values at one place.
-fn order_at(a: &Row, b: &Row, place: usize) -> Ordering
+/// The order of two rows by their values at one place.
+pub fn order_at(a: &Row, b: &Row, place: usize) -> Ordering
     ensures { result ≡ value_cmp (slice_index_or a.now place Null) (slice_index_or b.now place Null) }
 {
     match (a.get(place), b.get(place)) {

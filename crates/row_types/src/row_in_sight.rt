@@ -10,11 +10,68 @@ use sql_values::{NoMemory, Value};
 use std::alloc::Global;
 use std::marker::Model;
 
-/// The cells of a row where they lie: values, as a table's row has them, and cells that stand after
+/// Values where they lie: those of a row, or of two rows, one after the other.
+#[derive(Drop)]
+pub struct ValuesInSight<'a> {
+    first: &'a [Value],
+    second: &'a [Value],
+}
+
+impl<'a> Model for ValuesInSight<'a> {
+    ghost use Rattle.std.specs.Prelude.{List, ◌++◌};
+    ghost use Rattle.sql_values.specs.declared.value.Value.{Value as Plain};
+
+    ghost Value = { List Plain };
+
+    ghost view = { λ v. v.first.now ++ v.second.now };
+}
+
+impl<'a> ValuesInSight<'a> {
+    /// No values.
+    pub fn none() -> ValuesInSight<'a>
+        ensures { result ≡ [] }
+    {
+        ValuesInSight {
+            first: &[],
+            second: &[],
+        }
+    }
+
+    /// The values of a row.
+    #[tactic(auto, using(crate::proofs::Sight::alone, std::proofs::lemmas::Grind::common_steps))]
+    pub fn of(values: &'a [Value]) -> ValuesInSight<'a>
+        ensures { result ≡ values.now }
+    {
+        ValuesInSight {
+            first: values,
+            second: &[],
+        }
+    }
+
+    /// The values of one row, and then those of another.
+    pub fn of_pair(left: &'a [Value], right: &'a [Value]) -> ValuesInSight<'a>
+        ensures { result ≡ left.now ++ right.now }
+    {
+        ValuesInSight {
+            first: left,
+            second: right,
+        }
+    }
+
+    /// The slices that they lie in, the first of which stands before the other.
+    pub fn slices(&self) -> (&'a [Value], &'a [Value])
+        ensures { result.0.now ++ result.1.now ≡ self.now }
+    {
+        (self.first, self.second)
+    }
+}
+
+/// The cells of a row where they lie: values, as tables' rows have them, and cells that stand after
 /// these. Nothing is copied to see them.
 #[derive(Drop)]
 pub struct RowInSight<'a> {
     values: &'a [Value],
+    more: &'a [Value],
     cells: &'a [Cell],
 }
 
@@ -25,7 +82,7 @@ impl<'a> Model for RowInSight<'a> {
 
     ghost Value = { List Plain };
 
-    ghost view = { λ r. map Val r.values.now ++ r.cells.now };
+    ghost view = { λ r. map Val r.values.now ++ (map Val r.more.now ++ r.cells.now) };
 }
 
 impl<'a> RowInSight<'a> {
@@ -33,14 +90,31 @@ impl<'a> RowInSight<'a> {
     pub fn of(values: &'a [Value], cells: &'a [Cell]) -> RowInSight<'a>
         ensures { result ≡ map Val values.now ++ cells.now }
     {
-        RowInSight { values, cells }
+        RowInSight {
+            values,
+            more: &[],
+            cells,
+        }
+    }
+
+    /// The same, of values that may lie in two places.
+    #[tactic(auto, using(crate::proofs::Sight::shown_apart, std::proofs::lemmas::Grind::common_steps))]
+    pub fn over(values: &ValuesInSight<'a>, cells: &'a [Cell]) -> RowInSight<'a>
+        ensures { result ≡ map Val values.now ++ cells.now }
+    {
+        let (first, second) = values.slices();
+        RowInSight {
+            values: first,
+            more: second,
+            cells,
+        }
     }
 
     /// The number of cells.
     pub fn len(&self) -> usize
         ensures { result ≡ length self.now }
     {
-        self.values.len() + self.cells.len()
+        self.values.len() + self.more.len() + self.cells.len()
     }
 
     /// The value at a place, where it lies. `None` says nothing of what stands there.
@@ -52,7 +126,7 @@ impl<'a> RowInSight<'a> {
         if place < values.len() {
             Some(&values[place])
         } else {
-            later_value(self.cells, place - values.len())
+            value_after(self.more, self.cells, place - values.len())
         }
     }
 
@@ -65,8 +139,37 @@ impl<'a> RowInSight<'a> {
         if place < values.len() {
             Ok(Cell::Val(values[place].copied()?))
         } else {
-            later_cell(alloc, self.cells, place - values.len())
+            cell_after(alloc, self.more, self.cells, place - values.len())
         }
+    }
+}
+
+// The value at a place among values and the cells after them.
+#[tactic(auto, using(crate::proofs::Sight::cell_value, crate::proofs::Sight::cell_later, std::proofs::lemmas::Grind::common_steps))]
+fn value_after<'a>(values: &'a [Value], cells: &'a [Cell], place: usize) -> Option<&'a Value>
+    ensures { IfSome result (λ v. cell_at (map Val values.now ++ cells.now) place ≡ Val v.now) }
+{
+    if place < values.len() {
+        Some(&values[place])
+    } else {
+        later_value(cells, place - values.len())
+    }
+}
+
+// The cell at a place among values and the cells after them, once more.
+#[tactic(auto, using(crate::proofs::Sight::cell_value, crate::proofs::Sight::cell_later, std::proofs::lemmas::Grind::common_steps))]
+fn cell_after(
+    alloc: Global,
+    values: &[Value],
+    cells: &[Cell],
+    place: usize,
+) -> Result<Cell, NoMemory>
+    ensures { IfOk result (λ c. c ≡ cell_at (map Val values.now ++ cells.now) place) }
+{
+    if place < values.len() {
+        Ok(Cell::Val(values[place].copied()?))
+    } else {
+        later_cell(alloc, cells, place - values.len())
     }
 }
 
@@ -95,8 +198,9 @@ fn later_cell(alloc: Global, cells: &[Cell], place: usize) -> Result<Cell, NoMem
 pub enum Outer<'a> {
     /// No row.
     Outermost,
-    /// A row, which is values and the cells after them, and the rows outside it.
-    Under(&'a [Value], &'a [Cell], &'a Outer<'a>),
+    /// A row, which is values, perhaps those of a second row, and the cells after these; and the rows
+    /// outside it.
+    Under(&'a [Value], &'a [Value], &'a [Cell], &'a Outer<'a>),
 }
 
 /// The cell at a place of the row of a level, the innermost row at level 0; NULL where there is none.
@@ -110,9 +214,9 @@ pub fn outer_cell(
 {
     match outer {
         Outer::Outermost => Ok(Cell::Val(Value::Null)),
-        Outer::Under(values, cells, further) => {
+        Outer::Under(values, more, cells, further) => {
             if level == 0 {
-                RowInSight::of(values, cells).cell(alloc, place)
+                RowInSight::over(&ValuesInSight::of_pair(values, more), cells).cell(alloc, place)
             } else {
                 outer_cell(alloc, further, level - 1, place)
             }

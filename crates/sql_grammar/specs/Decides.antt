@@ -5,9 +5,9 @@ use Rattle.std.proofs.Common.{sym, ◌∙◌}
 use Rattle.token_grammar.specs.Grammar.{Grammar}
 use Rattle.token_grammar.specs.Reading.{decides, goes_on, nullable, same_kind}
 use Rattle.sql_grammar.specs.declared.function_word.FunctionWord.TheVariants.{Coalesce, Modulo, CharLength, Substring, Cast}
-use Rattle.sql_grammar.specs.Trees.{Rule, Tree, Columns, Parameters, Length, Arguments, Exprs, Bracketed, Operands, Cases, bracketed, ident, varchar_length, plain_type, varchar, data_type}
-use Rattle.sql_grammar.specs.Expressions.{constant, literal, named, function_call, function, case_expression, primary, unary_sign, factor, operator, term, sum, comparison, compared, truth_test, asked, tested, in_word, among, predicate_part, predicate, not_word, negation, conjunction, expr, after, more_exprs, exprs, for_length, as_type, operands, when_clause, more_when_clauses, when_clauses, else_clause, arms, cases}
-use Rattle.sql_grammar.specs.Queries.{filter, from_item, from_items, from_clause, source, selection, select_word, select, row, more_rows, rows, values_word, values, query}
+use Rattle.sql_grammar.specs.Trees.{Rule, Tree, Columns, Parameters, Length, Arguments, Exprs, Bracketed, Operands, Subquery, Names, Cases, bracketed, ident, varchar_length, plain_type, varchar, data_type}
+use Rattle.sql_grammar.specs.Expressions.{constant, literal, dotted, named, function_call, function, case_expression, primary, unary_sign, factor, operator, term, sum, comparison_sign, comparison, compared, truth_test, asked, tested, in_word, among, predicate_part, predicate, not_word, negation, conjunction, expr, after, more_exprs, exprs, for_length, as_type, operands, when_clause, more_when_clauses, when_clauses, else_clause, arms, cases}
+use Rattle.sql_grammar.specs.Queries.{more_idents, idents, column_list, alias, select_value, more_select_values, select_values, all_columns, select_list, named_table, derived_table, table_ref, on_condition, joined_on, comma_item, cross_join, left_join, inner_join, from_item, more_from_items, first_item, from_items, from_clause, filter, select_word, select, row, more_rows, rows, values_word, values, query, direction, sort_specification, more_sort_specifications, sort_specifications, order_clause, order_by, ordered_query}
 use Rattle.sql_grammar.specs.Writing.{insert_source, insertion, into_table, insert_word, insert, dml}
 use Rattle.sql_grammar.specs.Definitions.{not_null, primary_key, column_constraint, constraints, column, more_columns, columns, parameter, more_parameters, parameters, table_definition, create_table, returns_type, return_value, body, function_definition, create_function, create_word, created, ddl}
 use Rattle.sql_grammar.specs.Sql.{unended, statement, rules, shut}
@@ -35,6 +35,8 @@ record AllAreSound : Type 0 where
   char_length_rule : RuleIsSound (Operands CharLength)
   substring_rule : RuleIsSound (Operands Substring)
   cast_rule : RuleIsSound (Operands Cast)
+  subquery_rule : RuleIsSound Subquery
+  names_rule : RuleIsSound Names
   cases_rule : RuleIsSound Cases
   statement_part : PartIsSound statement
   query_part : PartIsSound query
@@ -44,7 +46,7 @@ record AllAreSound : Type 0 where
   statement_end : (summary shut false statement).goes_on ≡ []
 
 all_are_sound : AllAreSound
-unfolding same_kind bracketed ident varchar_length plain_type varchar data_type constant literal named function_call function case_expression primary unary_sign factor operator term sum comparison compared truth_test asked tested in_word among predicate_part predicate not_word negation conjunction expr after more_exprs exprs for_length as_type operands when_clause more_when_clauses when_clauses else_clause arms cases filter from_item from_items from_clause source selection select_word select row more_rows rows values_word values query insert_source insertion into_table insert_word insert dml not_null primary_key column_constraint constraints column more_columns columns parameter more_parameters parameters table_definition create_table returns_type return_value body function_definition create_function create_word created ddl unended statement
+unfolding same_kind bracketed ident varchar_length plain_type varchar data_type constant literal dotted named function_call function case_expression primary unary_sign factor operator term sum comparison_sign comparison compared truth_test asked tested in_word among predicate_part predicate not_word negation conjunction expr after more_exprs exprs for_length as_type operands when_clause more_when_clauses when_clauses else_clause arms cases more_idents idents column_list alias select_value more_select_values select_values all_columns select_list named_table derived_table table_ref on_condition joined_on comma_item cross_join left_join inner_join from_item more_from_items first_item from_items from_clause filter select_word select row more_rows rows values_word values query direction sort_specification more_sort_specifications sort_specifications order_clause order_by ordered_query insert_source insertion into_table insert_word insert dml not_null primary_key column_constraint constraints column more_columns columns parameter more_parameters parameters table_definition create_table returns_type return_value body function_definition create_function create_word created ddl unended statement
 all_are_sound = record {
   columns_rule = refl;
   parameters_rule = refl;
@@ -57,6 +59,8 @@ all_are_sound = record {
   char_length_rule = refl;
   substring_rule = refl;
   cast_rule = refl;
+  subquery_rule = refl;
+  names_rule = refl;
   cases_rule = refl;
   statement_part = (refl, refl, refl);
   query_part = (refl, refl, refl);
@@ -77,6 +81,8 @@ rules_sound (Operands Modulo) = all_are_sound.modulo_rule
 rules_sound (Operands CharLength) = all_are_sound.char_length_rule
 rules_sound (Operands Substring) = all_are_sound.substring_rule
 rules_sound (Operands Cast) = all_are_sound.cast_rule
+rules_sound Subquery = all_are_sound.subquery_rule
+rules_sound Names = all_are_sound.names_rule
 rules_sound Cases = all_are_sound.cases_rule
 
 pub all_decide : (r : Rule) → decides rules (rules r) ≡ true

@@ -1,5 +1,5 @@
 -- Worked rows: what the grammar reads, and which constructs are open by the tokens alone.
-use Rattle.std.specs.Prelude.{◌≡◌, ℕ, zero, suc, ◌+◌, ◌-◌, ◌*◌, List, [], ◌∷◌, ◌++◌, Some, Ok, Err, pos, codes, drop, refl}
+use Rattle.std.specs.Prelude.{◌≡◌, ℕ, zero, suc, ◌+◌, ◌-◌, ◌*◌, List, [], ◌∷◌, ◌++◌, Some, None, true, false, Ok, Err, pos, codes, drop, refl}
 use Rattle.sql_lex.specs.declared.sign.Sign.{Sign}
 use Rattle.sql_lex.specs.declared.sign.Sign.TheVariants as s
 use Rattle.sql_lex.specs.declared.token.Lexeme.{Lexeme}
@@ -23,7 +23,12 @@ use Rattle.syntax_trees.specs.declared.expr.Literal.TheVariants as literal_of
 use Rattle.syntax_trees.specs.declared.expr.Operation.TheVariants as operation
 use Rattle.syntax_trees.specs.declared.expr.TruthTest.TheVariants as test
 use Rattle.syntax_trees.specs.declared.query.FromItem.TheVariants as from
+use Rattle.syntax_trees.specs.declared.query.Query.{Query}
 use Rattle.syntax_trees.specs.declared.query.Query.TheVariants as q
+use Rattle.syntax_trees.specs.declared.query.Select.{roll-Select}
+use Rattle.syntax_trees.specs.declared.query.SelectItem.TheVariants as item
+use Rattle.syntax_trees.specs.declared.query.TableRef.{TableRef}
+use Rattle.syntax_trees.specs.declared.query.TableRef.TheVariants as ref
 use Rattle.syntax_trees.specs.declared.query.ValueRow.TheVariants as value_row
 use Rattle.syntax_trees.specs.declared.statement.Constraint.TheVariants as constraint
 use Rattle.syntax_trees.specs.declared.statement.Stmt.TheVariants as stmt
@@ -32,8 +37,8 @@ use Rattle.token_grammar.specs.Reading.{same_kind, reading, NoSpelling, TooDeep}
 use Rattle.token_grammar.specs.Statement.{most_open}
 use Rattle.sql_grammar.specs.Constructs.{open_after}
 use Rattle.sql_grammar.specs.Trees.{bracketed, ident, varchar_length, plain_type, varchar, data_type}
-use Rattle.sql_grammar.specs.Expressions.{constant, literal, named, function_call, function, case_expression, primary, unary_sign, factor, operator, term, sum, comparison, compared, truth_test, asked, tested, in_word, among, predicate_part, predicate, not_word, negation, conjunction, expr, after, more_exprs, exprs, for_length, as_type, operands, when_clause, more_when_clauses, when_clauses, else_clause, arms, cases}
-use Rattle.sql_grammar.specs.Queries.{filter, from_item, from_items, from_clause, source, selection, select_word, select, row, more_rows, rows, values_word, values, query}
+use Rattle.sql_grammar.specs.Expressions.{unqualified, qualified, constant, literal, dotted, named, function_call, function, case_expression, primary, unary_sign, factor, operator, term, sum, comparison_sign, comparison, compared, truth_test, asked, tested, in_word, among, predicate_part, predicate, not_word, negation, conjunction, expr, after, more_exprs, exprs, for_length, as_type, operands, when_clause, more_when_clauses, when_clauses, else_clause, arms, cases}
+use Rattle.sql_grammar.specs.Queries.{more_idents, idents, column_list, alias, select_value, more_select_values, select_values, all_columns, select_list, named_table, derived_table, table_ref, on_condition, joined_on, comma_item, cross_join, left_join, inner_join, from_item, more_from_items, first_item, from_items, from_clause, filter, select_word, select, row, more_rows, rows, values_word, values, query, direction, sort_specification, more_sort_specifications, sort_specifications, order_clause, order_by, ordered_query}
 use Rattle.sql_grammar.specs.Writing.{insert_source, insertion, into_table, insert_word, insert, dml}
 use Rattle.sql_grammar.specs.Definitions.{not_null, primary_key, column_constraint, constraints, column, more_columns, columns, parameter, more_parameters, parameters, table_definition, create_table, returns_type, return_value, body, function_definition, create_function, create_word, created, ddl}
 use Rattle.sql_grammar.specs.Sql.{unended, statement, rules}
@@ -64,13 +69,13 @@ abbrev id_t : ℕ → Ident
 id_t n = record { name = codes "T"; anchor = at n }
 
 abbrev name_k : ℕ → Expr
-name_k n = e.Name (id_k n)
+name_k n = e.Name (unqualified (id_k n))
 
 abbrev number_one : ℕ → Expr
 number_one n = e.Literal (at n) (literal_of.Number (pos 1))
 
 abbrev name_t : ℕ → Expr
-name_t n = e.Name (id_t n)
+name_t n = e.Name (unqualified (id_t n))
 
 abbrev link : ChainOperator → ℕ → Expr → Link
 link operator n x = roll-Link (record { operator = operator; anchor = at n; operand = x })
@@ -80,6 +85,12 @@ type_at n name = record { anchor = at n; name = name }
 
 abbrev integer_at : ℕ → DataType
 integer_at n = type_at n type.Integer
+
+abbrev table_k : ℕ → TableRef
+table_k n = ref.Table (id_k n) None
+
+abbrev table_t : ℕ → TableRef
+table_t n = ref.Table (id_t n) None
 
 -- ---- reading
 
@@ -107,12 +118,15 @@ no_table = tokens_of (wd w.Select ∷ k ∷ wd w.From ∷ sg s.Semicolon ∷ [])
 
 pub record Rows : Type 0 where
   pub select_is_read : reading rules most_open statement a_select ≡ Ok (
-    stmt.Query (q.Select (record {
-      anchor = at 0;
-      items = e.Chain (name_k 1) (link (chain_operator.Value op.Add) 2 (number_one 3) ∷ []) ∷ e.Call (id_t 5) [] ∷ [];
-      from = from.Table (id_t 9) ∷ [];
-      filter = Some (e.Operation (at 12) (operation.Compare cmp.NotEquals) (name_k 11 ∷ number_one 13 ∷ []));
-    })),
+    stmt.Query (record {
+      query = q.Select (roll-Select (record {
+        anchor = at 0;
+        items = item.Value (e.Chain (name_k 1) (link (chain_operator.Value op.Add) 2 (number_one 3) ∷ [])) None ∷ item.Value (e.Call (id_t 5) []) None ∷ [];
+        from = from.Comma (table_t 9) ∷ [];
+        filter = Some (e.Operation (at 12) (operation.Compare cmp.NotEquals) (name_k 11 ∷ number_one 13 ∷ []));
+      }));
+      order = [];
+    }),
     [],
   )
   pub insert_is_read : reading rules most_open statement an_insert ≡ Ok (
@@ -152,7 +166,7 @@ pub record Rows : Type 0 where
   pub is_too_deep : reading rules 1 statement an_insert ≡ Err (TooDeep (drop 12 an_insert))
 
 pub rows_hold : Rows
-unfolding same_kind bracketed ident varchar_length plain_type varchar data_type constant literal named function_call function case_expression primary unary_sign factor operator term sum comparison compared truth_test asked tested in_word among predicate_part predicate not_word negation conjunction expr after more_exprs exprs for_length as_type operands when_clause more_when_clauses when_clauses else_clause arms cases filter from_item from_items from_clause source selection select_word select row more_rows rows values_word values query insert_source insertion into_table insert_word insert dml not_null primary_key column_constraint constraints column more_columns columns parameter more_parameters parameters table_definition create_table returns_type return_value body function_definition create_function create_word created ddl unended statement
+unfolding same_kind bracketed ident varchar_length plain_type varchar data_type constant literal dotted named function_call function case_expression primary unary_sign factor operator term sum comparison_sign comparison compared truth_test asked tested in_word among predicate_part predicate not_word negation conjunction expr after more_exprs exprs for_length as_type operands when_clause more_when_clauses when_clauses else_clause arms cases more_idents idents column_list alias select_value more_select_values select_values all_columns select_list named_table derived_table table_ref on_condition joined_on comma_item cross_join left_join inner_join from_item more_from_items first_item from_items from_clause filter select_word select row more_rows rows values_word values query direction sort_specification more_sort_specifications sort_specifications order_clause order_by ordered_query insert_source insertion into_table insert_word insert dml not_null primary_key column_constraint constraints column more_columns columns parameter more_parameters parameters table_definition create_table returns_type return_value body function_definition create_function create_word created ddl unended statement
 rows_hold = record {
   select_is_read = refl;
   insert_is_read = refl;
@@ -160,6 +174,120 @@ rows_hold = record {
   function_is_read = refl;
   stops_at_semicolon = refl;
   is_too_deep = refl;
+}
+
+-- ---- reading of queries
+
+-- SELECT * FROM t LEFT JOIN (VALUES (1, 1)) AS k (k, t) ON t.k = 1, t AS k CROSS JOIN k INNER JOIN t
+-- ON TRUE;
+abbrev joins : List Token
+joins = tokens_of (wd w.Select ∷ sg s.Asterisk ∷ wd w.From ∷ t ∷ wd w.Left ∷ wd w.Join
+    ∷ sg s.LeftParen ∷ wd w.Values ∷ sg s.LeftParen ∷ one ∷ sg s.Comma ∷ one ∷ sg s.RightParen ∷ sg s.RightParen
+    ∷ wd w.As ∷ k ∷ sg s.LeftParen ∷ k ∷ sg s.Comma ∷ t ∷ sg s.RightParen ∷ wd w.On ∷ t ∷ sg s.Period ∷ k ∷ sg s.Equals ∷ one
+    ∷ sg s.Comma ∷ t ∷ wd w.As ∷ k ∷ wd w.Cross ∷ wd w.Join ∷ k ∷ wd w.Inner ∷ wd w.Join ∷ t ∷ wd w.On ∷ wd w.True ∷ sg s.Semicolon ∷ [])
+
+-- SELECT k.t AS k, 1 t, k FROM t k JOIN t ON k LEFT OUTER JOIN k ON t WHERE k
+-- ORDER BY k DESC, t, k ASC;
+abbrev named_and_ordered : List Token
+named_and_ordered = tokens_of (wd w.Select ∷ k ∷ sg s.Period ∷ t ∷ wd w.As ∷ k ∷ sg s.Comma ∷ one ∷ t ∷ sg s.Comma ∷ k ∷ wd w.From ∷ t ∷ k
+    ∷ wd w.Join ∷ t ∷ wd w.On ∷ k ∷ wd w.Left ∷ wd w.Outer ∷ wd w.Join ∷ k ∷ wd w.On ∷ t ∷ wd w.Where ∷ k
+    ∷ wd w.Order ∷ wd w.By ∷ k ∷ wd w.Desc ∷ sg s.Comma ∷ t ∷ sg s.Comma ∷ k ∷ wd w.Asc ∷ sg s.Semicolon ∷ [])
+
+-- SELECT * FROM (SELECT * FROM (VALUES (1)) t) k
+abbrev derived_in_derived : List Token
+derived_in_derived = tokens_of (wd w.Select ∷ sg s.Asterisk ∷ wd w.From ∷ sg s.LeftParen ∷ wd w.Select ∷ sg s.Asterisk ∷ wd w.From
+    ∷ sg s.LeftParen ∷ wd w.Values ∷ sg s.LeftParen ∷ one ∷ sg s.RightParen ∷ sg s.RightParen ∷ t ∷ sg s.RightParen ∷ k ∷ [])
+
+-- VALUES (1) ORDER BY k
+abbrev ordered_values : List Token
+ordered_values = tokens_of (wd w.Values ∷ sg s.LeftParen ∷ one ∷ sg s.RightParen ∷ wd w.Order ∷ wd w.By ∷ k ∷ [])
+
+abbrev values_of_one : Query
+values_of_one = q.Values (record { anchor = at 0; rows = value_row.Row (number_one 2 ∷ []) ∷ [] })
+
+-- SELECT k FROM t JOIN k;
+abbrev no_condition : List Token
+no_condition = tokens_of (wd w.Select ∷ k ∷ wd w.From ∷ t ∷ wd w.Join ∷ k ∷ sg s.Semicolon ∷ [])
+
+-- SELECT k FROM t CROSS JOIN k ON k;
+abbrev a_condition_too_many : List Token
+a_condition_too_many = tokens_of (wd w.Select ∷ k ∷ wd w.From ∷ t ∷ wd w.Cross ∷ wd w.Join ∷ k ∷ wd w.On ∷ k ∷ sg s.Semicolon ∷ [])
+
+-- SELECT k FROM (VALUES (1));
+abbrev derived_without_name : List Token
+derived_without_name = tokens_of (wd w.Select ∷ k ∷ wd w.From ∷ sg s.LeftParen ∷ wd w.Values ∷ sg s.LeftParen ∷ one ∷ sg s.RightParen ∷ sg s.RightParen ∷ sg s.Semicolon ∷ [])
+
+-- SELECT *, k FROM t;
+abbrev all_and_more : List Token
+all_and_more = tokens_of (wd w.Select ∷ sg s.Asterisk ∷ sg s.Comma ∷ k ∷ wd w.From ∷ t ∷ sg s.Semicolon ∷ [])
+
+pub record QueryRows : Type 0 where
+  pub joins_are_read : reading rules most_open statement joins ≡ Ok (
+    stmt.Query (record {
+      query = q.Select (roll-Select (record {
+        anchor = at 0;
+        items = item.All (at 1) ∷ [];
+        from = from.Comma (table_t 3)
+            ∷ from.Left (
+            ref.Derived (q.Values (record { anchor = at 7; rows = value_row.Row (number_one 9 ∷ number_one 11 ∷ []) ∷ [] })) (id_k 15) (id_k 17 ∷ id_t 19 ∷ []))
+            (e.Operation (at 25) (operation.Compare cmp.Equals) (e.Name (qualified (id_t 22) (id_k 24)) ∷ number_one 26 ∷ []))
+            ∷ from.Comma (ref.Table (id_t 28) (Some (id_k 30)))
+            ∷ from.Cross (table_k 33)
+            ∷ from.Inner (table_t 36) (e.Literal (at 38) literal_of.True) ∷ [];
+        filter = None;
+      }));
+      order = [];
+    }),
+    [],
+  )
+  pub names_are_read : reading rules most_open statement named_and_ordered ≡ Ok (
+    stmt.Query (record {
+      query = q.Select (roll-Select (record {
+        anchor = at 0;
+        items = item.Value (e.Name (qualified (id_k 1) (id_t 3))) (Some (id_k 5)) ∷ item.Value (number_one 7) (Some (id_t 8)) ∷ item.Value (name_k 10) None ∷ [];
+        from = from.Comma (ref.Table (id_t 12) (Some (id_k 13))) ∷ from.Inner (table_t 15) (name_k 17) ∷ from.Left (table_k 21) (name_t 23) ∷ [];
+        filter = Some (name_k 25);
+      }));
+      order = record { name = id_k 28; descending = true } ∷ record { name = id_t 31; descending = false } ∷ record { name = id_k 33; descending = false } ∷ [];
+    }),
+    [],
+  )
+  -- a query by itself has no order
+  pub stops_before_order : reading rules most_open query ordered_values ≡ Ok (values_of_one, drop 4 ordered_values)
+  pub three_may_be_open : reading rules 3 query derived_in_derived ≡ Ok (
+    q.Select (roll-Select (record {
+      anchor = at 0;
+      items = item.All (at 1) ∷ [];
+      from = from.Comma (
+          ref.Derived (q.Select (roll-Select (record {
+            anchor = at 4;
+            items = item.All (at 5) ∷ [];
+            from = from.Comma (ref.Derived (q.Values (record { anchor = at 8; rows = value_row.Row (number_one 10 ∷ []) ∷ [] })) (id_t 13) []) ∷ [];
+            filter = None;
+          }))) (id_k 15) []) ∷ [];
+      filter = None;
+    })),
+    [],
+  )
+  -- the bracket after VALUES is one construct too many, where two may be open
+  pub derived_is_too_deep : reading rules 2 query derived_in_derived ≡ Err (TooDeep (drop 9 derived_in_derived))
+  pub condition_is_wanted : reading rules most_open statement no_condition ≡ Err (NoSpelling (drop 6 no_condition))
+  pub cross_join_has_none : reading rules most_open statement a_condition_too_many ≡ Err (NoSpelling (drop 7 a_condition_too_many))
+  pub name_is_wanted : reading rules most_open statement derived_without_name ≡ Err (NoSpelling (drop 9 derived_without_name))
+  pub all_stands_alone : reading rules most_open statement all_and_more ≡ Err (NoSpelling (drop 2 all_and_more))
+
+pub query_rows_hold : QueryRows
+unfolding same_kind bracketed ident varchar_length plain_type varchar data_type constant literal dotted named function_call function case_expression primary unary_sign factor operator term sum comparison_sign comparison compared truth_test asked tested in_word among predicate_part predicate not_word negation conjunction expr after more_exprs exprs for_length as_type operands when_clause more_when_clauses when_clauses else_clause arms cases more_idents idents column_list alias select_value more_select_values select_values all_columns select_list named_table derived_table table_ref on_condition joined_on comma_item cross_join left_join inner_join from_item more_from_items first_item from_items from_clause filter select_word select row more_rows rows values_word values query direction sort_specification more_sort_specifications sort_specifications order_clause order_by ordered_query insert_source insertion into_table insert_word insert dml not_null primary_key column_constraint constraints column more_columns columns parameter more_parameters parameters table_definition create_table returns_type return_value body function_definition create_function create_word created ddl unended statement
+query_rows_hold = record {
+  joins_are_read = refl;
+  names_are_read = refl;
+  stops_before_order = refl;
+  three_may_be_open = refl;
+  derived_is_too_deep = refl;
+  condition_is_wanted = refl;
+  cross_join_has_none = refl;
+  name_is_wanted = refl;
+  all_stands_alone = refl;
 }
 
 -- ---- reading of expressions
@@ -331,7 +459,7 @@ pub record ExprRows : Type 0 where
   pub cases_past_the_limit : reading rules most_open expr (case_in_case 25) ≡ Err (TooDeep (drop 48 (case_in_case 25)))
 
 pub expr_rows_hold : ExprRows
-unfolding same_kind bracketed ident varchar_length plain_type varchar data_type constant literal named function_call function case_expression primary unary_sign factor operator term sum comparison compared truth_test asked tested in_word among predicate_part predicate not_word negation conjunction expr after more_exprs exprs for_length as_type operands when_clause more_when_clauses when_clauses else_clause arms cases filter from_item from_items from_clause source selection select_word select row more_rows rows values_word values query insert_source insertion into_table insert_word insert dml not_null primary_key column_constraint constraints column more_columns columns parameter more_parameters parameters table_definition create_table returns_type return_value body function_definition create_function create_word created ddl unended statement
+unfolding same_kind bracketed ident varchar_length plain_type varchar data_type constant literal dotted named function_call function case_expression primary unary_sign factor operator term sum comparison_sign comparison compared truth_test asked tested in_word among predicate_part predicate not_word negation conjunction expr after more_exprs exprs for_length as_type operands when_clause more_when_clauses when_clauses else_clause arms cases more_idents idents column_list alias select_value more_select_values select_values all_columns select_list named_table derived_table table_ref on_condition joined_on comma_item cross_join left_join inner_join from_item more_from_items first_item from_items from_clause filter select_word select row more_rows rows values_word values query direction sort_specification more_sort_specifications sort_specifications order_clause order_by ordered_query insert_source insertion into_table insert_word insert dml not_null primary_key column_constraint constraints column more_columns columns parameter more_parameters parameters table_definition create_table returns_type return_value body function_definition create_function create_word created ddl unended statement
 expr_rows_hold = record {
   or_is_loosest = refl;
   bars_are_additive = refl;

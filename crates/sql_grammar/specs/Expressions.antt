@@ -1,4 +1,4 @@
--- Expressions: ISO/IEC 9075-2, 6.4 (a call of a function), 6.12 (CASE), 6.13 (CAST), 6.26 to 6.39
+-- Expressions: ISO/IEC 9075-2, 6.4 (a call of a function), 6.6 (names), 6.12 (CASE), 6.13 (CAST), 6.26 to 6.39
 -- (value expressions) and 8.2 to 8.8 (predicates).
 use Rattle.std.specs.Prelude.{List, [], ◌∷◌, ◌++◌, Option, Some, None}
 use Rattle.sql_grammar.specs.declared.chain_level.ChainLevel.{ChainLevel}
@@ -11,9 +11,12 @@ use Rattle.sql_lex.specs.declared.token.Token.{Token}
 use Rattle.sql_lex.specs.declared.word.Word.{Word}
 use Rattle.sql_lex.specs.declared.word.Word.TheVariants as w
 use Rattle.sql_lex.specs.declared.sign.Sign.TheVariants as s
+use Rattle.sql_values.specs.declared.operators.Comparison.{Comparison}
 use Rattle.sql_values.specs.declared.operators.Comparison.TheVariants as cmp
 use Rattle.sql_values.specs.declared.operators.Operator.TheVariants as op
 use Rattle.syntax_trees.specs.declared.anchor.Anchor.{Anchor}
+use Rattle.syntax_trees.specs.declared.anchor.ColumnName.{ColumnName}
+use Rattle.syntax_trees.specs.declared.anchor.Ident.{Ident}
 use Rattle.syntax_trees.specs.declared.data_type.DataType.{DataType}
 use Rattle.syntax_trees.specs.declared.expr.ChainOperator.{ChainOperator}
 use Rattle.syntax_trees.specs.declared.expr.ChainOperator.TheVariants as chain_operator
@@ -27,7 +30,7 @@ use Rattle.syntax_trees.specs.declared.expr.Operation.TheVariants as operation
 use Rattle.syntax_trees.specs.declared.expr.TruthTest.{TruthTest}
 use Rattle.syntax_trees.specs.declared.expr.TruthTest.TheVariants as test
 use Rattle.token_grammar.specs.Grammar.{token, nested, optional, many}
-use Rattle.token_grammar.specs.Notation.{word, number, text, ◌~◌, ◌~>◌, ◌or◌, ◌=>◌, number_of, text_of, followed, joined}
+use Rattle.token_grammar.specs.Notation.{word, sign, number, text, ◌~◌, ◌~>◌, ◌or◌, ◌=>◌, number_of, text_of, followed, joined}
 use Rattle.sql_grammar.specs.Trees.{G, anchor_of, only, if_one, choice, bracketed, ident, data_type, Arguments, Exprs, Bracketed, Operands, Cases}
 
 -- ---- literals, names, calls, brackets
@@ -44,9 +47,24 @@ literal =
     or (λ t. (literal_of.Text (text_of t.lexeme), anchor_of t)) => text
     or constant
 
--- name | name '(' [e {',' e}] ')'
+-- a name alone, and one with the name of its FROM item before it
+abbrev pub unqualified : Ident → ColumnName
+unqualified name = record { qualifier = None; name = name }
+
+abbrev pub qualified : Ident → Ident → ColumnName
+qualified qualifier name = record { qualifier = Some qualifier; name = name }
+
+-- '.' name
+unfoldable pub dotted : G Ident
+dotted = sign s.Period ~> ident
+
+-- column := name ['.' name], and a call: name '(' [e {',' e}] ')'
 unfoldable pub named : G Expr
-named = (λ p. followed e.Name p.1 p.0) => ident ~ optional ((λ args i. e.Call i args) => bracketed Arguments)
+named =
+    (λ p. followed (λ i. e.Name (unqualified i)) p.1 p.0) => ident
+    ~ optional (
+    (λ args i. e.Call i args) => bracketed Arguments
+    or (λ name i. e.Name (qualified i name)) => dotted)
 
 -- ---- words with operands
 
@@ -139,14 +157,18 @@ sum = chain_by level.Additive term
 
 -- ---- predicates
 
+-- cmp := '=' | '<>' | '<' | '<=' | '>' | '>='
+unfoldable pub comparison_sign : G (Comparison × Anchor)
+comparison_sign =
+    choice (kind.Sign s.Equals, cmp.Equals)
+    ((kind.Sign s.NotEquals, cmp.NotEquals)
+    ∷ (kind.Sign s.LessThan, cmp.LessThan)
+    ∷ (kind.Sign s.LessThanOrEquals, cmp.LessThanOrEquals)
+    ∷ (kind.Sign s.GreaterThan, cmp.GreaterThan)
+    ∷ (kind.Sign s.GreaterThanOrEquals, cmp.GreaterThanOrEquals) ∷ [])
+
 unfoldable pub comparison : G (Operation × Anchor)
-comparison =
-    choice (kind.Sign s.Equals, operation.Compare cmp.Equals)
-    ((kind.Sign s.NotEquals, operation.Compare cmp.NotEquals)
-    ∷ (kind.Sign s.LessThan, operation.Compare cmp.LessThan)
-    ∷ (kind.Sign s.LessThanOrEquals, operation.Compare cmp.LessThanOrEquals)
-    ∷ (kind.Sign s.GreaterThan, operation.Compare cmp.GreaterThan)
-    ∷ (kind.Sign s.GreaterThanOrEquals, operation.Compare cmp.GreaterThanOrEquals) ∷ [])
+comparison = (λ p. (operation.Compare p.0, p.1)) => comparison_sign
 
 -- cmp sum
 unfoldable pub compared : G ((Operation × Anchor) × List Expr)

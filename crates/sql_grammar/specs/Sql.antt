@@ -7,14 +7,14 @@ use Rattle.syntax_trees.specs.declared.statement.Stmt.TheVariants as stmt
 use Rattle.token_grammar.specs.Grammar.{optional}
 use Rattle.token_grammar.specs.Notation.{sign, ◌<~◌, ◌or◌, ◌=>◌}
 use Rattle.sql_lex.specs.declared.token.Kind.{Kind}
-use Rattle.sql_grammar.specs.Trees.{Rule, Tree, G, if_any, varchar_length, Columns, Parameters, Length, Arguments, Exprs, Bracketed, Operands, Cases}
+use Rattle.sql_grammar.specs.Trees.{Rule, Tree, G, if_any, varchar_length, Columns, Parameters, Length, Arguments, Exprs, Bracketed, Operands, Subquery, Names, Cases}
 use Rattle.sql_grammar.specs.Expressions.{expr, exprs, operands, cases}
-use Rattle.sql_grammar.specs.Queries.{query}
+use Rattle.sql_grammar.specs.Queries.{idents, query, ordered_query}
 use Rattle.sql_grammar.specs.Writing.{dml}
 use Rattle.sql_grammar.specs.Definitions.{columns, parameters, ddl}
 
 unfoldable pub unended : G Stmt
-unended = ddl or dml or stmt.Query => query
+unended = ddl or dml or stmt.Query => ordered_query
 
 unfoldable pub statement : G Stmt
 statement = unended <~ sign s.Semicolon
@@ -28,6 +28,8 @@ rules Arguments = if_any => optional exprs
 rules Exprs = exprs
 rules Bracketed = expr
 rules (Operands f) = operands f
+rules Subquery = query
+rules Names = idents
 rules Cases = cases
 
 -- the token that closes each
@@ -39,4 +41,6 @@ shut Arguments = kind.Sign s.RightParen
 shut Exprs = kind.Sign s.RightParen
 shut Bracketed = kind.Sign s.RightParen
 shut (Operands f) = kind.Sign s.RightParen
+shut Subquery = kind.Sign s.RightParen
+shut Names = kind.Sign s.RightParen
 shut Cases = kind.Word w.End

@@ -14,6 +14,7 @@ use Rattle.syntax_trees.specs.declared.data_type.TypeName.{TypeName}
 use Rattle.syntax_trees.specs.declared.data_type.TypeName.TheVariants as type
 use Rattle.syntax_trees.specs.declared.expr.Expr.{Expr}
 use Rattle.syntax_trees.specs.declared.expr.Operation.{Operation}
+use Rattle.syntax_trees.specs.declared.query.Query.{Query}
 use Rattle.syntax_trees.specs.declared.statement.Column.{Column}
 use Rattle.syntax_trees.specs.declared.statement.Parameter.{Parameter}
 use Rattle.token_grammar.specs.Grammar.{Grammar, token, nested}
@@ -22,7 +23,8 @@ use Rattle.token_grammar.specs.Notation.{word, name, number, ◌~◌, ◌or◌, 
 -- what stands in a construct
 pub data Rule : Type 0 where
   -- between two brackets: a table's columns; a function's parameters; the length of VARCHAR; the
-  -- arguments of a call; one expression or more; one expression; the operands of a word
+  -- arguments of a call; one expression or more; one expression; the operands of a word; a query;
+  -- the names of a derived table's columns
   Columns : Rule
   Parameters : Rule
   Length : Rule
@@ -30,6 +32,8 @@ pub data Rule : Type 0 where
   Exprs : Rule
   Bracketed : Rule
   Operands : FunctionWord → Rule
+  Subquery : Rule
+  Names : Rule
   -- between CASE and END
   Cases : Rule
 
@@ -41,6 +45,8 @@ Tree Arguments = List Expr
 Tree Exprs = List Expr
 Tree Bracketed = Expr
 Tree (Operands f) = Operation × List Expr
+Tree Subquery = Query
+Tree Names = List Ident
 Tree Cases = Operation × List Expr
 
 abbrev pub G : Type 0 → Type 1

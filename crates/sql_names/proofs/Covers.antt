@@ -9,7 +9,7 @@ use Rattle.name_faults.specs.declared.fault.FaultKind.{FaultKind}
 use Rattle.name_faults.specs.Faults.{fault_if}
 use Rattle.catalog_store.specs.declared.entry.Head.{Head}
 use Rattle.sql_names.specs.Names.{head_in, head_named}
-use Rattle.sql_names.specs.Statements.{height_of, height_named, greatest_height}
+use Rattle.sql_names.specs.Heights.{height_of, height_named, greatest_height}
 
 -- the calls name what is used, and fit below each height above that
 abbrev pub Covers : Catalog → List (List ℕ) → List CallPlace → Type 0

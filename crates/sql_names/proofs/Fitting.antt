@@ -13,11 +13,12 @@ use Rattle.catalog_store.specs.declared.entry.Head.{Head}
 use Rattle.name_faults.specs.Faults.{Noted}
 use Rattle.name_kinds.specs.Words.{value_of}
 use Rattle.sql_values.specs.declared.value.Value.TheVariants.{Null}
-use Rattle.sql_names.specs.declared.sight.Found.{Found}
-use Rattle.sql_names.specs.declared.sight.Found.TheVariants.{Column, Guessed, Variable, Unknown}
+use Rattle.names_in_sight.specs.declared.sight.Found.{Found}
+use Rattle.names_in_sight.specs.declared.sight.Found.TheVariants.{Column, Guessed, Variable, Several, Unknown}
 use Rattle.sql_names.specs.declared.typed.Operands.{Operands}
-use Rattle.sql_names.specs.Sight.{Seen}
-use Rattle.sql_names.specs.Names.{Judge, JudgedLink, inner, look, judged_link, expr_step, link_step, all_of, named, stands, operated, chained, asked_of, asked_by_chain, called, call_faults, argument_faults, head_named}
+use Rattle.names_in_sight.specs.Sight.{Seen, stands_for}
+use Rattle.syntax_trees.specs.Columns.{anchor_of_column}
+use Rattle.sql_names.specs.Names.{Judge, JudgedLink, inner, look, judged_link, expr_step, link_step, all_of, named, operated, chained, asked_of, asked_by_chain, called, call_faults, argument_faults, head_named}
 use Rattle.sql_names.proofs.Calls.{calls-Literal, calls-Column, calls-Variable, calls-Call, calls-tree, calls-chain}
 use Rattle.sql_names.proofs.Covers.{Covers, front_nil, back_nil, no_fault, equal, covers-nil, covers-append, covers-call}
 
@@ -70,6 +71,7 @@ named-cover : (s : Seen) (at : Anchor) (found : Found) → (named at found).faul
 named-cover s at (Column level place kind) p = subst (Covers s.catalog []) (sym (calls-Column level place)) (covers-nil s.catalog)
 named-cover s at Guessed p = subst (Covers s.catalog []) (sym (calls-Literal Null)) (covers-nil s.catalog)
 named-cover s at (Variable place kind) p = subst (Covers s.catalog []) (sym (calls-Variable place)) (covers-nil s.catalog)
+named-cover s at Several p = absurd cc
 named-cover s at Unknown p = absurd cc
 
 operation-cover : (s : Seen) (at : Anchor) (operation : Operation) (so : Noted Operands) → (so.faults ≡ [] → CoversAll s so) → (operated at operation so).faults ≡ []
@@ -115,7 +117,7 @@ layer y = map-Expr Shown ShownLink Expr Link (λ e. e.0) (λ l. l.0) y
 
 at-layer : (y : Expr-F Shown ShownLink) → Fitting (expr_step (map-Expr Expr Link Judge JudgedLink inner judged_link (layer y)))
 at-layer (Expr-F.Literal at l) s p = subst (Covers s.catalog []) (sym (calls-Literal (value_of l))) (covers-nil s.catalog)
-at-layer (Expr-F.Name i) s p = named-cover s i.anchor (stands i s) p
+at-layer (Expr-F.Name n) s p = named-cover s (anchor_of_column n) (stands_for n s) p
 at-layer (Expr-F.Call i es) s p = call-cover s i (judges es) (head_named i.name s.catalog) (shown-fit es) refl p
 at-layer (Expr-F.Operation at operation es) s p = operation-cover s at operation (all_of s (judges es)) (operands-cover s (judges es) (shown-fit es)) p
 at-layer (Expr-F.Chain first rest) s p = chain-cover s (links rest) (inner first.0) first.1 (links-fit rest) p

@@ -1,8 +1,10 @@
-pub mod Index
 pub mod Steps
+pub mod Turns
+pub mod Layers
 pub mod Covers
 pub mod Calls
 pub mod Fitting
+pub mod Planning
 pub mod Asked
-pub mod Made
 pub mod Rows
+pub mod Laws

@@ -1,9 +1,6 @@
 -- One step of each loop over expressions, and the forms that have two parts, over plain variables.
-use Rattle.std.proofs.Common.{◌≡◌, refl, sym, ap, ap₂, ◌∙◌, List, [], ◌∷◌, ◌++◌, append_assoc, Option, ℕ, ◌+◌, ◌<◌, suc, zero, Bool, map, take, drop, length, get_or, add-one}
-use Rattle.std.specs.Prelude.{is_some}
-use Rattle.std.specs.List.{flat_map}
-use Rattle.std.proofs.Math.Seq.{drop-cons, take-suc}
-use Rattle.std.proofs.lemmas.List.{map-append}
+use Rattle.std.proofs.Common.{◌≡◌, refl, sym, ap, ap₂, ◌∙◌, List, [], ◌∷◌, ◌++◌, append_assoc, Option, ℕ, ◌+◌, ◌<◌, suc, map, drop, length, get_or, add-one}
+use Rattle.std.proofs.Math.Seq.{drop-cons}
 use Rattle.syntax_trees.specs.declared.anchor.Anchor.{Anchor}
 use Rattle.syntax_trees.specs.declared.anchor.Ident.{Ident}
 use Rattle.syntax_trees.specs.declared.expr.ChainOperator.{ChainOperator}
@@ -12,24 +9,16 @@ use Rattle.syntax_trees.specs.declared.expr.Expr.TheOpen.{Expr-F}
 use Rattle.syntax_trees.specs.declared.expr.Expr.TheVariants.{rolls-Chain}
 use Rattle.syntax_trees.specs.declared.expr.Expr.TheViews as tree
 use Rattle.syntax_trees.specs.declared.expr.Link.{Link, fold_out-Link}
-use Rattle.syntax_trees.specs.declared.query.ValueRow.{ValueRow}
 use Rattle.bound_trees.specs.declared.expr.BoundExpr.{BoundExpr}
-use Rattle.bound_trees.specs.declared.statement.BoundRow.{BoundRow}
 use Rattle.name_faults.specs.declared.notes.Notes.{Notes}
 use Rattle.name_faults.specs.declared.fault.Fault.{Fault}
-use Rattle.name_faults.specs.declared.fault.FaultKind.TheVariants.{DuplicateName}
-use Rattle.name_faults.specs.Faults.{Noted, noted, taken, behind, fault_if}
+use Rattle.name_faults.specs.Faults.{Noted, noted, taken, behind}
 use Rattle.name_faults.proofs.Laws.{noted_append, taken_behind}
-use Rattle.name_kinds.specs.declared.kind.Kind.{Kind}
 use Rattle.name_kinds.specs.declared.kind.Head.{Head as OperandHead}
 use Rattle.catalog_store.specs.declared.entry.Head.{Head}
-use Rattle.name_kinds.specs.Kinds.{joined_row}
 use Rattle.sql_names.specs.declared.typed.Typed.{Typed}
 use Rattle.sql_names.specs.declared.typed.Operands.{Operands}
-use Rattle.sql_names.specs.Queries.{row_of, judged_row, judged_rows}
-use Rattle.sql_names.specs.Statements.{again, repeated}
-use Rattle.sql_names.specs.Index.{place_of}
-use Rattle.sql_names.specs.Sight.{Seen}
+use Rattle.names_in_sight.specs.Sight.{Seen}
 use Rattle.sql_names.specs.Names.{Judge, JudgedLink, inner, look, judge, judge_all, judge_links, judge_call, judged_link, judge_chain, expr_step, link_step, in_front, with_last, all_of, made, chained, chained_typed, asked_by_chain, called, call_head, call_typed, argument_faults, head_named}
 
 pub unrolled : {A : Type 0} (xs : List A) (i : ℕ) (x : A) → i < length xs → x ≡ get_or xs i x → drop i xs ≡ x ∷ drop (i + 1) xs
@@ -131,51 +120,3 @@ chain_notes s e first ls n n1 n2 l t others is p v q w r =
     next n n1 _ (judge first s) (made value asked (judge_links ls s)) p
     (made_notes n1 n2 l (judge_links ls s) others value asked q w (r ∙ ap (λ z. noted n2.least (asked_by_chain (operators ls) (places ls) z others)) v))
     ∙ ap (λ x. taken n x) (sym (chain_whole e first ls s is))
-
--- ---- rows of VALUES
-
-module _ (s : Seen) (at : Anchor) (targets : List Kind) where
-  pub rows-value : (rs : List ValueRow) (i : ℕ) (r : ValueRow) (ks more-kinds : List Kind) (found more : List BoundRow) (o : Operands) → i < length rs → r ≡ get_or rs i r
-      → o ≡ (judged_row at targets s ks r).value → more-kinds ≡ joined_row ks o.heads → more ≡ found ++ row_of o.trees ∷ []
-      → more ++ (judged_rows at targets s (drop (i + 1) rs) more-kinds).value ≡ found ++ (judged_rows at targets s (drop i rs) ks).value
-  rows-value rs i r ks more-kinds found more o h is p k q =
-      let row = judged_row at targets s ks r in
-      pushed found more (judged_rows at targets s (drop (i + 1) rs) more-kinds).value (row_of o.trees) (row_of row.value.trees) (ap (λ (z : Operands). row_of z.trees) p) q
-      ∙ ap (λ z. found ++ (row_of row.value.trees ∷ (judged_rows at targets s (drop (i + 1) rs) z).value)) (k ∙ ap (λ (z : Operands). joined_row ks z.heads) p)
-      ∙ ap (λ d. found ++ (judged_rows at targets s d ks).value) (sym (unrolled rs i r h is))
-
-  pub rows-notes : (rs : List ValueRow) (i : ℕ) (r : ValueRow) (ks more-kinds : List Kind) (n m : Notes) (o : Operands) → i < length rs → r ≡ get_or rs i r
-      → o ≡ (judged_row at targets s ks r).value → more-kinds ≡ joined_row ks o.heads → m ≡ taken n (judged_row at targets s ks r)
-      → taken m (judged_rows at targets s (drop (i + 1) rs) more-kinds) ≡ taken n (judged_rows at targets s (drop i rs) ks)
-  rows-notes rs i r ks more-kinds n m o h is p k q =
-      let row = judged_row at targets s ks r in
-      ap (λ z. taken m (judged_rows at targets s (drop (i + 1) rs) z)) (k ∙ ap (λ (z : Operands). joined_row ks z.heads) p)
-      ∙ next n m _ row (judged_rows at targets s (drop (i + 1) rs) (joined_row ks row.value.heads)) q refl
-      ∙ ap (λ d. taken n (judged_rows at targets s d ks)) (sym (unrolled rs i r h is))
-
--- names that earlier ones have
-taken-more : {X Y : Type 0} (g : X → Y) (xs : List X) (i : ℕ) (x : X) → i < length xs → x ≡ get_or xs i x → map g (take (i + 1) xs) ≡ map g (take i xs) ++ g x ∷ []
-taken-more g xs i x h e = rw add-one (ap (map g) (take-suc xs i x h) ∙ map-append g (take i xs) _ ∙ ap (λ y. map g (take i xs) ++ g y ∷ []) (sym e))
-
-take-map : {X Y : Type 0} (g : X → Y) (i : ℕ) (xs : List X) → take i (map g xs) ≡ map g (take i xs)
-take-map g zero xs = refl
-take-map g (suc i) [] = refl
-take-map g (suc i) (x ∷ xs) = ap (λ z. g x ∷ z) (take-map g i xs)
-
-pub repeated-more : {X : Type 0} (g : X → Ident) (xs : List X) (names : List (List ℕ)) (i : ℕ) (x : X) (n m : Option Fault) (b : Bool) → i < length xs → x ≡ get_or xs i x
-    → names ≡ map (λ y. (g y).name) xs → b ≡ is_some (place_of (g x).name (take i names)) → m ≡ noted n (fault_if b DuplicateName (g x).anchor)
-    → noted m (repeated (map (λ y. (g y).name) (take (i + 1) xs)) (map g (drop (i + 1) xs))) ≡ noted n (repeated (map (λ y. (g y).name) (take i xs)) (map g (drop i xs)))
-repeated-more g xs names i x n m b h e all q p =
-    let earlier = map (λ y. (g y).name) (take i xs) in
-    let left = repeated (earlier ++ (g x).name ∷ []) (map g (drop (i + 1) xs)) in
-    let here : b ≡ is_some (place_of (g x).name earlier) = q ∙ ap (λ z. is_some (place_of (g x).name z)) (ap (take i) all ∙ take-map (λ y. (g y).name) i xs) in
-    ap (λ z. noted m (repeated z (map g (drop (i + 1) xs)))) (taken-more (λ y. (g y).name) xs i x h e)
-    ∙ ap (λ k. noted k left) (p ∙ ap (λ c. noted n (fault_if c DuplicateName (g x).anchor)) here)
-    ∙ sym (noted_append n (again earlier (g x)) left)
-    ∙ ap (λ d. noted n (repeated earlier (map g d))) (sym (unrolled xs i x h e))
-
--- what each gives, behind what was found
-pub gathered : {X A : Type 0} (f : X → List A) (xs : List X) (i : ℕ) (x : X) (found more : List A) → i < length xs → x ≡ get_or xs i x
-    → more ≡ found ++ f x → more ++ flat_map f (drop (i + 1) xs) ≡ found ++ flat_map f (drop i xs)
-gathered f xs i x found more h e p =
-    ap (λ z. z ++ flat_map f (drop (i + 1) xs)) p ∙ append_assoc found (f x) (flat_map f (drop (i + 1) xs)) ∙ ap (λ d. found ++ flat_map f d) (sym (unrolled xs i x h e))

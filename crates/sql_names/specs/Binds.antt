@@ -1,31 +1,19 @@
--- What a binder answers: the bound tree exactly where there is no fault, and else the least fault,
--- unless memory runs out, which says nothing of the statement.
-use Rattle.std.specs.Prelude.{◌≡◌, true, [], None, Some, Result, Ok, Err}
-use Rattle.syntax_trees.specs.declared.statement.Stmt.{Stmt}
+-- What a binder answers: the bound tree exactly where there is no fault, and else the least fault, unless memory runs out, which says nothing of
+-- what is bound.
+use Rattle.std.specs.Prelude.{◌≡◌, true, [], Some, Result, Ok, Err}
 use Rattle.rel_algebra.specs.Plain.{planned}
-use Rattle.catalog_store.specs.Catalog.{Catalog, object_named}
-use Rattle.catalog_store.specs.Entries.{ObjectFits}
-use Rattle.catalog_store.specs.Planning.{AllPlanned}
+use Rattle.bound_trees.specs.declared.query.BoundQuery.{BoundQuery}
+use Rattle.catalog_store.specs.Catalog.{Catalog}
 use Rattle.catalog_store.specs.View.{query_of}
 use Rattle.name_faults.specs.Faults.{Noted, least}
 use Rattle.sql_names.specs.declared.fault.NameFault.{NameFault}
 use Rattle.sql_names.specs.declared.fault.NameFault.TheVariants as fault
-use Rattle.sql_names.specs.declared.statement.BoundStmt.{BoundStmt}
-use Rattle.sql_names.specs.declared.statement.BoundStmt.TheVariants as bound
-use Rattle.sql_names.specs.Statements.{judged_statement}
 
 abbrev pub Binds : {A : Type 0} → Noted A → Result A NameFault → Type 0
 Binds noted (Ok b) = (noted.faults ≡ []) × (b ≡ noted.value)
 Binds noted (Err (fault.Fault f)) = least noted.faults ≡ Some f
 Binds noted (Err fault.NoMemory) = Unit {0}
 
--- What is made has a name that stands for nothing, and fits the catalog. A query has a plan: so have the functions that it calls, and
--- the rows of VALUES are of one length.
-abbrev pub StatementFits : Catalog → BoundStmt → Type 0
-StatementFits catalog (bound.Create name object) = (object_named name catalog ≡ None) × ObjectFits catalog object
-StatementFits catalog (bound.Insert b) = planned (query_of catalog b.source) ≡ true
-StatementFits catalog (bound.Query q) = planned (query_of catalog q) ≡ true
-
--- a statement without faults fits a catalog whose functions have plans
-abbrev pub FaultlessFits : Type 0
-FaultlessFits = (s : Stmt) (catalog : Catalog) → AllPlanned catalog → (judged_statement s catalog).faults ≡ [] → StatementFits catalog (judged_statement s catalog).value
+-- a query has a plan: so have the functions that it calls, and the rows of each VALUES in it are of one length
+abbrev pub HasPlan : Catalog → BoundQuery → Type 0
+HasPlan catalog q = planned (query_of catalog q) ≡ true

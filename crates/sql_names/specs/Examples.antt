@@ -1,46 +1,40 @@
--- Worked rows: one for each kind of fault and each rule of its place, and what a statement without
--- faults is bound to.
-use Rattle.std.specs.Prelude.{ℕ, pos, false, ◌≡◌, List, [], ◌∷◌, map, Option, None, Some, codes}
-use Rattle.sql_values.specs.declared.value.SqlType.TheVariants.{Integer}
-use Rattle.sql_values.specs.declared.operators.Operator.TheVariants.{Add, Divide, Concatenate}
+-- Worked rows of queries: what names stand for in joins and derived tables, the faults at their places, and what is bound.
+use Rattle.std.specs.Prelude.{ℕ, ◌+◌, pos, true, false, ◌≡◌, List, [], ◌∷◌, None, Some, codes}
+use Rattle.sql_values.specs.declared.value.SqlType.{SqlType}
+use Rattle.sql_values.specs.declared.value.SqlType.TheVariants as type
 use Rattle.sql_values.specs.declared.operators.Comparison.TheVariants.{Equals}
 use Rattle.syntax_trees.specs.declared.anchor.Anchor.{Anchor}
 use Rattle.syntax_trees.specs.declared.anchor.Ident.{Ident}
-use Rattle.syntax_trees.specs.declared.data_type.DataType.{DataType}
-use Rattle.syntax_trees.specs.declared.data_type.TypeName.TheVariants as written
 use Rattle.syntax_trees.specs.declared.expr.ChainOperator.{ChainOperator}
-use Rattle.syntax_trees.specs.declared.expr.ChainOperator.TheVariants.{Or, And, Value}
+use Rattle.syntax_trees.specs.declared.expr.ChainOperator.TheVariants.{And}
 use Rattle.syntax_trees.specs.declared.expr.Literal.TheVariants as literal
 use Rattle.syntax_trees.specs.declared.expr.Operation.{Operation as OperationOf}
-use Rattle.syntax_trees.specs.declared.expr.Operation.TheVariants.{Plus, Minus, Not, Compare, Is, IsNot, In, NotIn, Modulo, CharLength, Substring, Cast, Coalesce, Case, CaseOf}
-use Rattle.syntax_trees.specs.declared.expr.TruthTest.TheVariants as test
-use Rattle.syntax_trees.specs.declared.expr.Expr.{Expr as Tree}
-use Rattle.syntax_trees.specs.declared.query.Query.{Query}
-use Rattle.syntax_trees.specs.declared.query.Query.TheVariants as query
-use Rattle.syntax_trees.specs.declared.query.ValueRow.{ValueRow}
-use Rattle.syntax_trees.specs.declared.query.ValueRow.TheVariants.{Row}
-use Rattle.syntax_trees.specs.declared.query.FromItem.TheVariants.{Table}
-use Rattle.syntax_trees.specs.declared.statement.Column.{Column}
-use Rattle.syntax_trees.specs.declared.statement.CreateFunction.{CreateFunction}
-use Rattle.syntax_trees.specs.declared.statement.Insert.{Insert}
-use Rattle.syntax_trees.specs.declared.statement.Parameter.{Parameter}
-use Rattle.syntax_trees.specs.declared.statement.Stmt.{Stmt}
-use Rattle.syntax_trees.specs.declared.statement.Stmt.TheVariants as stmt
-use Rattle.syntax_trees.specs.declared.statement.Constraint.{Constraint}
-use Rattle.syntax_trees.specs.declared.statement.Constraint.TheVariants.{NotNull, PrimaryKey}
+use Rattle.syntax_trees.specs.declared.expr.Operation.TheVariants.{Minus, Compare}
+use Rattle.syntax_trees.specs.declared.query.OrderedQuery.{OrderedQuery}
+use Rattle.syntax_trees.specs.declared.query.SortSpecification.{SortSpecification}
 use Rattle.row_types.specs.declared.ColumnType.{ColumnType}
 use Rattle.bound_trees.specs.declared.expr.BoundExpr.{BoundExpr}
 use Rattle.bound_trees.specs.declared.expr.BoundExpr.TheVariants as bound
-use Rattle.bound_trees.specs.declared.expr.BoundOperation.TheVariants.{NullTest, Opposite}
+use Rattle.bound_trees.specs.declared.expr.BoundOperation.TheVariants as word_of
+use Rattle.bound_trees.specs.declared.query.BoundFromItem.TheVariants as from
+use Rattle.bound_trees.specs.declared.query.BoundQuery.{BoundQuery}
+use Rattle.bound_trees.specs.declared.query.BoundQuery.TheVariants as query
+use Rattle.bound_trees.specs.declared.query.BoundSource.{BoundSource}
+use Rattle.bound_trees.specs.declared.query.BoundSource.TheVariants as source
 use Rattle.catalog_store.specs.Catalog.{Catalog, TableObject, FunctionObject, missing}
 use Rattle.name_faults.specs.declared.fault.Fault.{Fault}
 use Rattle.name_faults.specs.declared.fault.FaultKind.{FaultKind}
-use Rattle.name_faults.specs.declared.fault.FaultKind.TheVariants.{UnknownName, DuplicateName, TypeMismatch, WrongCount, NotPermitted, TooHigh}
-use Rattle.name_faults.specs.Faults.{least}
-use Rattle.sql_names.specs.declared.statement.BoundStmt.TheVariants as bound_as
-use Rattle.sql_names.specs.Queries.{select_of}
-use Rattle.sql_names.specs.Statements.{judged_statement}
-use Rattle.sql_names.specs.Written.{Expr, Exprs, Literal, Name, Call, Operation, Chain, NoLink, MoreLinks, expr_of, exprs_of, exprs}
+use Rattle.name_faults.specs.declared.fault.FaultKind.TheVariants.{UnknownName, DuplicateName, TypeMismatch, WrongCount}
+use Rattle.name_faults.specs.Faults.{Noted, least}
+use Rattle.name_kinds.specs.Conjuncts.{conjuncts_of}
+use Rattle.name_kinds.specs.declared.kind.Kind.{Kind}
+use Rattle.name_kinds.specs.declared.kind.Kind.TheVariants.{Integer, Text}
+use Rattle.names_in_sight.specs.declared.output.Output.{Output}
+use Rattle.names_in_sight.specs.Sight.{at_top}
+use Rattle.sql_names.specs.declared.typed.TypedQuery.{TypedQuery}
+use Rattle.sql_names.specs.Order.{judge_ordered}
+use Rattle.sql_names.specs.Queries.{judge_query}
+use Rattle.sql_names.specs.Written.{Expr, Literal, Name, Call, Operation, Chain, NoLink, MoreLinks, exprs, Item, All, Value, Query, Select, Values, From, Comma, Cross, Inner, Left, Ref, Table, Derived, froms, query_of}
 
 abbrev pub at : ℕ → Anchor
 at token = record { token = token; line = 1; column = token }
@@ -66,7 +60,11 @@ abbrev pub truth : ℕ → Expr
 truth token = Literal (at token) literal.Unknown
 
 abbrev pub name : List ℕ → ℕ → Expr
-name n token = Name (called n token)
+name n token = Name (record { qualifier = None; name = called n token })
+
+-- q.c, with the token of q; c stands two tokens further
+abbrev pub qualified : List ℕ → ℕ → List ℕ → Expr
+qualified q token n = Name (record { qualifier = Some (called q token); name = called n (token + 2) })
 
 abbrev pub call : List ℕ → ℕ → List Expr → Expr
 call n token args = Call (called n token) (exprs args)
@@ -78,163 +76,171 @@ word operation token es = Operation (at token) operation (exprs es)
 abbrev pub chain : Expr → ChainOperator → ℕ → Expr → Expr
 chain left operator token right = Chain left (MoreLinks operator (at token) right NoLink)
 
--- ---- a table T (K INTEGER PRIMARY KEY, A INTEGER), and functions F (x) of the greatest height and E
--- (x) of an equal tree
+abbrev pub equal : Expr → ℕ → Expr → Expr
+equal left token right = word (Compare Equals) token (left ∷ right ∷ [])
 
-abbrev pub column : List ℕ → ColumnType
-column n = record { name = n; data_type = Integer; not_null = false }
+-- ---- tables T (K INTEGER PRIMARY KEY, A INTEGER) and S (A INTEGER PRIMARY KEY, B VARCHAR(9)), and functions F (x) of the greatest height and E (x)
+-- of an equal tree
+
+abbrev pub column : List ℕ → SqlType → ColumnType
+column n data_type = record { name = n; data_type = data_type; not_null = false }
 
 abbrev pub catalog : Catalog
-catalog = record { name = codes "T"; object = TableObject (record { columns = column (codes "K") ∷ column (codes "A") ∷ []; key = 0 ∷ [] }) }
-    ∷ record { name = codes "F"; object = FunctionObject (record { parameters = Integer ∷ []; returns = Integer; height = 8; uses = []; routine = missing }) }
-    ∷ record { name = codes "E"; object = FunctionObject (record { parameters = Integer ∷ []; returns = Integer; height = 1; uses = []; routine = missing }) } ∷ []
+catalog = record { name = codes "T"; object = TableObject (record { columns = column (codes "K") type.Integer ∷ column (codes "A") type.Integer ∷ []; key = 0 ∷ [] }) }
+    ∷ record { name = codes "S"; object = TableObject (record { columns = column (codes "A") type.Integer ∷ column (codes "B") (type.Varchar 9) ∷ []; key = 0 ∷ [] }) }
+    ∷ record { name = codes "F"; object = FunctionObject (record { parameters = type.Integer ∷ []; returns = type.Integer; height = 8; uses = []; routine = missing }) }
+    ∷ record { name = codes "E"; object = FunctionObject (record { parameters = type.Integer ∷ []; returns = type.Integer; height = 1; uses = []; routine = missing }) } ∷ []
 
--- ---- statements
+-- ---- queries
 
-abbrev pub rows : List Exprs → List ValueRow
-rows rs = map (λ es. Row (exprs_of es)) rs
+-- an item without a name of its own, one with a name, and `*`
+abbrev pub item : Expr → Item
+item e = Value e None
 
-abbrev pub values_query : List (List Expr) → Query
-values_query rs = query.Values (record { anchor = at 3; rows = rows (map exprs rs) })
+abbrev pub named : Expr → List ℕ → ℕ → Item
+named e n token = Value e (Some (called n token))
 
--- VALUES rows
-abbrev pub values : List (List Expr) → Stmt
-values rs = stmt.Query (values_query rs)
+abbrev pub star : ℕ → Item
+star token = All (at token)
 
--- INSERT INTO name VALUES rows
-abbrev pub insert_of : List ℕ → List (List Expr) → Insert
-insert_of n rs = record { anchor = at 0; table = called n 2; source = values_query rs }
+-- a table, and one by another name
+abbrev pub table : List ℕ → ℕ → Ref
+table n token = Table (called n token) None
 
-abbrev pub insert : List ℕ → List (List Expr) → Stmt
-insert n rs = stmt.Insert (insert_of n rs)
+abbrev pub aliased : List ℕ → ℕ → List ℕ → ℕ → Ref
+aliased n token alias place = Table (called n token) (Some (called alias place))
 
-abbrev pub filter_of : Option Expr → Option Tree
-filter_of None = None
-filter_of (Some e) = Some (expr_of e)
+-- a derived table D, with its token, and names of its columns
+abbrev pub derived : Query → ℕ → List Ident → Ref
+derived q token names = Derived q (called (codes "D") token) names
 
--- SELECT items FROM name WHERE filter
-abbrev pub select : List ℕ → List Expr → Option Expr → Stmt
-select n items filter = stmt.Query (query.Select (record { anchor = at 0; items = exprs_of (exprs items); from = Table (called n 90) ∷ []; filter = filter_of filter }))
+abbrev pub select : List Item → List From → Query
+select is fs = Select (at 0) is (froms fs) None
 
--- CREATE TABLE name (columns)
-abbrev pub integer : ℕ → DataType
-integer token = record { anchor = at token; name = written.Integer }
+abbrev pub select_where : List Item → List From → Expr → Query
+select_where is fs filter = Select (at 0) is (froms fs) (Some filter)
 
-abbrev pub boolean : ℕ → DataType
-boolean token = record { anchor = at token; name = written.Boolean }
+abbrev pub judged : Query → Noted TypedQuery
+judged q = judge_query [] (query_of q) (at_top catalog)
 
--- VARCHAR (n), and the token of n
-abbrev pub varchar : ℕ → ℕ → ℕ → DataType
-varchar token place n = record { anchor = at token; name = written.Varchar (at place) (pos n) }
-
-abbrev pub new_column : List ℕ → ℕ → DataType → List Constraint → Column
-new_column n token t constraints = record { name = called n token; data_type = t; constraints = constraints }
-
-abbrev pub table : List ℕ → List Column → Stmt
-table n columns = stmt.CreateTable (record { anchor = at 0; name = called n 2; columns = columns })
-
--- CREATE FUNCTION name (parameters) RETURNS type RETURN result
-abbrev pub new_parameter : List ℕ → ℕ → DataType → Parameter
-new_parameter n token t = record { name = called n token; data_type = t }
-
-abbrev pub new_function : List ℕ → List Parameter → DataType → Expr → CreateFunction
-new_function n parameters to result = record { anchor = at 0; name = called n 2; parameters = parameters; returns = to; result = expr_of result }
-
-abbrev pub function : List ℕ → List Parameter → DataType → Expr → Stmt
-function n parameters to result = stmt.CreateFunction (new_function n parameters to result)
-
-abbrev pub Least : Stmt → FaultKind → ℕ → Type 0
-Least s kind token = least (judged_statement s catalog).faults ≡ Some (fault kind token)
+abbrev pub Least : Query → FaultKind → ℕ → Type 0
+Least q kind token = least (judged q).faults ≡ Some (fault kind token)
 
 -- no fault but this one
-abbrev pub Only : Stmt → FaultKind → ℕ → Type 0
-Only s kind token = (judged_statement s catalog).faults ≡ fault kind token ∷ []
+abbrev pub Only : Query → FaultKind → ℕ → Type 0
+Only q kind token = (judged q).faults ≡ fault kind token ∷ []
 
--- ---- names, numbers of values, and heights
+abbrev pub Free : Query → Type 0
+Free q = (judged q).faults ≡ []
 
-pub record EachFaultAtItsPlace : Type 0 where
-  pub unknown_table : Least (insert (codes "U") ((null 5 ∷ []) ∷ [])) UnknownName 2
-  pub function_as_table : Least (select (codes "F") (null 1 ∷ []) None) UnknownName 90
-  pub unknown_column : Least (select (codes "T") (null 1 ∷ name (codes "B") 3 ∷ []) None) UnknownName 3
-  pub column_of_unknown_table : Least (select (codes "U") (name (codes "B") 1 ∷ []) None) UnknownName 90
-  pub no_column_in_values : Least (insert (codes "T") ((null 5 ∷ name (codes "A") 7 ∷ []) ∷ [])) UnknownName 7
-  pub unknown_function : Least (select (codes "T") (call (codes "G") 1 (null 3 ∷ []) ∷ []) None) UnknownName 1
-  pub table_as_function : Least (select (codes "T") (call (codes "T") 1 [] ∷ []) None) UnknownName 1
-  pub self_call : Least (function (codes "G") (new_parameter (codes "X") 4 (integer 5) ∷ []) (integer 8) (call (codes "G") 10 (name (codes "X") 12 ∷ []))) UnknownName 10
-  pub taken_name : Least (function (codes "F") [] (integer 8) (null 10)) DuplicateName 2
-  pub second_parameter : Least (function (codes "G") (new_parameter (codes "X") 4 (integer 5) ∷ new_parameter (codes "X") 7 (integer 8) ∷ []) (integer 10) (null 12)) DuplicateName 7
-  pub arguments : Least (select (codes "T") (call (codes "F") 1 [] ∷ []) None) WrongCount 1
-  pub longer_row : Least (values ((null 4 ∷ []) ∷ (null 6 ∷ null 8 ∷ []) ∷ [])) WrongCount 6
-  pub shorter_row : Least (values ((null 4 ∷ null 6 ∷ []) ∷ (null 8 ∷ []) ∷ [])) WrongCount 8
-  pub width_of_the_table : Least (insert (codes "T") ((null 5 ∷ []) ∷ [])) WrongCount 3
-  pub too_high : Least (function (codes "G") [] (integer 8) (call (codes "F") 17 (null 19 ∷ []))) TooHigh 2
-  pub too_high_behind_unknown : Least (function (codes "G") [] (integer 8) (call (codes "H") 17 (call (codes "F") 19 (null 21 ∷ []) ∷ []))) TooHigh 2
-  pub second_column : Least (table (codes "V") (new_column (codes "A") 4 (integer 5) (PrimaryKey (at 6) ∷ []) ∷ new_column (codes "A") 9 (integer 10) [] ∷ [])) DuplicateName 9
-  pub second_key : Least (table (codes "V") (new_column (codes "K") 4 (integer 5) (PrimaryKey (at 6) ∷ NotNull ∷ PrimaryKey (at 10) ∷ []) ∷ [])) DuplicateName 10
-  pub key_of_second_column : Least (table (codes "V") (new_column (codes "K") 4 (integer 5) (PrimaryKey (at 6) ∷ []) ∷ new_column (codes "A") 9 (integer 10) (PrimaryKey (at 11) ∷ []) ∷ [])) DuplicateName 11
-  pub no_key : Least (table (codes "V") (new_column (codes "A") 4 (integer 5) (NotNull ∷ []) ∷ [])) NotPermitted 2
-  pub taken_before_no_key : Least (table (codes "T") (new_column (codes "A") 4 (integer 5) [] ∷ [])) DuplicateName 2
-  pub length_of_a_column : Least (table (codes "V") (new_column (codes "K") 4 (varchar 5 7 4097) (PrimaryKey (at 9) ∷ []) ∷ [])) NotPermitted 7
-  pub free : (judged_statement (table (codes "V") (new_column (codes "A") 4 (boolean 5) (NotNull ∷ []) ∷ new_column (codes "K") 8 (varchar 9 11 4096) (PrimaryKey (at 13) ∷ []) ∷ [])) catalog).faults ≡ []
+-- SELECT A, A FROM T, and SELECT K FROM T
+abbrev pub twice : Query
+twice = Select (at 52) (item (name (codes "A") 53) ∷ item (name (codes "A") 55) ∷ []) (froms (Comma (table (codes "T") 57) ∷ [])) None
 
--- ---- kinds
+abbrev pub once : Query
+once = Select (at 52) (item (name (codes "K") 53) ∷ []) (froms (Comma (table (codes "T") 55) ∷ [])) None
 
-pub record KindsFit : Type 0 where
-  pub addend : Least (select (codes "T") (chain (number 1) (Value Add) 2 (text 3) ∷ []) None) TypeMismatch 3
-  pub dividend : Least (select (codes "T") (chain (text 1) (Value Divide) 2 (number 3) ∷ []) None) TypeMismatch 1
-  pub bars : Least (select (codes "T") (chain (number 1) (Value Concatenate) 2 (text 3) ∷ []) None) TypeMismatch 1
-  pub sign : Least (select (codes "T") (word Minus 1 (text 2 ∷ []) ∷ []) None) TypeMismatch 2
-  pub plus_sign : Least (select (codes "T") (word Plus 1 (truth 2 ∷ []) ∷ []) None) TypeMismatch 2
-  pub modulo : Least (select (codes "T") (word Modulo 1 (number 3 ∷ text 5 ∷ []) ∷ []) None) TypeMismatch 5
-  pub char_length : Least (select (codes "T") (word CharLength 1 (number 3 ∷ []) ∷ []) None) TypeMismatch 3
-  pub substring_text : Least (select (codes "T") (word Substring 1 (number 3 ∷ number 5 ∷ []) ∷ []) None) TypeMismatch 3
-  pub substring_place : Least (select (codes "T") (word Substring 1 (text 3 ∷ text 5 ∷ []) ∷ []) None) TypeMismatch 5
-  pub substring_length : Least (select (codes "T") (word Substring 1 (text 3 ∷ number 5 ∷ truth 7 ∷ []) ∷ []) None) TypeMismatch 7
-  pub and_operand : Least (select (codes "T") (chain (truth 1) (And) 2 (number 3) ∷ []) None) TypeMismatch 3
-  pub or_operand : Least (select (codes "T") (chain (number 1) (Or) 2 (truth 3) ∷ []) None) TypeMismatch 1
-  pub not_operand : Least (select (codes "T") (word Not 1 (text 2 ∷ []) ∷ []) None) TypeMismatch 2
-  pub is_true : Least (select (codes "T") (word (Is test.True) 2 (number 1 ∷ []) ∷ []) None) TypeMismatch 1
-  pub is_not_unknown : Least (select (codes "T") (word (IsNot test.Unknown) 2 (text 1 ∷ []) ∷ []) None) TypeMismatch 1
-  pub where_test : Least (select (codes "T") (null 1 ∷ []) (Some (number 92))) TypeMismatch 92
-  pub when_test : Least (select (codes "T") (word Case 1 (number 3 ∷ number 5 ∷ []) ∷ []) None) TypeMismatch 3
-  pub cast_to_truth : Least (select (codes "T") (word (Cast (boolean 5)) 1 (number 3 ∷ []) ∷ []) None) TypeMismatch 3
-  pub cast_to_number : Least (select (codes "T") (word (Cast (integer 5)) 1 (truth 3 ∷ []) ∷ []) None) TypeMismatch 3
-  pub comparison : Least (select (codes "T") (word (Compare Equals) 2 (number 1 ∷ text 3 ∷ []) ∷ []) None) TypeMismatch 3
-  pub comparison_with_a_chain : Least (select (codes "T") (word (Compare Equals) 2 (text 1 ∷ chain (number 3) (Value Add) 4 (number 5) ∷ []) ∷ []) None) TypeMismatch 4
-  pub in_item : Least (select (codes "T") (word In 2 (number 1 ∷ null 4 ∷ number 6 ∷ text 8 ∷ []) ∷ []) None) TypeMismatch 8
-  pub not_in_item : Least (select (codes "T") (word NotIn 3 (text 1 ∷ number 5 ∷ []) ∷ []) None) TypeMismatch 5
-  pub when_of_an_operand : Least (select (codes "T") (word CaseOf 1 (number 2 ∷ text 4 ∷ number 6 ∷ []) ∷ []) None) TypeMismatch 4
-  pub then_result : Least (select (codes "T") (word Case 1 (truth 3 ∷ number 5 ∷ truth 7 ∷ text 9 ∷ []) ∷ []) None) TypeMismatch 9
-  pub else_result : Least (select (codes "T") (word CaseOf 1 (number 2 ∷ number 4 ∷ text 6 ∷ truth 8 ∷ []) ∷ []) None) TypeMismatch 8
-  pub coalesce : Least (select (codes "T") (word Coalesce 1 (null 3 ∷ number 5 ∷ text 7 ∷ []) ∷ []) None) TypeMismatch 7
-  pub column_of_values : Least (values ((null 5 ∷ []) ∷ (text 9 ∷ []) ∷ (number 13 ∷ []) ∷ [])) TypeMismatch 13
-  pub stored_value : Least (insert (codes "T") ((number 5 ∷ text 7 ∷ []) ∷ [])) TypeMismatch 7
-  pub stored_in_a_later_row : Least (insert (codes "T") ((null 5 ∷ null 7 ∷ []) ∷ (number 11 ∷ truth 13 ∷ []) ∷ [])) TypeMismatch 13
-  pub argument : Least (select (codes "T") (call (codes "F") 1 (text 3 ∷ []) ∷ []) None) TypeMismatch 3
-  pub returned : Least (function (codes "G") [] (integer 8) (text 10)) TypeMismatch 10
-  pub parameter_as_an_operand : Least (function (codes "G") (new_parameter (codes "X") 4 (boolean 5) ∷ []) (integer 8) (word Minus 10 (name (codes "X") 11 ∷ []))) TypeMismatch 11
-  pub column_as_an_operand : Least (select (codes "T") (word Not 1 (name (codes "A") 2 ∷ []) ∷ []) None) TypeMismatch 2
-  pub length_of_nothing : Least (select (codes "T") (word (Cast (varchar 5 7 0)) 1 (null 3 ∷ []) ∷ []) None) NotPermitted 7
-  pub length_over_the_limit : Least (select (codes "T") (word (Cast (varchar 5 7 4097)) 1 (null 3 ∷ []) ∷ []) None) NotPermitted 7
-  pub length_of_a_parameter : Least (function (codes "G") (new_parameter (codes "X") 4 (varchar 5 7 4097) ∷ []) (integer 9) (null 11)) NotPermitted 7
-  pub length_of_a_result : Least (function (codes "G") [] (varchar 7 9 0) (null 12)) NotPermitted 9
-  pub one_fault_in_a_chain : Only (select (codes "T") (chain (chain (chain (text 1) (Value Add) 2 (number 3)) (Value Add) 4 (number 5)) (Value Concatenate) 6 (text 7) ∷ []) None) TypeMismatch 1
-  pub one_fault_behind_an_unknown_name : Only (select (codes "T") (word Not 1 (word Minus 2 (name (codes "B") 3 ∷ []) ∷ []) ∷ []) None) UnknownName 3
-  pub one_fault_in_a_row : Only (insert (codes "T") ((chain (text 5) (Value Add) 6 (number 7) ∷ number 9 ∷ []) ∷ [])) TypeMismatch 5
-  pub null_fits : (judged_statement (select (codes "T") (chain (null 1) (Value Concatenate) 2 (text 3) ∷ word (Compare Equals) 5 (null 4 ∷ truth 6 ∷ []) ∷ []) (Some (null 92))) catalog).faults ≡ []
-  pub is_null_of_any : (judged_statement (select (codes "T") (word (Is test.Null) 2 (text 1 ∷ []) ∷ word (IsNot test.Null) 5 (number 4 ∷ []) ∷ []) None) catalog).faults ≡ []
-  pub casts_by_text : (judged_statement (select (codes "T") (word (Cast (boolean 5)) 1 (text 3 ∷ []) ∷ word (Cast (varchar 9 11 4096)) 7 (truth 8 ∷ []) ∷ []) None) catalog).faults ≡ []
+abbrev pub t : From
+t = Comma (table (codes "T") 50)
+
+abbrev pub s : From
+s = Comma (table (codes "S") 60)
+
+-- T.K = X.A
+abbrev pub on_x : Expr
+on_x = equal (qualified (codes "T") 70 (codes "K")) 73 (qualified (codes "X") 74 (codes "A"))
+
+pub record NamesInJoins : Type 0 where
+  pub items_of_one_name : Only (select (item (number 1) ∷ []) (t ∷ Comma (aliased (codes "S") 60 (codes "T") 62) ∷ [])) DuplicateName 62
+  pub one_table_twice : Only (select (item (number 1) ∷ []) (t ∷ Cross (table (codes "T") 60) ∷ [])) DuplicateName 60
+  pub in_two_items : Only (select (item (name (codes "A") 1) ∷ []) (t ∷ s ∷ [])) DuplicateName 1
+  pub in_two_items_unused : Free (select (item (name (codes "K") 1) ∷ item (qualified (codes "S") 3 (codes "A")) ∷ []) (t ∷ s ∷ []))
+  pub no_column_of_the_item : Only (select (item (qualified (codes "S") 1 (codes "K")) ∷ []) (t ∷ s ∷ [])) UnknownName 1
+  pub no_item_of_the_name : Only (select (item (qualified (codes "T") 1 (codes "K")) ∷ []) (Comma (aliased (codes "T") 50 (codes "X") 52) ∷ [])) UnknownName 1
+  pub on_names_a_later_item : Only (select (item (number 1) ∷ []) (t ∷ Inner (table (codes "S") 60) on_x ∷ Cross (aliased (codes "S") 80 (codes "X") 82) ∷ [])) UnknownName 74
+  pub on_behind_a_comma : Only (select (item (number 1) ∷ []) (t ∷ s ∷ Left (aliased (codes "S") 66 (codes "X") 68) on_x ∷ [])) UnknownName 70
+  pub on_in_one_group : Free (select (item (number 1) ∷ []) (s ∷ t ∷ Inner (aliased (codes "S") 66 (codes "X") 68) on_x ∷ []))
+  pub where_sees_all : Free (select_where (item (number 1) ∷ []) (t ∷ s ∷ Cross (aliased (codes "S") 66 (codes "X") 68) ∷ []) on_x)
+  pub test_of_on : Only (select (item (number 1) ∷ []) (t ∷ Inner (table (codes "S") 60) (number 62) ∷ [])) TypeMismatch 62
+  pub unknown_table : Only (select (item (name (codes "Z") 1) ∷ []) (t ∷ Comma (table (codes "V") 60) ∷ [])) UnknownName 60
+  pub unknown_table_hides_no_fault : Least (select (item (word Minus 1 (text 2 ∷ [])) ∷ []) (Comma (table (codes "V") 60) ∷ [])) TypeMismatch 2
+
+pub record NamesOfDerivedTables : Type 0 where
+  pub two_columns_used : Only (select (item (name (codes "A") 1) ∷ []) (Comma (derived twice 60 []) ∷ [])) DuplicateName 1
+  pub two_columns_behind_its_name : Only (select (item (qualified (codes "D") 1 (codes "A")) ∷ []) (Comma (derived twice 60 []) ∷ [])) DuplicateName 1
+  pub two_columns_unused : Free (select (item (number 1) ∷ star 3 ∷ []) (Comma (derived twice 60 []) ∷ []))
+  pub names_of_another_number : Only (select (item (name (codes "Q") 1) ∷ []) (Comma (derived once 60 (called (codes "P") 62 ∷ called (codes "Q") 64 ∷ [])) ∷ [])) WrongCount 60
+  pub names_in_place_of_its_own : Only (select (item (name (codes "K") 1) ∷ []) (Comma (derived once 60 (called (codes "P") 62 ∷ [])) ∷ [])) UnknownName 1
+  pub item_beside_it : Only (select (item (number 1) ∷ []) (s ∷ Comma (derived (Select (at 62) (item (qualified (codes "S") 63 (codes "A")) ∷ []) (froms (t ∷ [])) None) 68 []) ∷ [])) UnknownName 63
+  pub fault_inside : Least (select (item (word Minus 90 (name (codes "Z") 91 ∷ [])) ∷ []) (Comma (derived (Select (at 2) (named (word Minus 3 (text 4 ∷ [])) (codes "Z") 6 ∷ []) (froms (t ∷ [])) None) 60 []) ∷ [])) TypeMismatch 4
+  pub no_fault_above_it : Only (select (item (word Minus 90 (name (codes "Z") 91 ∷ [])) ∷ []) (Comma (derived (Select (at 2) (named (word Minus 3 (text 4 ∷ [])) (codes "Z") 6 ∷ []) (froms (t ∷ [])) None) 60 []) ∷ [])) TypeMismatch 4
+  pub kind_of_a_column : Only (select (item (word Minus 1 (name (codes "Z") 2 ∷ [])) ∷ []) (Comma (derived (Values (at 61) (exprs (text 63 ∷ []) ∷ [])) 66 (called (codes "Z") 68 ∷ [])) ∷ [])) TypeMismatch 2
+
+-- ---- ORDER BY
+
+abbrev pub sorted : Query → List SortSpecification → OrderedQuery
+sorted q order = record { query = query_of q; order = order }
+
+abbrev pub by_name : List ℕ → ℕ → SortSpecification
+by_name n token = record { name = called n token; descending = true }
+
+abbrev pub ordered : Query → List SortSpecification → Noted BoundQuery
+ordered q order = judge_ordered (sorted q order) (at_top catalog)
+
+-- SELECT A AS B, B FROM S, and SELECT A AS C, B FROM S
+abbrev pub two_of_one_name : Query
+two_of_one_name = select (named (name (codes "A") 1) (codes "B") 3 ∷ item (name (codes "B") 5) ∷ []) (s ∷ [])
+
+abbrev pub two_names : Query
+two_names = select (named (name (codes "A") 1) (codes "C") 3 ∷ item (qualified (codes "S") 5 (codes "B")) ∷ []) (s ∷ [])
+
+abbrev pub table_at : List ℕ → BoundSource
+table_at n = source.Table n
+
+abbrev pub bound_names : BoundQuery
+bound_names = query.Select (record { items = bound.Column 0 0 ∷ bound.Column 0 1 ∷ []; from = from.Comma (table_at (codes "S")) ∷ []; conjuncts = [] })
+
+pub record OrderByOutputColumns : Type 0 where
+  pub unknown : (ordered two_names (by_name (codes "A") 70 ∷ [])).faults ≡ fault UnknownName 70 ∷ []
+  pub found_twice : (ordered two_of_one_name (by_name (codes "B") 70 ∷ [])).faults ≡ fault DuplicateName 70 ∷ []
+  pub by_the_last_part : (ordered two_names (by_name (codes "B") 70 ∷ by_name (codes "C") 72 ∷ [])).value
+      ≡ query.Ordered bound_names (record { place = 1; descending = true } ∷ record { place = 0; descending = true } ∷ [])
+  pub without_order : (ordered two_names []).value ≡ bound_names
 
 -- ---- what is bound
 
--- SELECT A, E(K), K IS NOT NULL, + A FROM T: a call is bound by the name that is written, though F
--- has an equal tree
-abbrev pub selected : Stmt
-selected = select (codes "T") (name (codes "A") 1 ∷ call (codes "E") 3 (name (codes "K") 5 ∷ []) ∷ word (IsNot test.Null) 8 (name (codes "K") 7 ∷ []) ∷ word Plus 11 (name (codes "A") 12 ∷ []) ∷ []) None
+-- SELECT * FROM S, T LEFT JOIN S AS X ON T.K = X.A
+abbrev pub joined : Query
+joined = select (star 1 ∷ []) (s ∷ t ∷ Left (aliased (codes "S") 66 (codes "X") 68) on_x ∷ [])
 
-abbrev pub bound_items : List BoundExpr
-bound_items =
-    bound.Column 0 1 ∷ bound.Call (codes "E") (bound.Column 0 0 ∷ []) ∷ bound.Operation Opposite (bound.Operation NullTest (bound.Column 0 0 ∷ []) ∷ []) ∷ bound.Column 0 1 ∷ []
+abbrev pub columns : List BoundExpr
+columns = bound.Column 0 0 ∷ bound.Column 0 1 ∷ bound.Column 0 2 ∷ bound.Column 0 3 ∷ bound.Column 0 4 ∷ bound.Column 0 5 ∷ []
 
-pub record BindsByPlaceAndName : Type 0 where
-  pub bound_query : (judged_statement selected catalog).value ≡ bound_as.Query (select_of (codes "T") bound_items [])
+abbrev pub equal_columns : ℕ → ℕ → BoundExpr
+equal_columns i j = bound.Operation (word_of.Comparing Equals) (bound.Column 0 i ∷ bound.Column 0 j ∷ [])
+
+-- SELECT D.P FROM T JOIN (SELECT K FROM T) D (P) ON T.A = P AND T.K = P
+abbrev pub conjuncts : Query
+conjuncts = select (item (qualified (codes "D") 1 (codes "P")) ∷ [])
+    (t ∷ Inner (derived once 60 (called (codes "P") 62 ∷ [])) (chain (equal (qualified (codes "T") 70 (codes "A")) 73 (name (codes "P") 74)) And 75 (equal (qualified (codes "T") 76 (codes "K")) 79 (name (codes "P") 80))) ∷ [])
+
+abbrev pub bound_once : BoundQuery
+bound_once = query.Select (record { items = bound.Column 0 0 ∷ []; from = from.Comma (table_at (codes "T")) ∷ []; conjuncts = [] })
+
+abbrev pub output : List ℕ → Kind → Output
+output n kind = record { name = Some n; kind = kind }
+
+pub record BindsByPlaceInFrom : Type 0 where
+  -- `*` gives the columns in FROM's order; ON counts from its comma on
+  pub tree : (judged joined).value.tree ≡ query.Select (record {
+    items = columns;
+    from = from.Comma (table_at (codes "S")) ∷ from.Comma (table_at (codes "T")) ∷ from.Left (table_at (codes "S")) (conjuncts_of (equal_columns 0 2)) ∷ [];
+    conjuncts = [];
+  })
+  pub names : (judged joined).value.columns
+      ≡ output (codes "A") Integer ∷ output (codes "B") Text ∷ output (codes "K") Integer ∷ output (codes "A") Integer ∷ output (codes "A") Integer ∷ output (codes "B") Text ∷ []
+  pub of_a_derived_table : (judged conjuncts).value.tree ≡ query.Select (record {
+    items = bound.Column 0 2 ∷ [];
+    from = from.Comma (table_at (codes "T")) ∷ from.Inner (source.Derived bound_once) (conjuncts_of (bound.Operation word_of.And (equal_columns 1 2 ∷ equal_columns 0 2 ∷ []))) ∷ [];
+    conjuncts = [];
+  })

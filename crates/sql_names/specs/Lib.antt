@@ -1,8 +1,11 @@
-pub mod Index
-pub mod Sight
+pub mod Turns
 pub mod Names
+pub mod ValueRows
+pub mod Lists
+pub mod From
 pub mod Queries
-pub mod Statements
+pub mod Order
+pub mod Heights
 pub mod Binds
 pub mod Written
 pub mod Examples

@@ -4,6 +4,7 @@
 use Rattle.std.specs.Prelude.{ℕ, ◌==◌, Bool, true, not, List, [], ◌∷◌, ◌++◌, map, length, Option, Some, None}
 use Rattle.syntax_trees.specs.declared.anchor.Anchor.{Anchor}
 use Rattle.syntax_trees.specs.declared.anchor.Ident.{Ident}
+use Rattle.syntax_trees.specs.Columns.{anchor_of_column}
 use Rattle.syntax_trees.specs.declared.expr.ChainOperator.{ChainOperator}
 use Rattle.syntax_trees.specs.declared.expr.Literal.{Literal}
 use Rattle.syntax_trees.specs.declared.expr.Operation.{Operation}
@@ -15,7 +16,7 @@ use Rattle.bound_trees.specs.declared.expr.BoundExpr.TheVariants as bound
 use Rattle.catalog_store.specs.Catalog.{Object, TableObject, FunctionObject, Catalog, object_named}
 use Rattle.catalog_store.specs.declared.entry.Head.{Head as FunctionHead}
 use Rattle.name_faults.specs.declared.fault.Fault.{Fault}
-use Rattle.name_faults.specs.declared.fault.FaultKind.TheVariants.{UnknownName, WrongCount}
+use Rattle.name_faults.specs.declared.fault.FaultKind.TheVariants.{UnknownName, DuplicateName, WrongCount}
 use Rattle.name_faults.specs.Faults.{Noted, give, behind, both, ◌>>◌, fault_if, is_faultless}
 use Rattle.name_kinds.specs.declared.kind.Kind.{Kind}
 use Rattle.name_kinds.specs.declared.kind.Kind.TheVariants.{Null}
@@ -24,11 +25,11 @@ use Rattle.name_kinds.specs.Kinds.{kind_of_type, kind_of_literal, head_of, settl
 use Rattle.name_kinds.specs.Operations.{asked, given}
 use Rattle.name_kinds.specs.Chains.{links_faults, kind_of_chain, chain_place}
 use Rattle.name_kinds.specs.Words.{value_of, missing, tree_of, chain_of}
-use Rattle.sql_names.specs.declared.sight.Found.{Found}
-use Rattle.sql_names.specs.declared.sight.Found.TheVariants.{Column, Guessed, Variable, Unknown}
+use Rattle.names_in_sight.specs.declared.sight.Found.{Found}
+use Rattle.names_in_sight.specs.declared.sight.Found.TheVariants.{Column, Guessed, Variable, Several, Unknown}
 use Rattle.sql_names.specs.declared.typed.Typed.{Typed}
 use Rattle.sql_names.specs.declared.typed.Operands.{Operands}
-use Rattle.sql_names.specs.Sight.{Seen, stands_for}
+use Rattle.names_in_sight.specs.Sight.{Seen, stands_for}
 
 -- how an expression is judged
 abbrev pub Judge : Type 0
@@ -60,10 +61,8 @@ abbrev pub named : Anchor → Found → Noted Typed
 named at (Column level place kind) = give (with_kind kind at (bound.Column level place))
 named at Guessed = give (with_kind Null at missing)
 named at (Variable place kind) = give (with_kind kind at (bound.Variable place))
+named at Several = fault_if true DuplicateName at >> give (with_kind Null at missing)
 named at Unknown = fault_if true UnknownName at >> give (with_kind Null at missing)
-
-abbrev pub stands : Ident → Seen → Found
-stands i seen = stands_for i.name seen
 
 -- ---- operands
 
@@ -149,7 +148,7 @@ called i arguments f so = behind (call_head i arguments f) (made (call_typed i f
 -- one level, with the judges of what stands inside
 abbrev pub expr_step : Expr-F Judge JudgedLink → Judge
 expr_step (Expr-F.Literal at l) seen = give (literal at l)
-expr_step (Expr-F.Name i) seen = named i.anchor (stands i seen)
+expr_step (Expr-F.Name c) seen = named (anchor_of_column c) (stands_for c seen)
 expr_step (Expr-F.Call i args) seen = called i (length args) (head_named i.name seen.catalog) (all_of seen args)
 expr_step (Expr-F.Operation at operation operands) seen = operated at operation (all_of seen operands)
 expr_step (Expr-F.Chain first links) seen =

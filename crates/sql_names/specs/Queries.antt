@@ -1,136 +1,94 @@
--- Queries: the bound query that each stands for, with the name faults in it. A query is judged, as
--- an expression is, by a function of the sight. ISO/IEC 9075-2, 7.3 (table value constructor), 7.6
--- (table reference), 7.12 (where clause), 7.16 (query specification) and 9.2 (store assignment).
-use Rattle.std.specs.Prelude.{ℕ, ◌==◌, not, List, [], ◌∷◌, ◌++◌, length, replicate, Option, Some, None, is_some}
+-- Queries: the bound query that each stands for, its columns, and the name faults in it, in one fold whose values are judges: functions of the
+-- sight. ISO/IEC 9075-2, 7.5 (from clause), 7.6 (table reference), 7.16 (query specification) and 7.17 (query expression).
+use Rattle.std.specs.Prelude.{List, [], Option}
 use Rattle.syntax_trees.specs.declared.anchor.Anchor.{Anchor}
 use Rattle.syntax_trees.specs.declared.anchor.Ident.{Ident}
 use Rattle.syntax_trees.specs.declared.expr.Expr.{Expr}
-use Rattle.syntax_trees.specs.declared.query.Query.{Query}
-use Rattle.syntax_trees.specs.declared.query.Query.TheVariants as query
-use Rattle.syntax_trees.specs.declared.query.Select.{Select}
-use Rattle.syntax_trees.specs.declared.query.Values.{Values}
-use Rattle.syntax_trees.specs.declared.query.ValueRow.{ValueRow}
-use Rattle.syntax_trees.specs.declared.query.ValueRow.TheVariants.{Row}
-use Rattle.syntax_trees.specs.declared.query.FromItem.{FromItem}
-use Rattle.syntax_trees.specs.declared.query.FromItem.TheVariants.{Table}
-use Rattle.row_types.specs.declared.RowType.{RowType}
-use Rattle.bound_trees.specs.declared.expr.BoundExpr.{BoundExpr}
-use Rattle.bound_trees.specs.declared.statement.BoundRow.{BoundRow}
-use Rattle.bound_trees.specs.declared.statement.BoundFrom.TheVariants as from
-use Rattle.bound_trees.specs.declared.statement.BoundQuery.{BoundQuery}
-use Rattle.bound_trees.specs.declared.statement.BoundQuery.TheVariants as bound
-use Rattle.catalog_store.specs.Catalog.{Object, TableObject, FunctionObject, Catalog, object_named}
-use Rattle.name_faults.specs.declared.fault.Fault.{Fault}
-use Rattle.name_faults.specs.declared.fault.FaultKind.TheVariants.{UnknownName, WrongCount}
-use Rattle.name_faults.specs.Faults.{Noted, give, ◌>>◌, as_value, both, fault_if}
+use Rattle.syntax_trees.specs.declared.query.FromItem.{FromItem, fold-FromItem}
+use Rattle.syntax_trees.specs.declared.query.FromItem.TheOpen.{FromItem-F, Query-F, TableRef-F, Select-F}
+use Rattle.syntax_trees.specs.declared.query.Query.{Query, fold-Query}
+use Rattle.syntax_trees.specs.declared.query.Select.{Select, fold-Select}
+use Rattle.syntax_trees.specs.declared.query.SelectItem.{SelectItem}
+use Rattle.syntax_trees.specs.declared.query.TableRef.{TableRef, fold-TableRef}
+use Rattle.bound_trees.specs.declared.query.BoundFromItem.{BoundFromItem}
+use Rattle.bound_trees.specs.declared.query.BoundQuery.TheVariants as bound
+use Rattle.name_faults.specs.Faults.{Noted, ◌>>=◌, as_value, both}
 use Rattle.name_kinds.specs.declared.kind.Kind.{Kind}
-use Rattle.name_kinds.specs.declared.kind.Kind.TheVariants.{Boolean, Null}
-use Rattle.name_kinds.specs.declared.kind.Head.{Head}
-use Rattle.name_kinds.specs.Kinds.{misfit, in_turn, joined_row}
-use Rattle.name_kinds.specs.Conjuncts.{conjuncts_of}
-use Rattle.sql_names.specs.declared.typed.Typed.{Typed}
-use Rattle.sql_names.specs.declared.typed.Operands.{Operands}
-use Rattle.sql_names.specs.Sight.{Seen, inside, level_over}
-use Rattle.sql_names.specs.Names.{judge, judge_all}
+use Rattle.names_in_sight.specs.Sight.{Seen, inside}
+use Rattle.sql_names.specs.declared.from.Opened.{Opened}
+use Rattle.sql_names.specs.declared.query.Selected.{Selected}
+use Rattle.sql_names.specs.declared.typed.Sourced.{Sourced}
+use Rattle.sql_names.specs.declared.typed.TypedQuery.{TypedQuery}
+use Rattle.sql_names.specs.From.{table_named, table_source, derived_source, nothing_open, row_level, put_comma, put_cross, put_inner, put_left}
+use Rattle.sql_names.specs.Lists.{listed, judged_filter}
+use Rattle.sql_names.specs.Turns.{each_noted}
+use Rattle.sql_names.specs.ValueRows.{judged_values}
 
--- ---- the rows of VALUES
+-- how a query is judged whose columns are stored into what is of these kinds
+abbrev pub QueryJudge : Type 0
+QueryJudge = List Kind → Seen → Noted TypedQuery
 
-abbrev pub row_of : List BoundExpr → BoundRow
-row_of es = record { values = es }
+-- how an item is judged behind those before it
+abbrev pub FromJudge : Type 0
+FromJudge = Seen → Opened → Noted Opened
 
--- a row's first expression; a row without one has another token
-abbrev pub anchor_of_row : Anchor → List Head → Anchor
-anchor_of_row other [] = other
-anchor_of_row other (h ∷ hs) = h.at
+abbrev pub RefJudge : Type 0
+RefJudge = Seen → Noted Sourced
 
--- So many as there are columns, each of its column's kind so far, and of the kind of what it is stored into.
-abbrev pub row_faults : Anchor → List Kind → List Kind → List Head → List Fault
-row_faults at targets kinds hs =
-    fault_if (not (length hs == length kinds)) WrongCount (anchor_of_row at hs) ++ (in_turn kinds hs ++ in_turn targets hs)
-
-abbrev pub row_with : Anchor → List Kind → List Kind → Noted Operands → Noted Operands
-row_with at targets kinds so = record { value = so.value; faults = so.faults ++ row_faults at targets kinds so.value.heads; uses = so.uses }
-
-abbrev pub judged_row : Anchor → List Kind → Seen → List Kind → ValueRow → Noted Operands
-judged_row at targets seen kinds (Row es) = row_with at targets kinds (judge_all es seen)
-
--- a row, and then those below it, with its kinds above them
-abbrev pub row_above : List Kind → Noted Operands → (List Kind → Noted (List BoundRow)) → Noted (List BoundRow)
-row_above kinds so more = both (λ o rs. row_of o.trees ∷ rs) so (more (joined_row kinds so.value.heads))
-
-abbrev pub judged_rows : Anchor → List Kind → Seen → List ValueRow → List Kind → Noted (List BoundRow)
-judged_rows at targets seen [] kinds = give []
-judged_rows at targets seen (r ∷ rs) kinds = row_above kinds (judged_row at targets seen kinds r) (judged_rows at targets seen rs)
-
-abbrev pub length_of : ValueRow → ℕ
-length_of (Row es) = length es
-
--- how many expressions the first row has
-abbrev pub width_of : List ValueRow → ℕ
-width_of [] = 0
-width_of (r ∷ rs) = length_of r
-
--- columns of which no value is known yet
-abbrev pub unknown_kinds : ℕ → List Kind
-unknown_kinds n = replicate n Null
-
-abbrev pub judged_values : List Kind → Values → Seen → Noted (List BoundRow)
-judged_values targets v seen = judged_rows v.anchor targets seen v.rows (unknown_kinds (width_of v.rows))
-
--- ---- FROM
-
-abbrev pub table_in : Option Object → Option RowType
-table_in None = None
-table_in (Some (TableObject t)) = Some t
-table_in (Some (FunctionObject f)) = None
-
--- the table of a name
-abbrev pub table_named : List ℕ → Catalog → Option RowType
-table_named name catalog = table_in (object_named name catalog)
-
-abbrev pub unknown_table : Ident → Option RowType → List Fault
-unknown_table i t = fault_if (not (is_some t)) UnknownName i.anchor
-
--- ---- queries
-
-abbrev pub select_of : List ℕ → List BoundExpr → List BoundExpr → BoundQuery
-select_of table items conjuncts = bound.Select (record { items = items; from = from.Table table; conjuncts = conjuncts })
-
--- the list, each of the kind of what it is stored into
-abbrev pub listed : List Kind → Noted Operands → Noted Operands
-listed targets so = record { value = so.value; faults = so.faults ++ in_turn targets so.value.heads; uses = so.uses }
-
--- a test, as the list of its top conjuncts
-abbrev pub tested : Noted Typed → Noted (List BoundExpr)
-tested t = record { value = conjuncts_of t.value.tree; faults = t.faults ++ misfit Boolean t.value.head; uses = t.uses }
-
-abbrev pub judged_filter : Option Expr → Seen → Noted (List BoundExpr)
-judged_filter None seen = give []
-judged_filter (Some e) seen = tested (judge e seen)
+-- ---- SELECT
 
 -- the list and the condition, with the columns of FROM in sight
-abbrev pub judged_select : List ℕ → List Kind → Select → Seen → Noted BoundQuery
-judged_select table targets q seen = both (λ o cs. select_of table o.trees cs) (listed targets (judge_all q.items seen)) (judged_filter q.filter seen)
+abbrev pub parts : List Kind → List SelectItem → Option Expr → Seen → Noted Selected
+parts targets items filter seen = both (λ o conjuncts. record { outputs = o; conjuncts = conjuncts }) (listed targets items seen) (judged_filter filter seen)
 
-abbrev pub select_over : Ident → Option RowType → List Kind → Select → Seen → Noted BoundQuery
-select_over i t targets q outside = unknown_table i t >> judged_select i.name targets q (inside (level_over t) outside)
+abbrev pub select_typed : Anchor → List BoundFromItem → Selected → TypedQuery
+select_typed at from s = record {
+  at = at;
+  columns = s.outputs.columns;
+  tree = bound.Select (record { items = s.outputs.trees; from = from; conjuncts = s.conjuncts });
+}
 
--- FROM has one item; a query without one has no rows
-abbrev pub select_from : List FromItem → List Kind → Select → Seen → Noted BoundQuery
-select_from [] targets q outside = give (bound.Values [])
-select_from (Table i ∷ more) targets q outside = select_over i (table_named i.name outside.catalog) targets q outside
+abbrev pub selected : Anchor → List SelectItem → Option Expr → List Kind → Seen → Opened → Noted TypedQuery
+selected at items filter targets outer so = as_value (select_typed at so.from) (parts targets items filter (inside (row_level so) outer))
 
--- a query whose columns are stored into what is of these kinds
-abbrev pub judge_query : List Kind → Query → Seen → Noted BoundQuery
-judge_query targets (query.Select q) outside = select_from q.from targets q outside
-judge_query targets (query.Values v) outside = as_value (λ rows. bound.Values rows) (judged_values targets v outside)
+-- ---- the fold: one clause for each form
 
--- how many columns a query has
-abbrev pub width : Query → ℕ
-width (query.Select q) = length q.items
-width (query.Values v) = width_of v.rows
+abbrev pub from_step : FromItem-F FromJudge QueryJudge RefJudge QueryJudge → FromJudge
+from_step (FromItem-F.Comma table) outer so = table outer >>= put_comma so
+from_step (FromItem-F.Cross table) outer so = table outer >>= put_cross so
+from_step (FromItem-F.Inner table on) outer so = table outer >>= put_inner on outer so
+from_step (FromItem-F.Left table on) outer so = table outer >>= put_left on outer so
 
--- the word SELECT or VALUES
-abbrev pub anchor_of_query : Query → Anchor
-anchor_of_query (query.Select q) = q.anchor
-anchor_of_query (query.Values v) = v.anchor
+abbrev pub table_judge : Ident → Option Ident → RefJudge
+table_judge i alias outer = table_source i alias (table_named i.name outer.catalog)
+
+-- a derived table sees no item of its FROM
+abbrev pub ref_step : TableRef-F FromJudge QueryJudge RefJudge QueryJudge → RefJudge
+ref_step (TableRef-F.Table i alias) outer = table_judge i alias outer
+ref_step (TableRef-F.Derived query i names) outer = query [] outer >>= derived_source i names
+
+abbrev pub select_step : Select-F FromJudge QueryJudge RefJudge QueryJudge → QueryJudge
+select_step s targets outer = each_noted (λ so item. item outer so) nothing_open s.from >>= selected s.anchor s.items s.filter targets outer
+
+abbrev pub query_step : Query-F FromJudge QueryJudge RefJudge QueryJudge → QueryJudge
+query_step (Query-F.Select select) targets outer = select targets outer
+query_step (Query-F.Values values) targets outer = judged_values targets values outer
+
+abbrev pub from_judge : FromItem → FromJudge
+from_judge = fold-FromItem FromJudge QueryJudge RefJudge QueryJudge from_step query_step ref_step select_step
+
+abbrev pub query_judge : Query → QueryJudge
+query_judge = fold-Query FromJudge QueryJudge RefJudge QueryJudge from_step query_step ref_step select_step
+
+abbrev pub ref_judge : TableRef → RefJudge
+ref_judge = fold-TableRef FromJudge QueryJudge RefJudge QueryJudge from_step query_step ref_step select_step
+
+abbrev pub select_judge : Select → QueryJudge
+select_judge = fold-Select FromJudge QueryJudge RefJudge QueryJudge from_step query_step ref_step select_step
+
+-- the items of FROM in turn
+abbrev pub opened_of : List FromItem → Seen → Noted Opened
+opened_of items outer = each_noted (λ so item. from_judge item outer so) nothing_open items
+
+abbrev pub judge_query : List Kind → Query → Seen → Noted TypedQuery
+judge_query targets query seen = query_judge query targets seen

@@ -1,6 +1,7 @@
--- Expressions written out as plain trees, for worked rows: which tree of the code each stands for.
-use Rattle.std.specs.Prelude.{List, [], ◌∷◌}
+-- Expressions and queries written out as plain trees, for worked rows: which tree of the code each stands for.
+use Rattle.std.specs.Prelude.{List, [], ◌∷◌, map, Option, Some, None}
 use Rattle.syntax_trees.specs.declared.anchor.Anchor.{Anchor}
+use Rattle.syntax_trees.specs.declared.anchor.ColumnName.{ColumnName}
 use Rattle.syntax_trees.specs.declared.anchor.Ident.{Ident}
 use Rattle.syntax_trees.specs.declared.expr.ChainOperator.{ChainOperator}
 use Rattle.syntax_trees.specs.declared.expr.Literal.{Literal as LiteralOf}
@@ -8,11 +9,20 @@ use Rattle.syntax_trees.specs.declared.expr.Operation.{Operation as OperationOf}
 use Rattle.syntax_trees.specs.declared.expr.Expr.{Expr as Tree, roll-Expr}
 use Rattle.syntax_trees.specs.declared.expr.Expr.TheOpen.{Expr-F}
 use Rattle.syntax_trees.specs.declared.expr.Link.{Link, roll-Link}
+use Rattle.syntax_trees.specs.declared.query.FromItem.{FromItem, roll-FromItem}
+use Rattle.syntax_trees.specs.declared.query.FromItem.TheOpen.{FromItem-F, Query-F, TableRef-F}
+use Rattle.syntax_trees.specs.declared.query.Query.{Query as QueryTree, roll-Query}
+use Rattle.syntax_trees.specs.declared.query.Select.{roll-Select}
+use Rattle.syntax_trees.specs.declared.query.SelectItem.{SelectItem}
+use Rattle.syntax_trees.specs.declared.query.SelectItem.TheVariants as item
+use Rattle.syntax_trees.specs.declared.query.TableRef.{TableRef, roll-TableRef}
+use Rattle.syntax_trees.specs.declared.query.ValueRow.{ValueRow}
+use Rattle.syntax_trees.specs.declared.query.ValueRow.TheVariants.{Row}
 
 mutual
   pub data Expr : Type 0 where
     Literal : Anchor → LiteralOf → Expr
-    Name : Ident → Expr
+    Name : ColumnName → Expr
     Call : Ident → Exprs → Expr
     Operation : Anchor → OperationOf → Exprs → Expr
     Chain : Expr → Links → Expr
@@ -28,7 +38,7 @@ mutual
 abbrev mutual
   pub expr_of : Expr → Tree
   expr_of (Literal at l) = roll-Expr (Expr-F.Literal at l)
-  expr_of (Name i) = roll-Expr (Expr-F.Name i)
+  expr_of (Name c) = roll-Expr (Expr-F.Name c)
   expr_of (Call i es) = roll-Expr (Expr-F.Call i (exprs_of es))
   expr_of (Operation at operation es) = roll-Expr (Expr-F.Operation at operation (exprs_of es))
   expr_of (Chain e ls) = roll-Expr (Expr-F.Chain (expr_of e) (links_of ls))
@@ -44,3 +54,64 @@ abbrev mutual
 abbrev pub exprs : List Expr → Exprs
 exprs [] = NoExpr
 exprs (e ∷ es) = MoreExprs e (exprs es)
+
+-- ---- queries
+
+-- an item of a select list
+pub data Item : Type 0 where
+  All : Anchor → Item
+  Value : Expr → Option Ident → Item
+
+mutual
+  pub data Query : Type 0 where
+    Select : Anchor → List Item → Froms → Option Expr → Query
+    Values : Anchor → List Exprs → Query
+
+  pub data Froms : Type 0 where
+    NoFrom : Froms
+    MoreFroms : From → Froms → Froms
+
+  pub data From : Type 0 where
+    Comma : Ref → From
+    Cross : Ref → From
+    Inner : Ref → Expr → From
+    Left : Ref → Expr → From
+
+  pub data Ref : Type 0 where
+    Table : Ident → Option Ident → Ref
+    Derived : Query → Ident → List Ident → Ref
+
+abbrev pub item_of : Item → SelectItem
+item_of (All at) = item.All at
+item_of (Value e alias) = item.Value (expr_of e) alias
+
+abbrev pub filter_of : Option Expr → Option Tree
+filter_of None = None
+filter_of (Some e) = Some (expr_of e)
+
+abbrev pub row_of : Exprs → ValueRow
+row_of es = Row (exprs_of es)
+
+abbrev mutual
+  pub query_of : Query → QueryTree
+  query_of (Select at is fs filter) =
+      roll-Query (Query-F.Select (roll-Select (record { anchor = at; items = map item_of is; from = froms_of fs; filter = filter_of filter })))
+  query_of (Values at rows) = roll-Query (Query-F.Values (record { anchor = at; rows = map row_of rows }))
+
+  pub froms_of : Froms → List FromItem
+  froms_of NoFrom = []
+  froms_of (MoreFroms f fs) = from_of f ∷ froms_of fs
+
+  pub from_of : From → FromItem
+  from_of (Comma r) = roll-FromItem (FromItem-F.Comma (ref_of r))
+  from_of (Cross r) = roll-FromItem (FromItem-F.Cross (ref_of r))
+  from_of (Inner r e) = roll-FromItem (FromItem-F.Inner (ref_of r) (expr_of e))
+  from_of (Left r e) = roll-FromItem (FromItem-F.Left (ref_of r) (expr_of e))
+
+  pub ref_of : Ref → TableRef
+  ref_of (Table i alias) = roll-TableRef (TableRef-F.Table i alias)
+  ref_of (Derived q i names) = roll-TableRef (TableRef-F.Derived (query_of q) i names)
+
+abbrev pub froms : List From → Froms
+froms [] = NoFrom
+froms (f ∷ fs) = MoreFroms f (froms fs)

@@ -4,33 +4,31 @@ ghost use Rattle.std.specs.Prelude.{◌≡◌, IfOk, OnOk};
 ghost use Rattle.name_faults.specs.Faults.{taken};
 ghost use Rattle.sql_names.specs.Names as spec;
 ghost use Rattle.sql_names.specs.Names.{inner, judge, judge_all, judge_links};
-ghost use Rattle.sql_names.specs.Sight.{seen_by};
+ghost use Rattle.names_in_sight.specs.Sight.{seen_by, stands_for};
+ghost use Rattle.syntax_trees.specs.Columns.{anchor_of_column};
 
 use crate::parts::{called, chained, function_named, literal, named, note_call, operated};
-use crate::sight::{Sight, stands_for};
 use crate::typed::{Operands, Typed, add_operand, no_operands, settle};
 use name_faults::Notes;
+use names_in_sight::{Sight, stands_for};
 use sql_values::NoMemory;
 use std::alloc::Global;
-use syntax_trees::{Anchor, Expr, Ident, Link, Operation};
+use syntax_trees::{Anchor, ColumnName, Expr, Ident, Link, Operation};
 
 // A column, a variable or a parameter.
-fn bind_name(ident: &Ident, sight: &Sight<'_>, notes: &mut Notes) -> Typed
-    ensures value { result ≡ (spec.named ident.now.anchor (spec.stands ident.now (seen_by sight.now))).value }
-    ensures notes { notes.new ≡ taken notes.old (spec.named ident.now.anchor (spec.stands ident.now (seen_by sight.now))) }
+fn bind_name(column: &ColumnName, sight: &Sight<'_>, notes: &mut Notes) -> Result<Typed, NoMemory>
+    ensures value { IfOk result (λ t. t ≡ (spec.named (anchor_of_column column.now) (stands_for column.now (seen_by sight.now))).value) }
+    ensures notes { OnOk result (notes.new ≡ taken notes.old (spec.named (anchor_of_column column.now) (stands_for column.now (seen_by sight.now)))) }
 {
-    named(
-        ident.anchor,
-        stands_for(&ident.name, sight),
-        &mut notes.least,
-    )
+    let found = stands_for(column, sight)?;
+    Ok(named(column.anchor(), found, &mut notes.least))
 }
 
 /// An expression with its names resolved, and what is noted on the way. Where a fault is inside, its
 /// kind is Null.
 #[cycle(bind)]
 #[tactic(auto, using(name_faults::proofs::Laws::merged_least, name_faults::proofs::Laws::none_noted))]
-pub(crate) fn bind_expr(
+pub fn bind_expr(
     alloc: Global,
     expr: &Expr,
     sight: &Sight<'_>,
@@ -56,10 +54,10 @@ fn bind_inside(
 {
     match expr {
         Expr::Literal(at, value) => literal(*at, value),
-        Expr::Name(ident) => Ok(bind_name(ident, sight, notes)),
+        Expr::Name(column) => bind_name(column, sight, notes),
         Expr::Call(ident, args) => bind_call(alloc, ident, args.as_slice(), sight, notes),
         Expr::Operation(at, operation, operands) => {
-            bind_operation(alloc, *at, *operation, operands.as_slice(), sight, notes)
+            bind_operation(alloc, *at, operation, operands.as_slice(), sight, notes)
         }
         Expr::Chain(first, links) => {
             let first = bind_expr(alloc, first.get(), sight, notes)?;
@@ -131,13 +129,13 @@ fn bind_call(
 fn bind_operation(
     alloc: Global,
     at: Anchor,
-    operation: Operation,
+    operation: &Operation,
     operands: &[Expr],
     sight: &Sight<'_>,
     notes: &mut Notes,
 ) -> Result<Typed, NoMemory>
-    ensures value { IfOk result (λ t. t ≡ (spec.judge_operation at operation operands.now (seen_by sight.now)).value) }
-    ensures notes { OnOk result (notes.new ≡ taken notes.old (spec.judge_operation at operation operands.now (seen_by sight.now))) }
+    ensures value { IfOk result (λ t. t ≡ (spec.judge_operation at operation.now operands.now (seen_by sight.now)).value) }
+    ensures notes { OnOk result (notes.new ≡ taken notes.old (spec.judge_operation at operation.now operands.now (seen_by sight.now))) }
 {
     let operands = bind_exprs(alloc, operands, sight, notes)?;
     operated(alloc, at, operation, operands, &mut notes.least)

@@ -1,46 +1,44 @@
-//! Names: whether those of a statement stand for something, and the statement with its names
-//! resolved.
+//! Names of expressions and queries: whether each stands for something, and the expression or query
+//! with its names resolved.
 #![tactic(auto, using(name_faults::proofs::Laws::noted_append))]
 
-ghost use Rattle.sql_names.specs.Binds.{FaultlessFits};
-ghost use Rattle.sql_names.specs.Examples.{EachFaultAtItsPlace, KindsFit, BindsByPlaceAndName};
+ghost use Rattle.sql_names.specs.Examples.{NamesInJoins, NamesOfDerivedTables, OrderByOutputColumns, BindsByPlaceInFrom};
 
-mod create;
 mod expr;
 mod fault;
-mod function;
-mod name_list;
+mod from;
+mod list;
+mod order;
 mod parts;
 mod query;
-mod sight;
-mod statement;
 mod typed;
+mod values;
 
+pub use expr::bind_expr;
 pub use fault::NameFault;
-pub use function::MOST_HEIGHT;
-pub use name_list::NameList;
-pub use sight::{Columns, Found, Level, Sight};
-pub use statement::{BoundStmt, bind_statement};
-pub use typed::{Operands, Typed};
+pub use from::{Opened, table_named};
+pub use list::Outputs;
+pub use order::{bind_ordered, bind_query};
+pub use query::{Selected, bind_typed};
+pub use typed::{Operands, Sourced, Typed, TypedQuery};
+pub use values::TypedRows;
 
-/// A statement without faults makes what fits the catalog: a name that is free, a key of columns,
-/// calls of functions that stand there and are lower, with as many arguments as parameters; and
-/// what is asked has a plan.
-pub fn faultless_fits()
-    ensures { FaultlessFits }
+/// Names over several items of FROM, in the list, in WHERE and in ON: each fault at its place.
+pub fn names_in_joins()
+    ensures { NamesInJoins }
 {}
 
-/// Each kind of fault, at its place.
-pub fn each_fault_at_its_place()
-    ensures { EachFaultAtItsPlace }
+/// Names of derived tables and of their columns: each fault at its place.
+pub fn names_of_derived_tables()
+    ensures { NamesOfDerivedTables }
 {}
 
-/// What is asked of kinds: each fault at its place, and no second one above it.
-pub fn kinds_fit()
-    ensures { KindsFit }
+/// ORDER BY names one output column.
+pub fn order_by_output_columns()
+    ensures { OrderByOutputColumns }
 {}
 
-/// A column is bound by its place, a call by its name.
-pub fn binds_by_place_and_name()
-    ensures { BindsByPlaceAndName }
+/// A column is bound by its place in FROM's row; in ON by that in the row since the last comma.
+pub fn binds_by_place_in_from()
+    ensures { BindsByPlaceInFrom }
 {}

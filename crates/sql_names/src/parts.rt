@@ -5,7 +5,6 @@ ghost use Rattle.std.specs.Option.{option_copied};
 ghost use Rattle.name_faults.specs.Faults.{noted, taken};
 ghost use Rattle.sql_names.specs.Names as spec;
 
-use crate::sight::Found;
 use crate::typed::{Operands, Typed, with_kind};
 use bound_trees::BoundExpr;
 use catalog_store::{Catalog, Head, Object};
@@ -14,6 +13,7 @@ use name_kinds::{
     Kind, arguments, ask, ask_chain, chain_kind, chain_of, chain_place, kind_given,
     kind_of_literal, kind_of_type, missing, tree_of, value_of,
 };
+use names_in_sight::Found;
 use sql_values::{Name, NoMemory};
 use std::alloc::Global;
 use syntax_trees::{Anchor, Ident, Link, Literal, Operation};
@@ -35,6 +35,10 @@ pub(crate) fn named(at: Anchor, found: Found, least: &mut Option<Fault>) -> Type
         Found::Column(level, place, kind) => with_kind(kind, at, BoundExpr::Column(level, place)),
         Found::Guessed => with_kind(Kind::Null, at, missing()),
         Found::Variable(place, kind) => with_kind(kind, at, BoundExpr::Variable(place)),
+        Found::Several => {
+            note_if(true, FaultKind::DuplicateName, at, least);
+            with_kind(Kind::Null, at, missing())
+        }
         Found::Unknown => {
             note_if(true, FaultKind::UnknownName, at, least);
             with_kind(Kind::Null, at, missing())
@@ -46,12 +50,12 @@ pub(crate) fn named(at: Anchor, found: Found, least: &mut Option<Fault>) -> Type
 pub(crate) fn operated(
     alloc: Global,
     at: Anchor,
-    operation: Operation,
+    operation: &Operation,
     operands: Operands,
     least: &mut Option<Fault>,
 ) -> Result<Typed, NoMemory>
-    ensures value { IfOk result (λ t. t ≡ spec.operated_typed at operation operands) }
-    ensures faults { OnOk result (least.new ≡ noted least.old (spec.asked_of operation operands)) }
+    ensures value { IfOk result (λ t. t ≡ spec.operated_typed at operation.now operands) }
+    ensures faults { OnOk result (least.new ≡ noted least.old (spec.asked_of operation.now operands)) }
 {
     ask(operation, operands.heads.as_slice(), least);
     let kind = kind_given(operation, operands.heads.as_slice());

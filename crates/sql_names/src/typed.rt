@@ -1,13 +1,14 @@
-//! Bound expressions with their heads.
+//! Bound expressions with their heads, and what queries and items of FROM are bound to.
 
 ghost use Rattle.std.specs.Prelude.{◌≡◌, IfOk, OnOk, not, is_some};
 ghost use Rattle.name_faults.specs.Faults.{merged};
 ghost use Rattle.sql_names.specs.Names as spec;
 
-use bound_trees::BoundExpr;
+use bound_trees::{BoundExpr, BoundQuery, BoundSource};
 use name_faults::Fault;
 use name_kinds::{Head, Kind, head_of};
-use sql_values::NoMemory;
+use names_in_sight::{ColumnList, Output};
+use sql_values::{Name, NoMemory};
 use sqlite_items::Items;
 use std::alloc::Global;
 use syntax_trees::Anchor;
@@ -24,6 +25,24 @@ pub struct Typed {
 pub struct Operands {
     pub heads: Items<Head>,
     pub trees: Items<BoundExpr>,
+}
+
+/// A bound query, with its place and its columns.
+#[derive(Drop)]
+pub struct TypedQuery {
+    pub at: Anchor,
+    pub columns: Items<Output>,
+    pub tree: BoundQuery,
+}
+
+/// What an item of FROM stands for: its name and the place of it, its columns, and whether it is known.
+#[derive(Drop)]
+pub struct Sourced {
+    pub name: Name,
+    pub at: Anchor,
+    pub columns: ColumnList,
+    pub known: bool,
+    pub source: BoundSource,
 }
 
 pub(crate) fn with_kind(kind: Kind, at: Anchor, tree: BoundExpr) -> Typed

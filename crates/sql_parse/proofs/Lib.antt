@@ -1,4 +1,1 @@
 pub mod After
-pub mod Ranks
-pub mod Begun
-pub mod Lone

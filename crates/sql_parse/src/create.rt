@@ -7,10 +7,7 @@ ghost use Rattle.sql_grammar.specs.Trees as trees;
 ghost use Rattle.sql_grammar.specs.Definitions as definitions;
 ghost use Rattle.sql_grammar.specs.Sql.{rules};
 
-use crate::expr::after;
-use crate::lists::with_first;
-use crate::place::{anchor_in, ident};
-use crate::types::data_type;
+use query_parse::{after, anchor_in, data_type, ident, only};
 use sql_lex::{Kind, Sign, Word};
 use sqlite_items::Items;
 use std::alloc::Global;
@@ -88,15 +85,12 @@ fn column(alloc: Global, input: &mut Input<'_>, room: u32) -> Result<Column, Par
     })
 }
 
-#[tactic(auto, unfolding(sql_grammar::specs::Definitions::more_columns))]
-fn more_columns(
-    alloc: Global,
-    input: &mut Input<'_>,
-    room: u32,
-) -> Result<Items<Column>, ParseError>
-    ensures { Reads (reading rules room definitions.more_columns input.old.rest.now) result input.new.rest.now }
+#[tactic(auto, unfolding(sql_grammar::specs::Definitions::columns, sql_grammar::specs::Definitions::more_columns))]
+fn columns(alloc: Global, input: &mut Input<'_>, room: u32) -> Result<Items<Column>, ParseError>
+    ensures { Reads (reading rules room definitions.columns input.old.rest.now) result input.new.rest.now }
 {
-    let mut found = Items::new(alloc);
+    let first = column(alloc, input, room)?;
+    let mut found = only(alloc, first)?;
     'more: while input.eat(Kind::Sign(Sign::Comma)) {
         match column(alloc, input, room) {
             Ok(next) => found.push(next)?,
@@ -104,15 +98,6 @@ fn more_columns(
         }
     }
     Ok(found)
-}
-
-#[tactic(auto, unfolding(sql_grammar::specs::Definitions::columns))]
-fn columns(alloc: Global, input: &mut Input<'_>, room: u32) -> Result<Items<Column>, ParseError>
-    ensures { Reads (reading rules room definitions.columns input.old.rest.now) result input.new.rest.now }
-{
-    let first = column(alloc, input, room)?;
-    let more = more_columns(alloc, input, room)?;
-    Ok(with_first(alloc, first, more)?)
 }
 
 #[tactic(auto, unfolding(sql_grammar::specs::Trees::bracketed))]
@@ -162,25 +147,7 @@ fn parameter(input: &mut Input<'_>, room: u32) -> Result<Parameter, ParseError>
     Ok(Parameter { name, data_type })
 }
 
-#[tactic(auto, unfolding(sql_grammar::specs::Definitions::more_parameters))]
-fn more_parameters(
-    alloc: Global,
-    input: &mut Input<'_>,
-    room: u32,
-) -> Result<Items<Parameter>, ParseError>
-    ensures { Reads (reading rules room definitions.more_parameters input.old.rest.now) result input.new.rest.now }
-{
-    let mut found = Items::new(alloc);
-    'more: while input.eat(Kind::Sign(Sign::Comma)) {
-        match parameter(input, room) {
-            Ok(next) => found.push(next)?,
-            Err(error) => return Err(error),
-        }
-    }
-    Ok(found)
-}
-
-#[tactic(auto, unfolding(sql_grammar::specs::Definitions::parameters))]
+#[tactic(auto, unfolding(sql_grammar::specs::Definitions::parameters, sql_grammar::specs::Definitions::more_parameters))]
 fn parameters(
     alloc: Global,
     input: &mut Input<'_>,
@@ -189,8 +156,14 @@ fn parameters(
     ensures { Reads (reading rules room definitions.parameters input.old.rest.now) result input.new.rest.now }
 {
     let first = parameter(input, room)?;
-    let more = more_parameters(alloc, input, room)?;
-    Ok(with_first(alloc, first, more)?)
+    let mut found = only(alloc, first)?;
+    'more: while input.eat(Kind::Sign(Sign::Comma)) {
+        match parameter(input, room) {
+            Ok(next) => found.push(next)?,
+            Err(error) => return Err(error),
+        }
+    }
+    Ok(found)
 }
 
 #[tactic(auto, unfolding(sql_grammar::specs::Definitions::parameters, sql_grammar::specs::Definitions::parameter, sql_grammar::specs::Trees::ident))]

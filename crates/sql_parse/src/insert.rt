@@ -6,8 +6,7 @@ ghost use Rattle.token_grammar.specs.Reads.{Reads};
 ghost use Rattle.sql_grammar.specs.Writing as writing;
 ghost use Rattle.sql_grammar.specs.Sql.{rules};
 
-use crate::place::{anchor_in, ident};
-use crate::values::values;
+use query_parse::{anchor_in, ident, values};
 use sql_lex::{Kind, Word};
 use std::alloc::Global;
 use syntax_trees::{Anchor, Ident, Insert, Query};

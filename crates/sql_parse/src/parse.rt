@@ -10,8 +10,8 @@ ghost use Rattle.sql_grammar.specs.Constructs.{DeepExactly};
 ghost use Rattle.sql_grammar.specs.Sql.{rules};
 
 use crate::create::ddl;
-use crate::query::query;
 use crate::statement::{dml, statement};
+use query_parse::query;
 use sql_lex::Tokens;
 use std::alloc::Global;
 use syntax_trees::{Query, Stmt};

@@ -9,7 +9,7 @@ ghost use Rattle.sql_grammar.specs.Sql.{rules};
 
 use crate::create::ddl;
 use crate::insert::insert;
-use crate::query::query;
+use query_parse::ordered_query;
 use sql_lex::{Kind, Sign, Word};
 use std::alloc::Global;
 use syntax_trees::Stmt;
@@ -33,7 +33,7 @@ fn unended(alloc: Global, input: &mut Input<'_>, room: u32) -> Result<Stmt, Pars
     if input.sees(Kind::Word(Word::Insert)) {
         return dml(alloc, input, room);
     }
-    Ok(Stmt::Query(query(alloc, input, room)?))
+    Ok(Stmt::Query(ordered_query(alloc, input, room)?))
 }
 
 /// A statement with its semicolon.

@@ -1,8 +1,9 @@
 //! Expressions. What only has operands is one node, a word with its operands.
 
-use crate::{Anchor, DataType, Ident};
+use crate::{Anchor, ColumnName, DataType, Ident};
 use sql_values::{Comparison, Operator, Text};
 use sqlite_items::{Boxed, Items};
+use std::mem::size_of;
 
 /// A literal (ISO/IEC 9075-2, 5.3), or NULL.
 #[derive(Drop)]
@@ -25,7 +26,7 @@ pub enum TruthTest {
 }
 
 /// A word or sign that stands over operands alone.
-#[derive(Clone, Copy, Debug, PartialEq, Eq)]
+#[derive(Debug, Drop)]
 pub enum Operation {
     /// The sign `+`, and its operand (ISO/IEC 9075-2, 6.27).
     Plus,
@@ -50,7 +51,7 @@ pub enum Operation {
     /// SUBSTRING (6.32): the text, the place, and perhaps the length.
     Substring,
     /// CAST to a type, and its operand (6.13).
-    Cast(DataType),
+    Cast(Boxed<DataType>),
     /// COALESCE, and its operands (6.12).
     Coalesce,
     /// CASE without an operand (6.12): tests and results in turn, and perhaps the result of ELSE.
@@ -78,8 +79,8 @@ pub enum ChainOperator {
 pub enum Expr {
     /// A literal. Its anchor is itself.
     Literal(Anchor, Literal),
-    /// A column, a variable or a parameter.
-    Name(Ident),
+    /// A column, a variable or a parameter. Its anchor is its first name.
+    Name(ColumnName),
     /// A call of a function, with its arguments. Its anchor is the function's name.
     Call(Ident, Items<Expr>),
     /// A word with its operands. Its anchor is the word, the sign or the comparison's operator; of
@@ -99,3 +100,6 @@ pub struct Link {
     pub anchor: Anchor,
     pub operand: Expr,
 }
+
+// Lists of expressions hold each in place.
+const _: () = prove!(size_of::<Expr>() <= 80);

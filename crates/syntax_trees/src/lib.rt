@@ -8,8 +8,11 @@ mod expr;
 mod query;
 mod statement;
 
-pub use anchor::{Anchor, Ident};
+pub use anchor::{Anchor, ColumnName, Ident};
 pub use data_type::{DataType, TypeName};
 pub use expr::{ChainOperator, Expr, Link, Literal, Operation, TruthTest};
-pub use query::{FromItem, Query, Select, ValueRow, Values};
+pub use query::{
+    FromItem, OrderedQuery, Query, Select, SelectItem, SortSpecification, TableRef, ValueRow,
+    Values,
+};
 pub use statement::{Column, Constraint, CreateFunction, CreateTable, Insert, Parameter, Stmt};

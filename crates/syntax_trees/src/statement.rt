@@ -1,6 +1,6 @@
 //! Statements.
 
-use crate::{Anchor, DataType, Expr, Ident, Query};
+use crate::{Anchor, DataType, Expr, Ident, OrderedQuery, Query};
 use sqlite_items::Items;
 
 /// A statement of a script.
@@ -9,7 +9,7 @@ pub enum Stmt {
     CreateTable(CreateTable),
     CreateFunction(CreateFunction),
     Insert(Insert),
-    Query(Query),
+    Query(OrderedQuery),
 }
 
 /// `CREATE TABLE name (columns)` (ISO/IEC 9075-2, 11.3).

@@ -3,7 +3,7 @@ use Rattle.std.proofs.Common.{ap, sym, ◌∙◌}
 use Rattle.table_store.specs.Memory.{Memory}
 use Rattle.catalog_store.specs.View.{query_of}
 use Rattle.plan_exec.specs.declared.collecting.Answer.{Answer}
-use Rattle.psm_interp.specs.Content.{world_of}
+use Rattle.expr_interp.specs.Content.{world_of}
 use Rattle.psm_session.specs.Answering.{ends_with}
 use Rattle.psm_session.proofs.Answering.{rows_effect, area_effect}
 use Rattle.psm_session.proofs.world.answer_in.Goals as goal

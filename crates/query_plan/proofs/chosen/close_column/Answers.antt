@@ -4,7 +4,7 @@ use Rattle.rel_algebra.specs.declared.scalar.ListWord.TheVariants.{Case}
 use Rattle.rel_algebra.specs.Plan.{case_word, word}
 use Rattle.rel_algebra.specs.PlanView.{scalars_of}
 use Rattle.query_plan.proofs.Choosing.{column_closed}
-use Rattle.query_plan.proofs.Views.{scalar_of-Listed}
+use Rattle.expr_plan.proofs.Laws.{scalar_of-Listed}
 use Rattle.query_plan.proofs.chosen.close_column.Goals as goal
 
 pub returns : goal.returns

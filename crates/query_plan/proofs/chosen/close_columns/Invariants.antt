@@ -1,6 +1,6 @@
 use Rattle.std.proofs.Common.{◌≡◌, length, reverse}
 use Rattle.query_plan.specs.Choosing.{closed, all_arms_of}
-use Rattle.query_plan.specs.Emission.{put}
+use Rattle.expr_plan.specs.Emission.{put}
 use Rattle.query_plan.proofs.chosen.close_columns.Given as goal
 
 abbrev pub invariant-loop-column : goal.invariant-loop-column

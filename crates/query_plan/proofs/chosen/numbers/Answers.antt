@@ -4,7 +4,7 @@ use Rattle.rel_algebra.specs.Plan.{Scalars}
 use Rattle.rel_algebra.specs.PlanView.{scalars, scalars_of, lists_of}
 use Rattle.rel_algebra.specs.Emit.{numbers}
 use Rattle.query_plan.proofs.Choosing.{numbers-next}
-use Rattle.query_plan.proofs.Lists.{map-last}
+use Rattle.expr_plan.proofs.Laws.{map-last}
 use Rattle.query_plan.proofs.chosen.numbers.Goals as goal
 
 pub loop-number-preserved : goal.loop-number-preserved

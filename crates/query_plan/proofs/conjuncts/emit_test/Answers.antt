@@ -7,7 +7,7 @@ use Rattle.rel_algebra.specs.PlanView.{scalar_of}
 use Rattle.catalog_store.specs.View.{tree_of}
 use Rattle.catalog_store.specs.Widths.{width_in}
 use Rattle.query_plan.proofs.Tests.{emits_turned, emits_plain}
-use Rattle.query_plan.proofs.Views.{scalar_of-Constant}
+use Rattle.expr_plan.proofs.Laws.{scalar_of-Constant}
 use Rattle.query_plan.proofs.conjuncts.emit_test.Goals as goal
 
 pub returns-in_ok-compare-in-Some : goal.returns-in_ok-compare-in-Some

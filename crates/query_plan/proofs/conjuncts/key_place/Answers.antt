@@ -2,7 +2,7 @@ use Rattle.std.proofs.Common.{List, map, sym, ap, ◌∙◌}
 use Rattle.bound_trees.specs.declared.expr.BoundExpr.{BoundExpr}
 use Rattle.catalog_store.specs.View.{tree_of, operated}
 use Rattle.query_plan.specs.Conjuncts.{key_place}
-use Rattle.query_plan.proofs.Views.{tree_of-Operation}
+use Rattle.expr_plan.proofs.Laws.{tree_of-Operation}
 use Rattle.query_plan.proofs.conjuncts.key_place.Goals as goal
 
 pub returns-in-Operation : goal.returns-in-Operation

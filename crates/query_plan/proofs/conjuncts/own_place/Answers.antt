@@ -1,7 +1,7 @@
 use Rattle.std.proofs.Common.{sym, ap, ◌∙◌}
 use Rattle.catalog_store.specs.View.{tree_of}
 use Rattle.query_plan.specs.Conjuncts.{own_place}
-use Rattle.query_plan.proofs.Views.{tree_of-Column, tree_of-Variable}
+use Rattle.expr_plan.proofs.Laws.{tree_of-Column, tree_of-Variable}
 use Rattle.query_plan.proofs.conjuncts.own_place.Goals as goal
 
 pub returns-in-Column : goal.returns-in-Column

@@ -3,7 +3,6 @@ use Rattle.rel_algebra.specs.Plan.{on_each}
 use Rattle.rel_algebra.specs.Emit.{assigning, emit, top}
 use Rattle.catalog_store.specs.View.{tree_of}
 use Rattle.catalog_store.specs.Widths.{width_in}
-use Rattle.query_plan.proofs.Running.{run_of_plan}
 use Rattle.query_plan.proofs.functions.plan_function.Goals as goal
 
 pub returns : goal.returns
@@ -13,6 +12,6 @@ returns c = λ types.
     let start = c.over-draft.ensures in
     let emits = c.in_ok-value.ensures in
     record {
-      nodes = run_of_plan c.into_plan-nodes.result (emission 0).nodes (c.into_plan-nodes.ensures ∙ emits.tree ∙ (λ j. on_each (emission (start.width j)).nodes (start.tree j)));
+      nodes = c.into_nodes-nodes.ensures.kept (emission 0).nodes (emits.tree ∙ (λ j. on_each (emission (start.width j)).nodes (start.tree j)));
       scalar = c.in_ok-scalar.ensures ∙ ap (assigning c.args.returns) (emits.scalar ∙ ap (λ n. (emission n).scalar) start.width);
     }

@@ -4,8 +4,8 @@ use Rattle.rel_algebra.specs.Joins.{places}
 use Rattle.rel_algebra.specs.Plan.{keep, extend}
 use Rattle.rel_algebra.specs.PlanView.{scalars_of}
 use Rattle.rel_algebra.specs.Emit.{own_places}
-use Rattle.query_plan.specs.Drafts.{drafted}
-use Rattle.query_plan.proofs.Lists.{scalars-counted}
+use Rattle.expr_plan.specs.Drafts.{drafted}
+use Rattle.expr_plan.proofs.Laws.{scalars-counted}
 use Rattle.query_plan.proofs.Own.{listed_none}
 use Rattle.query_plan.proofs.listing.list.Goals as goal
 

@@ -1,6 +1,6 @@
 use Rattle.std.proofs.Common.{rules, ◌∙◌, arith}
 use Rattle.std.specs.Option.{option_copied}
-use Rattle.sql_names.specs.Sight.{seen_by}
+use Rattle.names_in_sight.specs.Sight.{seen_by}
 use Rattle.sql_names.specs.Names.{inner}
 use Rattle.sql_names.proofs.Steps.{operands-value, operands-notes, chain_value, chain_notes, call_notes}
 use Rattle.sql_names.proofs.expr.+bind.Goals as goal

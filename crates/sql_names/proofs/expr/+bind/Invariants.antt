@@ -1,6 +1,6 @@
 use Rattle.std.proofs.Common.{◌≡◌, drop}
 use Rattle.name_faults.specs.Faults.{taken}
-use Rattle.sql_names.specs.Sight.{seen_by}
+use Rattle.names_in_sight.specs.Sight.{seen_by}
 use Rattle.sql_names.specs.Names.{judge_all, judge_links}
 use Rattle.sql_names.proofs.Steps.{appended}
 use Rattle.sql_names.proofs.expr.+bind.Given as goal

@@ -1,0 +1,11 @@
+pub mod Places
+pub mod Joins
+pub mod Nodes
+pub mod Views
+pub mod Lists
+pub mod Checks
+pub mod Emitting
+pub mod Moving
+pub mod Running
+pub mod Arms
+pub mod Laws

@@ -1,0 +1,11 @@
+use Rattle.std.proofs.Common.{◌∙◌}
+use Rattle.rel_algebra.specs.declared.plan.Node.TheVariants.{Keep}
+use Rattle.rel_algebra.specs.PlanView.{leaf_of, with_nodes}
+use Rattle.expr_plan.proofs.Nodes.{one_behind, with-Keep}
+use Rattle.expr_plan.proofs.draft.Draft.keep.Goals as goal
+
+pub returns-clause-tree : goal.returns-clause-tree
+returns-clause-tree c =
+    let plan = c.args.self.now.plan in
+    let input = leaf_of plan.leaf in
+    one_behind plan.nodes _ (Keep c.args.places) input c.in_ok-push.ensures.ok ∙ with-Keep c.args.places (with_nodes plan.nodes input)

@@ -1,0 +1,28 @@
+use Rattle.std.proofs.Common.{ℕ, subst, refl}
+use Rattle.rel_algebra.specs.Merged.{moved}
+use Rattle.rel_algebra.specs.PlanView.{scalar_of}
+use Rattle.expr_plan.specs.Emission.{Emits}
+use Rattle.expr_plan.specs.Merging.{move_of}
+use Rattle.expr_plan.proofs.Moving.{merging_next, no_other, merging_done}
+use Rattle.expr_plan.proofs.Running.{no_run}
+use Rattle.expr_plan.proofs.merge.merge.Goals as goal
+
+pub loop-node-preserved : goal.loop-node-preserved
+loop-node-preserved c =
+    merging_next (move_of (record { by = c.columns.result; from = c.args.first })) c.args.plan.now.nodes c.loop-node.node-index c.node-item.result c.in-Extend.scalars
+    c.in_ok-scalars-in-Extend.scalars c.args.draft.now c.loop-node.draft c.extend.new.self (rw c.as_slice-node-items.ensures at c.loop-node-test.true)
+    (rw c.as_slice-node-items.ensures at c.node-item.is) c.in-Extend.is (rw c.as_slice.ensures at c.in_ok-scalars-in-Extend.ensures) c.in_ok-extend-in-Extend.ensures.tree
+    c.in_ok-extend-in-Extend.ensures.width c.loop-node.invariant
+
+pub returns : goal.returns
+returns c = λ e is.
+    subst (λ (by : ℕ). Emits c.args.draft.now c.loop-node.draft (scalar_of c.in_ok-moved_scalar.field-0) (moved (record { by = by; from = c.args.first }) 0 e)) c.columns.ensures
+    (merging_done (move_of (record { by = c.columns.result; from = c.args.first })) c.args.plan.now.nodes c.loop-node.node-index c.args.draft.now c.loop-node.draft
+    (scalar_of c.in_ok-moved_scalar.field-0) e (rw c.as_slice-node-items.ensures at c.loop-node-test.false) c.loop-node.invariant is.nodes
+    (rw is.scalar at c.in_ok-moved_scalar.ensures))
+
+pub unreachable-requires : goal.unreachable-requires
+unreachable-requires c =
+    no_other (move_of (record { by = c.columns.result; from = c.args.first })) c.args.plan.now.nodes c.loop-node.node-index c.node-item.result c.node-item.result
+    c.args.draft.now c.loop-node.draft (rw c.as_slice-node-items.ensures at c.loop-node-test.true) (rw c.as_slice-node-items.ensures at c.node-item.is) refl c.requires
+    c.loop-node.invariant (λ others. no_run c.node-item.result others c.in_default.not-Extend)

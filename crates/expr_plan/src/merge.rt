@@ -1,0 +1,54 @@
+//! The plan that is kept for a function, merged into a call.
+
+ghost use Rattle.std.specs.Prelude.{IsSome, IfOk};
+ghost use Rattle.rel_algebra.specs.Emit.{Emitted};
+ghost use Rattle.rel_algebra.specs.Merged.{moved};
+ghost use Rattle.rel_algebra.specs.PlanView.{scalar_of};
+ghost use Rattle.catalog_store.specs.Kept.{run_of, IsPlan, HasPlan};
+ghost use Rattle.expr_plan.specs.Drafts.{drafted};
+ghost use Rattle.expr_plan.specs.Emission.{Emits};
+ghost use Rattle.expr_plan.specs.Merging.{HasRun};
+
+use crate::draft::Draft;
+use crate::moved::{Shift, moved_list, moved_scalar};
+use catalog_store::FunctionPlan;
+use rel_algebra::{Node, Scalar};
+use sql_values::NoMemory;
+
+/// The body of a function where it is called, by the plan that is kept for it. The columns of the
+/// plan in the making hold the arguments from `first` on.
+pub fn merge_kept(
+    plan: &Option<FunctionPlan>,
+    first: usize,
+    draft: &mut Draft,
+) -> Result<Scalar, NoMemory>
+    requires { HasRun plan.now }
+    ensures { IfOk result (λ s. (e : Emitted) → HasPlan plan.now e → Emits draft.old draft.new (scalar_of s) (moved (record { by = (drafted draft.old).width; from = first }) 0 e)) }
+{
+    match plan {
+        Some(plan) => merge(plan, first, draft),
+        None => unreachable!(),
+    }
+}
+
+// Puts the nodes of a function's plan over a plan in the making, and gives the function's value
+// over these.
+fn merge(plan: &FunctionPlan, first: usize, draft: &mut Draft) -> Result<Scalar, NoMemory>
+    requires { IsSome (run_of plan.now.nodes) }
+    ensures { IfOk result (λ s. (e : Emitted) → IsPlan plan.now e → Emits draft.old draft.new (scalar_of s) (moved (record { by = (drafted draft.old).width; from = first }) 0 e)) }
+{
+    let shift = Shift {
+        by: draft.columns(),
+        from: first,
+    };
+    for node in plan.nodes.as_slice() {
+        match node {
+            Node::Extend(scalars) => {
+                let scalars = moved_list(draft.allocator(), shift, scalars.as_slice())?;
+                draft.extend(scalars)?;
+            }
+            _ => unreachable!(),
+        }
+    }
+    Ok(moved_scalar(draft.allocator(), shift, &plan.scalar)?)
+}

@@ -1,0 +1,86 @@
+-- Worked rows: what names stand for.
+use Rattle.std.specs.Prelude.{ℕ, ◌≡◌, true, false, List, [], ◌∷◌, None, Some, codes}
+use Rattle.syntax_trees.specs.declared.anchor.ColumnName.{ColumnName}
+use Rattle.syntax_trees.specs.declared.anchor.Ident.{Ident}
+use Rattle.name_kinds.specs.declared.kind.Kind.{Kind}
+use Rattle.name_kinds.specs.declared.kind.Kind.TheVariants.{Integer, Text, Boolean}
+use Rattle.names_in_sight.specs.declared.item.Item.{Item}
+use Rattle.names_in_sight.specs.declared.output.Output.{Output}
+use Rattle.names_in_sight.specs.declared.sight.Found.{Found}
+use Rattle.names_in_sight.specs.declared.sight.Found.TheVariants.{Column, Guessed, Variable, Several, Unknown}
+use Rattle.names_in_sight.specs.Sight.{Level, Seen, stands_for}
+
+abbrev pub ident : List ℕ → Ident
+ident name = record { name = name; anchor = record { token = 0; line = 1; column = 1 } }
+
+-- c
+abbrev pub plain : List ℕ → ColumnName
+plain name = record { qualifier = None; name = ident name }
+
+-- q.c
+abbrev pub qualified : List ℕ → List ℕ → ColumnName
+qualified q name = record { qualifier = Some (ident q); name = ident name }
+
+abbrev pub column : List ℕ → Kind → Output
+column name kind = record { name = Some name; kind = kind }
+
+abbrev pub unnamed : Output
+unnamed = record { name = None; kind = Boolean }
+
+-- an item whose columns begin at a place of the row
+abbrev pub item : List ℕ → ℕ → List Output → Item
+item name first cs = record { name = name; columns = cs; first = first; known = true }
+
+abbrev pub missing : List ℕ → Item
+missing name = record { name = name; columns = []; first = 0; known = false }
+
+abbrev pub level : ℕ → List Item → Level
+level base is = record { items = is; base = base }
+
+-- inside these queries, in a function with a parameter X
+abbrev pub seen : List Level → Seen
+seen levels = record { levels = levels; variables = record { names = codes "X" ∷ []; kinds = Text ∷ [] }; catalog = [] }
+
+-- T (K, A), and U (A, B) right of it
+abbrev pub t : Item
+t = item (codes "T") 0 (column (codes "K") Integer ∷ column (codes "A") Text ∷ [])
+
+abbrev pub u : Item
+u = item (codes "U") 2 (column (codes "A") Boolean ∷ column (codes "B") Integer ∷ [])
+
+-- D, a derived table with two columns A and one without a name
+abbrev pub d : Item
+d = item (codes "D") 0 (column (codes "A") Integer ∷ unnamed ∷ column (codes "A") Integer ∷ [])
+
+abbrev pub both : Level
+both = level 0 (t ∷ u ∷ [])
+
+abbrev pub Stands : ColumnName → List Level → Found → Type 0
+Stands c levels found = stands_for c (seen levels) ≡ found
+
+pub record NamesStandForOne : Type 0 where
+  pub first : Stands (plain (codes "K")) (both ∷ []) (Column 0 0 Integer)
+  pub of_the_second_item : Stands (plain (codes "B")) (both ∷ []) (Column 0 3 Integer)
+  pub in_two_items : Stands (plain (codes "A")) (both ∷ []) Several
+  pub with_a_qualifier : Stands (qualified (codes "U") (codes "A")) (both ∷ []) (Column 0 2 Boolean)
+  pub with_another_qualifier : Stands (qualified (codes "T") (codes "A")) (both ∷ []) (Column 0 1 Text)
+  pub twice_in_one_item : Stands (plain (codes "A")) (level 0 (d ∷ []) ∷ []) Several
+  pub twice_behind_its_name : Stands (qualified (codes "D") (codes "A")) (level 0 (d ∷ []) ∷ []) Several
+  pub first_item_of_a_name : Stands (qualified (codes "T") (codes "A")) (level 0 (t ∷ item (codes "T") 2 (column (codes "A") Integer ∷ []) ∷ []) ∷ []) (Column 0 1 Text)
+  pub item_of_a_name_that_has_it : Stands (qualified (codes "T") (codes "C")) (level 0 (t ∷ item (codes "T") 2 (column (codes "C") Integer ∷ []) ∷ []) ∷ []) (Column 0 2 Integer)
+  pub no_item_of_the_name : Stands (qualified (codes "V") (codes "A")) (both ∷ []) Unknown
+  pub behind_a_comma : Stands (plain (codes "A")) (level 2 (u ∷ []) ∷ []) (Column 0 0 Boolean)
+  pub outside : Stands (plain (codes "B")) (level 0 (t ∷ []) ∷ both ∷ []) (Column 1 3 Integer)
+
+pub record ItemsHide : Type 0 where
+  pub inner_column : Stands (plain (codes "A")) (level 0 (t ∷ []) ∷ both ∷ []) (Column 0 1 Text)
+  pub inner_item_of_the_name : Stands (qualified (codes "T") (codes "B")) (level 0 (t ∷ []) ∷ level 0 (item (codes "T") 0 (column (codes "B") Integer ∷ []) ∷ []) ∷ []) Unknown
+  pub not_an_unknown_one : Stands (qualified (codes "T") (codes "B")) (level 0 (missing (codes "T") ∷ []) ∷ level 0 (item (codes "T") 0 (column (codes "B") Integer ∷ []) ∷ []) ∷ []) (Column 1 0 Integer)
+  pub known_before_unknown : Stands (plain (codes "K")) (level 0 (missing (codes "V") ∷ []) ∷ both ∷ []) (Column 1 0 Integer)
+  pub of_an_unknown_item : Stands (plain (codes "Z")) (level 0 (t ∷ missing (codes "V") ∷ []) ∷ []) Guessed
+  pub of_an_unknown_item_by_name : Stands (qualified (codes "V") (codes "Z")) (level 0 (t ∷ missing (codes "V") ∷ []) ∷ []) Guessed
+  pub unknown_item_of_another_name : Stands (qualified (codes "T") (codes "Z")) (level 0 (t ∷ missing (codes "V") ∷ []) ∷ []) Unknown
+  pub variable : Stands (plain (codes "X")) (both ∷ []) (Variable 0 Text)
+  pub unknown_item_before_variable : Stands (plain (codes "X")) (level 0 (missing (codes "V") ∷ []) ∷ []) Guessed
+  pub no_variable_behind_a_name : Stands (qualified (codes "T") (codes "X")) (both ∷ []) Unknown
+  pub nothing : Stands (plain (codes "Z")) (both ∷ []) Unknown

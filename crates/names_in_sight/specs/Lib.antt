@@ -1,0 +1,4 @@
+pub mod Index
+pub mod Columns
+pub mod Sight
+pub mod Examples

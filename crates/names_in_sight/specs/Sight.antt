@@ -1,0 +1,137 @@
+-- The names in sight of an expression, and what a name stands for. ISO/IEC 9075-2, 5.4 (names), 6.6 (identifier chain) and 7.6 (table reference).
+use Rattle.std.specs.Prelude.{ℕ, ◌+◌, ◌-◌, Bool, true, false, ◌&&◌, not, if◌then◌else◌, List, [], ◌∷◌, map, get_or, Option, Some, None, is_some}
+use Rattle.std.specs.List.{list_any}
+use Rattle.std.specs.Str.{bytes_eq}
+use Rattle.syntax_trees.specs.declared.anchor.ColumnName.{ColumnName}
+use Rattle.syntax_trees.specs.declared.anchor.Ident.{Ident}
+use Rattle.name_kinds.specs.declared.kind.Kind.{Kind}
+use Rattle.name_kinds.specs.declared.kind.Kind.TheVariants.{Null}
+use Rattle.catalog_store.specs.Catalog.{Catalog}
+use Rattle.names_in_sight.specs.declared.item.Item.{Item}
+use Rattle.names_in_sight.specs.declared.output.Hit.{Hit}
+use Rattle.names_in_sight.specs.declared.output.Hit.TheVariants.{Nowhere, Once, Twice}
+use Rattle.names_in_sight.specs.declared.sight.Variables.{Variables}
+use Rattle.names_in_sight.specs.declared.sight.Found.{Found}
+use Rattle.names_in_sight.specs.declared.sight.Found.TheVariants.{Column, Guessed, Variable, Several, Unknown}
+use Rattle.names_in_sight.specs.declared.sight.Level.{Level as CodeLevel}
+use Rattle.names_in_sight.specs.declared.sight.Sight.{Sight as CodeSight}
+use Rattle.names_in_sight.specs.Columns.{hits, together, or_else, moved}
+use Rattle.names_in_sight.specs.Index.{place_of}
+
+-- What a query brings in sight: items of its FROM, and the place in its row at which the first of them begins. The place of a flag for grouped
+-- queries, and of their grouping columns, is here.
+pub record Level : Type 0 where
+  pub items : List Item
+  pub base : ℕ
+
+-- the queries around an expression, the innermost first, the variables and parameters, and the catalog
+pub record Seen : Type 0 where
+  pub levels : List Level
+  pub variables : Variables
+  pub catalog : Catalog
+
+-- ---- in one query
+
+abbrev pub is_named : List ℕ → Item → Bool
+is_named name i = bytes_eq i.name name
+
+-- whether the name before the column, if there is one, is the item's
+abbrev pub is_meant : Option Ident → Item → Bool
+is_meant None i = true
+is_meant (Some q) i = is_named q.name i
+
+-- a column of an item, by its place in the row that begins at another column
+abbrev pub hit_of : List ℕ → ℕ → Item → Hit
+hit_of name base i = moved (i.first - base) (hits name i.columns)
+
+-- two items have it, but behind an item's name the first of them counts
+abbrev pub joined : Bool → Hit → Hit → Hit
+joined false first second = together first second
+joined true first second = or_else first second
+
+abbrev pub one_more : ColumnName → ℕ → Hit → Item → Hit
+one_more c base hit i = if is_meant c.qualifier i then joined (is_some c.qualifier) hit (hit_of c.name.name base i) else hit
+
+abbrev pub among_from : ColumnName → ℕ → Hit → List Item → Hit
+among_from c base hit [] = hit
+among_from c base hit (i ∷ is) = among_from c base (one_more c base hit i) is
+
+-- how often a name stands among items
+abbrev pub among : ColumnName → ℕ → List Item → Hit
+among c base is = among_from c base Nowhere is
+
+-- an item that is not known has each column that no other item in sight has
+abbrev pub is_unknown : Option Ident → Item → Bool
+is_unknown q i = not i.known && is_meant q i
+
+abbrev pub any_unknown : Option Ident → List Item → Bool
+any_unknown q is = list_any (is_unknown q) is
+
+-- known items of the name before the column hide those further outwards
+abbrev pub hides : Option Ident → List Item → Bool
+hides q is = (is_some q && list_any (is_meant q) is) && not (any_unknown q is)
+
+-- ---- outwards
+
+abbrev pub found_or : ℕ → Hit → Found → Found
+found_or level Nowhere other = other
+found_or level (Once place kind) other = Column level place kind
+found_or level Twice other = Several
+
+-- a column of a known item, of the innermost query outwards
+abbrev pub outwards : ColumnName → ℕ → List Level → Found → Found
+outwards c level [] other = other
+outwards c level (l ∷ ls) other = found_or level (among c l.base l.items) (if hides c.qualifier l.items then Unknown else outwards c (level + 1) ls other)
+
+abbrev pub guessed : Bool → Found → Found
+guessed false other = other
+guessed true other = Guessed
+
+-- the kind at a place
+abbrev pub kind_at : List Kind → ℕ → Kind
+kind_at kinds place = get_or kinds place Null
+
+abbrev pub variable_at : List Kind → Option ℕ → Found
+variable_at kinds None = Unknown
+variable_at kinds (Some place) = Variable place (kind_at kinds place)
+
+abbrev pub unqualified : Option Ident → Found → Found
+unqualified None found = found
+unqualified (Some q) found = Unknown
+
+-- a name with another before it is no variable
+abbrev pub variable : ColumnName → Variables → Found
+variable c vs = unqualified c.qualifier (variable_at vs.kinds (place_of c.name.name vs.names))
+
+-- a column of a known item, then of any that is not known, then a variable or parameter
+abbrev pub stands_for : ColumnName → Seen → Found
+stands_for c seen = outwards c 0 seen.levels (guessed (list_any (λ l. any_unknown c.qualifier l.items) seen.levels) (variable c seen.variables))
+
+-- ---- sights
+
+abbrev pub no_variables : Variables
+no_variables = record { names = []; kinds = [] }
+
+-- where no name is in sight but those of the catalog
+abbrev pub at_top : Catalog → Seen
+at_top catalog = record { levels = []; variables = no_variables; catalog = catalog }
+
+-- in the body of a function with these parameters
+abbrev pub in_function : Variables → Catalog → Seen
+in_function parameters catalog = record { levels = []; variables = parameters; catalog = catalog }
+
+-- in a query
+abbrev pub inside : Level → Seen → Seen
+inside level outside = record { levels = level ∷ outside.levels; variables = outside.variables; catalog = outside.catalog }
+
+-- with another catalog
+abbrev pub over_catalog : Catalog → Seen → Seen
+over_catalog catalog seen = record { levels = seen.levels; variables = seen.variables; catalog = catalog }
+
+-- ---- what the code's sight shows
+
+abbrev pub level_by : CodeLevel → Level
+level_by l = record { items = l.items.now; base = l.base }
+
+abbrev pub seen_by : CodeSight → Seen
+seen_by s = record { levels = map level_by s.levels.now; variables = s.variables.now; catalog = s.catalog.now }

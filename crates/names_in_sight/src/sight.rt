@@ -1,0 +1,156 @@
+//! The names in sight, and what a name stands for.
+
+ghost use Rattle.std.specs.Prelude.{◌≡◌, ◌∷◌, IfOk, map};
+ghost use Rattle.std.specs.List.{list_any};
+ghost use Rattle.names_in_sight.specs.Sight as spec;
+ghost use Rattle.names_in_sight.specs.Sight.{seen_by, level_by};
+
+use crate::item::{Item, among, any_unknown, hides};
+use crate::name_list::NameList;
+use crate::output::Hit;
+use catalog_store::Catalog;
+use name_kinds::Kind;
+use sql_values::NoMemory;
+use sqlite_items::Items;
+use std::alloc::Global;
+use syntax_trees::ColumnName;
+
+/// Variables or parameters, with the kind of each.
+#[derive(Drop)]
+pub struct Variables {
+    pub names: NameList,
+    pub kinds: Items<Kind>,
+}
+
+/// What a query brings in sight: items of its FROM, and the place in its row at which the first of
+/// them begins.
+#[derive(Clone, Copy)]
+pub struct Level<'a> {
+    pub items: &'a [Item],
+    pub base: usize,
+}
+
+/// The queries around an expression, the innermost first, the variables and parameters, and the
+/// catalog.
+#[derive(Clone, Copy)]
+pub struct Sight<'a> {
+    pub levels: &'a [Level<'a>],
+    pub variables: &'a Variables,
+    pub catalog: &'a Catalog,
+}
+
+/// What a name stands for.
+#[derive(Clone, Copy)]
+pub enum Found {
+    /// So many queries outwards, the column of this place, of this kind.
+    Column(usize, usize, Kind),
+    /// A column of an item that is not known.
+    Guessed,
+    /// The variable or parameter of this place, of this kind.
+    Variable(usize, Kind),
+    /// Two columns.
+    Several,
+    Unknown,
+}
+
+fn may_be_guessed(wanted: &ColumnName, levels: &[Level<'_>]) -> bool
+    ensures { result ≡ list_any (λ l. spec.any_unknown wanted.now.qualifier l.items) (map level_by levels.now) }
+{
+    for level in levels {
+        if any_unknown(&wanted.qualifier, level.items) {
+            return true;
+        }
+    }
+    false
+}
+
+fn guessed(unknown: bool, other: Found) -> Found
+    ensures { result ≡ spec.guessed unknown other }
+{
+    if unknown { Found::Guessed } else { other }
+}
+
+// The kind at a place.
+fn kind_at(kinds: &[Kind], place: usize) -> Kind
+    ensures { result ≡ spec.kind_at kinds.now place }
+{
+    match kinds.get(place) {
+        Some(kind) => *kind,
+        None => Kind::Null,
+    }
+}
+
+fn variable_at(kinds: &[Kind], place: Option<usize>) -> Found
+    ensures { result ≡ spec.variable_at kinds.now place }
+{
+    match place {
+        Some(place) => Found::Variable(place, kind_at(kinds, place)),
+        None => Found::Unknown,
+    }
+}
+
+// A name with another before it is no variable.
+fn variable(wanted: &ColumnName, variables: &Variables) -> Found
+    ensures { result ≡ spec.variable wanted.now variables.now }
+{
+    match &wanted.qualifier {
+        Some(_) => Found::Unknown,
+        None => {
+            let place = variables.names.place(&wanted.name.name);
+            variable_at(variables.kinds.as_slice(), place)
+        }
+    }
+}
+
+// A column of a known item, of the innermost query outwards.
+fn outwards(wanted: &ColumnName, levels: &[Level<'_>], other: Found) -> Result<Found, NoMemory>
+    ensures { IfOk result (λ f. f ≡ spec.outwards wanted.now 0 (map level_by levels.now) other) }
+{
+    for (depth, level) in levels.iter().enumerate() {
+        match among(wanted, level.items, level.base)? {
+            Hit::Nowhere => {
+                if hides(&wanted.qualifier, level.items) {
+                    return Ok(Found::Unknown);
+                }
+            }
+            Hit::Once(place, kind) => return Ok(Found::Column(depth, place, kind)),
+            Hit::Twice => return Ok(Found::Several),
+        }
+    }
+    Ok(other)
+}
+
+/// A column of a known item, then of any that is not known, then a variable or parameter.
+pub fn stands_for(wanted: &ColumnName, sight: &Sight<'_>) -> Result<Found, NoMemory>
+    ensures { IfOk result (λ f. f ≡ spec.stands_for wanted.now (seen_by sight.now)) }
+{
+    let other = variable(wanted, sight.variables);
+    let other = guessed(may_be_guessed(wanted, sight.levels), other);
+    outwards(wanted, sight.levels, other)
+}
+
+/// No variable.
+pub fn no_variables(alloc: Global) -> Variables
+    ensures { result ≡ spec.no_variables }
+{
+    Variables {
+        names: NameList::new(alloc),
+        kinds: Items::new(alloc),
+    }
+}
+
+/// The levels inside a query.
+pub fn entered<'a>(
+    alloc: Global,
+    inner: Level<'a>,
+    outside: &'a [Level<'a>],
+) -> Result<Vec<Level<'a>>, NoMemory>
+    ensures { IfOk result (λ ls. map level_by ls.items ≡ level_by inner.entry ∷ map level_by outside.now) }
+{
+    let mut levels = Vec::new(alloc);
+    levels.push(inner)?;
+    for outer in outside {
+        levels.push(*outer)?;
+    }
+    Ok(levels)
+}

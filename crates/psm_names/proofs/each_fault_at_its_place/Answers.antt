@@ -1,0 +1,35 @@
+use Rattle.std.proofs.Common.{ap, refl, [], ◌∷◌, None}
+use Rattle.std.specs.Prelude.{codes}
+use Rattle.name_faults.specs.Faults.{Noted, least}
+use Rattle.psm_names.specs.declared.statement.BoundStmt.{BoundStmt}
+use Rattle.sql_names.specs.Examples.{null, name, call}
+use Rattle.psm_names.specs.Examples.{integer, new_parameter}
+use Rattle.psm_names.proofs.Rows.{select-row, values-row, insert-row, function-row}
+use Rattle.psm_names.proofs.each_fault_at_its_place.Goals as goal
+
+pub returns : goal.returns
+returns c = record {
+  unknown_table = ap (λ (x : Noted BoundStmt). least x.faults) (insert-row (codes "U") ((null 5 ∷ []) ∷ []));
+  function_as_table = ap (λ (x : Noted BoundStmt). least x.faults) (select-row (codes "F") (null 1 ∷ []) None);
+  unknown_column = ap (λ (x : Noted BoundStmt). least x.faults) (select-row (codes "T") (null 1 ∷ name (codes "B") 3 ∷ []) None);
+  column_of_unknown_table = ap (λ (x : Noted BoundStmt). least x.faults) (select-row (codes "U") (name (codes "B") 1 ∷ []) None);
+  no_column_in_values = ap (λ (x : Noted BoundStmt). least x.faults) (insert-row (codes "T") ((null 5 ∷ name (codes "A") 7 ∷ []) ∷ []));
+  unknown_function = ap (λ (x : Noted BoundStmt). least x.faults) (select-row (codes "T") (call (codes "G") 1 (null 3 ∷ []) ∷ []) None);
+  table_as_function = ap (λ (x : Noted BoundStmt). least x.faults) (select-row (codes "T") (call (codes "T") 1 [] ∷ []) None);
+  self_call = ap (λ (x : Noted BoundStmt). least x.faults) (function-row (codes "G") (new_parameter (codes "X") 4 (integer 5) ∷ []) (integer 8) (call (codes "G") 10 (name (codes "X") 12 ∷ [])));
+  taken_name = ap (λ (x : Noted BoundStmt). least x.faults) (function-row (codes "F") [] (integer 8) (null 10));
+  second_parameter = ap (λ (x : Noted BoundStmt). least x.faults) (function-row (codes "G") (new_parameter (codes "X") 4 (integer 5) ∷ new_parameter (codes "X") 7 (integer 8) ∷ []) (integer 10) (null 12));
+  arguments = ap (λ (x : Noted BoundStmt). least x.faults) (select-row (codes "T") (call (codes "F") 1 [] ∷ []) None);
+  longer_row = ap (λ (x : Noted BoundStmt). least x.faults) (values-row ((null 4 ∷ []) ∷ (null 6 ∷ null 8 ∷ []) ∷ []));
+  shorter_row = ap (λ (x : Noted BoundStmt). least x.faults) (values-row ((null 4 ∷ null 6 ∷ []) ∷ (null 8 ∷ []) ∷ []));
+  width_of_the_table = ap (λ (x : Noted BoundStmt). least x.faults) (insert-row (codes "T") ((null 5 ∷ []) ∷ []));
+  too_high = ap (λ (x : Noted BoundStmt). least x.faults) (function-row (codes "G") [] (integer 8) (call (codes "F") 17 (null 19 ∷ [])));
+  too_high_behind_unknown = ap (λ (x : Noted BoundStmt). least x.faults) (function-row (codes "G") [] (integer 8) (call (codes "H") 17 (call (codes "F") 19 (null 21 ∷ []) ∷ [])));
+  second_column = refl;
+  second_key = refl;
+  key_of_second_column = refl;
+  no_key = refl;
+  taken_before_no_key = refl;
+  length_of_a_column = refl;
+  free = refl;
+}

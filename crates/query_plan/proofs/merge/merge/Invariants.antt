@@ -1,6 +1,0 @@
-use Rattle.query_plan.specs.Merging.{move_of}
-use Rattle.query_plan.proofs.Moving.{Merging}
-use Rattle.query_plan.proofs.merge.merge.Given as goal
-
-abbrev pub invariant-loop-node : goal.invariant-loop-node
-invariant-loop-node l = Merging (move_of l.shift) l.plan.nodes l.node-index l.initial.draft l.draft

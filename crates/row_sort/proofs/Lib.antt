@@ -1,0 +1,4 @@
+pub mod Stable
+pub mod Keys
+pub mod Mapped
+pub mod Numbers

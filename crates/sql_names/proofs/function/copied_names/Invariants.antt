@@ -1,6 +1,0 @@
-use Rattle.std.proofs.Common.{◌≡◌, take}
-use Rattle.sql_names.specs.Sight.{parameter_names}
-use Rattle.sql_names.proofs.function.copied_names.Given as goal
-
-abbrev pub invariant-loop-parameter : goal.invariant-loop-parameter
-invariant-loop-parameter l = l.names ≡ parameter_names (take l.parameter-index l.parameters)

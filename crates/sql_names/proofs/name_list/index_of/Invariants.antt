@@ -1,6 +1,0 @@
-use Rattle.std.proofs.Common.{take}
-use Rattle.sql_names.specs.Index.{Indexes}
-use Rattle.sql_names.proofs.name_list.index_of.Given as goal
-
-abbrev pub invariant-loop-place : goal.invariant-loop-place
-invariant-loop-place l = Indexes l.index.entries (take l.place l.names)

@@ -1,0 +1,17 @@
+use Rattle.std.proofs.Common.{ap, [], ◌∷◌}
+use Rattle.std.specs.Prelude.{codes}
+use Rattle.name_faults.specs.Faults.{Noted, ◌>>=◌}
+use Rattle.names_in_sight.specs.Sight.{at_top}
+use Rattle.sql_names.specs.declared.typed.TypedQuery.{TypedQuery}
+use Rattle.sql_names.specs.Examples.{catalog, two_names, two_of_one_name, by_name}
+use Rattle.sql_names.specs.Order.{ordered_by}
+use Rattle.sql_names.proofs.Rows.{query_plain}
+use Rattle.sql_names.proofs.order_by_output_columns.Goals as goal
+
+pub returns : goal.returns
+returns c = record {
+  unknown = ap (λ (x : Noted TypedQuery). (x >>= ordered_by (by_name (codes "A") 70 ∷ [])).faults) (query_plain two_names [] (at_top catalog));
+  found_twice = ap (λ (x : Noted TypedQuery). (x >>= ordered_by (by_name (codes "B") 70 ∷ [])).faults) (query_plain two_of_one_name [] (at_top catalog));
+  by_the_last_part = ap (λ (x : Noted TypedQuery). (x >>= ordered_by (by_name (codes "B") 70 ∷ by_name (codes "C") 72 ∷ [])).value) (query_plain two_names [] (at_top catalog));
+  without_order = ap (λ (x : Noted TypedQuery). (x >>= ordered_by []).value) (query_plain two_names [] (at_top catalog));
+}
