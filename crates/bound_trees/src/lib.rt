@@ -6,5 +6,5 @@ mod query;
 mod statement;
 
 pub use expr::{BoundExpr, BoundLink, BoundOperation};
-pub use query::{BoundFromItem, BoundQuery, BoundRow, BoundSelect, BoundSource};
+pub use query::{BoundFromItem, BoundGrouping, BoundQuery, BoundRow, BoundSelect, BoundSource};
 pub use statement::BoundInsert;

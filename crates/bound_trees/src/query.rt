@@ -2,7 +2,7 @@
 
 use crate::BoundExpr;
 use row_types::SortKey;
-use sql_values::Name;
+use sql_values::{FoldKind, Name};
 use sqlite_items::{Boxed, Items};
 
 /// A row of VALUES (ISO/IEC 9075-2, 7.3).
@@ -47,12 +47,30 @@ pub enum BoundSource {
     Derived(Boxed<BoundQuery>),
 }
 
-/// A query over FROM (7.16): the select list, FROM, and the top conjuncts of WHERE. In the list and
-/// in WHERE the row is that of all of FROM.
+/// How a query is grouped (7.13). Of each row of FROM that is kept the parts are evaluated: the
+/// grouping columns, and then the arguments of the aggregates, which are those of the select list
+/// from left to right and then those of HAVING. The row of a group has its grouping columns and then
+/// its finished aggregates, so that each part and what becomes of it stand at one place.
+#[derive(Drop)]
+pub struct BoundGrouping {
+    /// How many of the parts are grouping columns.
+    pub keys: usize,
+    /// The grouping columns and then the aggregates' arguments, of which that of COUNT(*) is TRUE.
+    pub parts: Items<BoundExpr>,
+    /// The aggregates (10.9).
+    pub aggregates: Items<FoldKind>,
+    /// The top conjuncts of HAVING (7.14).
+    pub having: Items<BoundExpr>,
+}
+
+/// A query over FROM (7.16): the select list, FROM, the top conjuncts of WHERE, and how it is
+/// grouped, where it is. In WHERE, and in the list of a query that is not grouped, the row is that
+/// of all of FROM; in the list and in HAVING of a grouped one it is the row of a group.
 #[cycle(query)]
 #[derive(Drop)]
 pub struct BoundSelect {
     pub items: Items<BoundExpr>,
     pub from: Items<BoundFromItem>,
     pub conjuncts: Items<BoundExpr>,
+    pub grouping: Option<BoundGrouping>,
 }

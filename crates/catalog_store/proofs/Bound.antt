@@ -14,9 +14,9 @@ use Rattle.bound_trees.specs.declared.query.BoundFromItem.TheVariants as item
 use Rattle.bound_trees.specs.declared.query.BoundFromItem.TheVariants.{rolls-Comma, rolls-Cross, rolls-Inner, rolls-Left}
 use Rattle.bound_trees.specs.declared.query.BoundFromItem.TheOpen.{BoundFromItem-F, BoundQuery-F, BoundSource-F}
 use Rattle.bound_trees.specs.declared.query.BoundFromItem.TheFolds.{fold-roll-BoundFromItem, fold-roll-BoundQuery, fold-roll-BoundSource, fold-roll-BoundSelect}
-use Rattle.rel_algebra.specs.Tree.{From, Query, Table, Derived, Select, Values, Ordered}
+use Rattle.rel_algebra.specs.Tree.{From, Query, Table, Derived, Values, Ordered}
 use Rattle.catalog_store.specs.Catalog.{Catalog}
-use Rattle.catalog_store.specs.View.{Joining, after_comma, crossing, matching, matching_or_nulls, exprs_of, rows_of, from_of, item_step, query_step, source_step, select_step, query_of, item_of, source_of, select_of}
+use Rattle.catalog_store.specs.View.{Joining, after_comma, crossing, matching, matching_or_nulls, exprs_of, rows_of, from_of, selected, item_step, query_step, source_step, select_step, query_of, item_of, source_of, select_of}
 
 module _ (k : Catalog) where
   pub query_of-Select : (s : BoundSelect) → query_of k (query.Select s) ≡ select_of k s
@@ -31,10 +31,10 @@ module _ (k : Catalog) where
   query_of-Ordered q keys =
       ap (query_of k) (sym (rolls-Ordered q keys)) ∙ fold-roll-BoundQuery Joining Query From Query (item_step k) (query_step k) source_step (select_step k) (BoundQuery-F.Ordered q keys)
 
-  pub select_of-parts : (s : BoundSelect) → select_of k s ≡ Select (exprs_of k s.items) (from_of (map (item_of k) s.from)) (exprs_of k s.conjuncts)
+  pub select_of-parts : (s : BoundSelect) → select_of k s ≡ selected k s.grouping (exprs_of k s.items) (from_of (map (item_of k) s.from)) (exprs_of k s.conjuncts)
   select_of-parts s =
       fold-roll-BoundSelect Joining Query From Query (item_step k) (query_step k) source_step (select_step k)
-      (record { items = s.items; from = s.from; conjuncts = s.conjuncts })
+      (record { items = s.items; from = s.from; conjuncts = s.conjuncts; grouping = s.grouping })
 
   pub source_of-Table : (name : List ℕ) → source_of k (source.Table name) ≡ Table name
   source_of-Table name =

@@ -1,14 +1,15 @@
 -- Worked rows, which hold by computation.
-use Rattle.std.specs.Prelude.{ℕ, false, pos, ◌≡◌, List, [], ◌∷◌, None, Some, codes}
-use Rattle.sql_values.specs.declared.value.Value.TheVariants.{Int}
+use Rattle.std.specs.Prelude.{ℕ, true, false, pos, ◌≡◌, List, [], ◌∷◌, None, Some, codes}
+use Rattle.sql_values.specs.declared.value.Value.TheVariants.{Int, Bool as Truth}
 use Rattle.sql_values.specs.declared.value.SqlType.TheVariants.{Integer}
 use Rattle.sql_values.specs.declared.operators.Operator.TheVariants.{Add}
-use Rattle.rel_algebra.specs.Tree.{Expr, Literal, Chain, Call, NoLink, MoreLinks, NoExpr, Function as FunctionTree, From, Table, Cross, Inner, LeftOuter}
+use Rattle.rel_algebra.specs.Tree.{Expr, Literal, Column, Chain, Call, NoLink, MoreLinks, NoExpr, MoreExprs, Function as FunctionTree, From, Table, Cross, Inner, LeftOuter, Select, Grouped, Count}
 use Rattle.rel_algebra.specs.World.{World, Gives, no_self, no_frame}
 use Rattle.rel_algebra.specs.Meaning.{ev}
 use Rattle.catalog_store.specs.Catalog.{TableObject, FunctionObject, Entry, Catalog, object_named, routine_named, missing}
 use Rattle.catalog_store.specs.Users.{users_of, without}
-use Rattle.catalog_store.specs.View.{after_comma, crossing, matching, matching_or_nulls, from_of}
+use Rattle.bound_trees.specs.declared.expr.BoundExpr.TheVariants as bound
+use Rattle.catalog_store.specs.View.{after_comma, crossing, matching, matching_or_nulls, from_of, selected}
 
 -- CREATE TABLE T (K INTEGER PRIMARY KEY)
 abbrev pub table : Entry
@@ -68,3 +69,12 @@ pub record ItemsFromTheLeft : Type 0 where
   -- A LEFT JOIN B ON .. CROSS JOIN C
   pub joins : from_of (after_comma (table_at (codes "A")) ∷ matching_or_nulls (table_at (codes "B")) NoExpr ∷ crossing (table_at (codes "C")) ∷ [])
       ≡ Cross (LeftOuter (Table (codes "A")) (Table (codes "B")) NoExpr) (Table (codes "C"))
+
+-- A select over FROM T without WHERE.
+pub record GroupedOrNot : Type 0 where
+  -- SELECT COUNT(*): the list is that of the group's row
+  pub grouped : selected known (Some (record { keys = 0; parts = bound.Literal (Truth true) ∷ []; aggregates = Count ∷ []; having = [] }))
+      (MoreExprs (Column 0 0) NoExpr) (table_at (codes "T")) NoExpr
+      ≡ Grouped (Table (codes "T")) NoExpr 0 (MoreExprs (Literal (Truth true)) NoExpr) (Count ∷ []) NoExpr (MoreExprs (Column 0 0) NoExpr)
+  -- SELECT K: without a grouping the list is that of the row of FROM
+  pub plain : selected known None (MoreExprs (Column 0 0) NoExpr) (table_at (codes "T")) NoExpr ≡ Select (MoreExprs (Column 0 0) NoExpr) (Table (codes "T")) NoExpr

@@ -12,10 +12,11 @@ use Rattle.bound_trees.specs.declared.expr.BoundLink.{BoundLink, fold-BoundLink}
 use Rattle.bound_trees.specs.declared.query.BoundFromItem.{BoundFromItem, fold-BoundFromItem}
 use Rattle.bound_trees.specs.declared.query.BoundQuery.{BoundQuery, fold-BoundQuery}
 use Rattle.bound_trees.specs.declared.query.BoundFromItem.TheOpen.{BoundFromItem-F, BoundQuery-F, BoundSource-F, BoundSelect-F}
+use Rattle.bound_trees.specs.declared.query.BoundGrouping.{BoundGrouping}
 use Rattle.bound_trees.specs.declared.query.BoundRow.{BoundRow}
 use Rattle.bound_trees.specs.declared.query.BoundSelect.{BoundSelect, fold-BoundSelect}
 use Rattle.bound_trees.specs.declared.query.BoundSource.{BoundSource, fold-BoundSource}
-use Rattle.rel_algebra.specs.Tree.{Operation, Negation, Comparing, Opposite, NullTest, TrueTest, FalseTest, AnyOf, Modulo, CharLength, Substring, Cast, Expr, Literal, Column, Variable, Chain, Operate, And, Or, Case, CaseOf, Coalesce, Call, Links, NoLink, MoreLinks, Exprs, NoExpr, MoreExprs, Rows, NoRow, MoreRows, From, Table, Derived, Cross, Inner, LeftOuter, Query, Select, Values, Ordered}
+use Rattle.rel_algebra.specs.Tree.{Operation, Negation, Comparing, Opposite, NullTest, TrueTest, FalseTest, AnyOf, Modulo, CharLength, Substring, Cast, Expr, Literal, Column, Variable, Chain, Operate, And, Or, Case, CaseOf, Coalesce, Call, Links, NoLink, MoreLinks, Exprs, NoExpr, MoreExprs, Rows, NoRow, MoreRows, From, Table, Derived, Cross, Inner, LeftOuter, Query, Select, Grouped, Values, Ordered}
 use Rattle.catalog_store.specs.Catalog.{Catalog, routine_named}
 
 -- an operator with the plain tree right of it
@@ -174,8 +175,14 @@ item_step known (BoundFromItem-F.Cross f) = crossing f
 item_step known (BoundFromItem-F.Inner f on) = matching f (exprs_of known on)
 item_step known (BoundFromItem-F.Left f on) = matching_or_nulls f (exprs_of known on)
 
+-- a list over FROM and the conjuncts of WHERE, or over its groups
+abbrev pub selected : Catalog → Option BoundGrouping → Exprs → From → Exprs → Query
+selected known None items from conjuncts = Select items from conjuncts
+selected known (Some g) items from conjuncts =
+    Grouped from conjuncts g.keys (exprs_of known g.parts) g.aggregates (exprs_of known g.having) items
+
 abbrev pub select_step : Catalog → BoundSelect-F Joining Query From Query → Query
-select_step known s = Select (exprs_of known s.items) (from_of s.from) (exprs_of known s.conjuncts)
+select_step known s = selected known s.grouping (exprs_of known s.items) (from_of s.from) (exprs_of known s.conjuncts)
 
 abbrev pub query_step : Catalog → BoundQuery-F Joining Query From Query → Query
 query_step known (BoundQuery-F.Select select) = select

@@ -1,6 +1,6 @@
 //! How names keep what they stand for as the catalog changes.
 
-ghost use Rattle.catalog_store.specs.Examples.{ObjectsByName, UsersOfNames, CallsAfterADrop, ItemsFromTheLeft};
+ghost use Rattle.catalog_store.specs.Examples.{ObjectsByName, UsersOfNames, CallsAfterADrop, ItemsFromTheLeft, GroupedOrNot};
 ghost use Rattle.catalog_store.specs.Laws.{AddingLeavesOthers, DroppingLeavesOthers};
 
 /// One more entry leaves what every other name stands for, and so the trees that calls run.
@@ -33,4 +33,9 @@ pub fn calls_after_a_drop()
 /// one with what stands before.
 pub fn items_from_the_left()
     ensures { ItemsFromTheLeft }
+{}
+
+/// A select with a grouping is read on the rows of its groups, one without on those of FROM.
+pub fn grouped_or_not()
+    ensures { GroupedOrNot }
 {}

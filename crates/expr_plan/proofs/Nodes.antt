@@ -1,16 +1,17 @@
 -- A node more over a plan.
 use Rattle.std.proofs.Common.{◌≡◌, ℕ, List, [], ◌∷◌, ◌++◌, Bool, true, false, IsTrue, map, refl, sym, ap, subst, ◌∙◌}
+use Rattle.row_types.specs.declared.aggregate_column.AggregateColumn.{AggregateColumn}
 use Rattle.row_types.specs.declared.sort_key.SortKey.{SortKey}
 use Rattle.rel_algebra.specs.declared.scalar.Scalar.{Scalar as ScalarCode}
 use Rattle.rel_algebra.specs.declared.plan.Node.{Node, out-Node, roll-Node}
 use Rattle.rel_algebra.specs.declared.plan.Node.TheOpen.{Node-F}
 use Rattle.rel_algebra.specs.declared.plan.Node.TheFolds.{fold-roll-Node, fold-roll-Plan}
-use Rattle.rel_algebra.specs.declared.plan.Node.TheVariants.{Extend, Filter, Keep, Cross, LeftOuter, Settle, Sort, rolls-Extend, rolls-Filter, rolls-Keep, rolls-Cross, rolls-LeftOuter, rolls-Settle, rolls-Sort}
+use Rattle.rel_algebra.specs.declared.plan.Node.TheVariants.{Extend, Filter, Keep, Cross, LeftOuter, Settle, Group, Sort, rolls-Extend, rolls-Filter, rolls-Keep, rolls-Cross, rolls-LeftOuter, rolls-Settle, rolls-Group, rolls-Sort}
 use Rattle.rel_algebra.specs.declared.plan.Node.TheViews.{roll-out-Node}
 use Rattle.rel_algebra.specs.declared.plan.Plan.{Plan}
-use Rattle.rel_algebra.specs.Plan.{PlanTree, unit_row, extend, apply, filter, keep, cross, left_outer, settle, sort, Nodes, no_node, extend_by, apply_by, on_each}
+use Rattle.rel_algebra.specs.Plan.{PlanTree, unit_row, extend, apply, filter, keep, cross, left_outer, settle, group, sort, Nodes, no_node, extend_by, apply_by, on_each}
 use Rattle.rel_algebra.specs.Emit.{is_plain}
-use Rattle.rel_algebra.specs.PlanView.{NodeTree, node_step, plan_step, node_of, with_node, with_nodes, run_of, leaf_of, tree_of, scalar_of, scalars_of}
+use Rattle.rel_algebra.specs.PlanView.{NodeTree, node_step, plan_step, node_of, with_node, with_nodes, run_of, leaf_of, tree_of, scalar_of, scalars_of, aggregates_of}
 use Rattle.expr_plan.specs.Drafts.{is_unit_row}
 
 -- ---- what nodes and plans stand for
@@ -32,6 +33,9 @@ node_of-LeftOuter ns s n p = ap node_of (sym (rolls-LeftOuter ns s n p)) ∙ fol
 
 node_of-Settle : node_of Settle ≡ node_step Node-F.Settle
 node_of-Settle = ap node_of (sym rolls-Settle) ∙ fold-roll-Node NodeTree PlanTree node_step plan_step Node-F.Settle
+
+node_of-Group : (is : List ℕ) (ags : List AggregateColumn) → node_of (Group is ags) ≡ node_step (Node-F.Group is ags)
+node_of-Group is ags = ap node_of (sym (rolls-Group is ags)) ∙ fold-roll-Node NodeTree PlanTree node_step plan_step (Node-F.Group is ags)
 
 node_of-Sort : (keys : List SortKey) → node_of (Sort keys) ≡ node_step (Node-F.Sort keys)
 node_of-Sort keys = ap node_of (sym (rolls-Sort keys)) ∙ fold-roll-Node NodeTree PlanTree node_step plan_step (Node-F.Sort keys)
@@ -63,6 +67,9 @@ with-LeftOuter ns s n r p = ap (λ (x : NodeTree). x.over p) (node_of-LeftOuter 
 pub with-Settle : (p : PlanTree) → with_node Settle p ≡ settle p
 with-Settle p = ap (λ (n : NodeTree). n.over p) node_of-Settle
 
+pub with-Group : (is : List ℕ) (ags : List AggregateColumn) (p : PlanTree) → with_node (Group is ags) p ≡ group is (aggregates_of ags) p
+with-Group is ags p = ap (λ (n : NodeTree). n.over p) (node_of-Group is ags)
+
 pub with-Sort : (keys : List SortKey) (p : PlanTree) → with_node (Sort keys) p ≡ sort keys p
 with-Sort keys p = ap (λ (n : NodeTree). n.over p) (node_of-Sort keys)
 
@@ -92,6 +99,7 @@ node_at (Node-F.Keep places) = subst NotUnit (sym (rolls-Keep places)) (λ p. ap
 node_at (Node-F.Cross r) = subst NotUnit (sym (rolls-Cross r)) (λ p. ap is_unit_row (with-Cross r p))
 node_at (Node-F.LeftOuter ns s n r) = subst NotUnit (sym (rolls-LeftOuter ns s n r)) (λ p. ap is_unit_row (with-LeftOuter ns s n r p))
 node_at Node-F.Settle = subst NotUnit (sym rolls-Settle) (λ p. ap is_unit_row (with-Settle p))
+node_at (Node-F.Group is ags) = subst NotUnit (sym (rolls-Group is ags)) (λ p. ap is_unit_row (with-Group is ags p))
 node_at (Node-F.Sort keys) = subst NotUnit (sym (rolls-Sort keys)) (λ p. ap is_unit_row (with-Sort keys p))
 
 is_node : (n : Node) → NotUnit n

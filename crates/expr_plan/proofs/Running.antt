@@ -4,7 +4,7 @@ use Rattle.rel_algebra.specs.declared.plan.Leaf.{Leaf}
 use Rattle.rel_algebra.specs.declared.plan.Leaf.TheVariants.{Unit as UnitLeaf, Scan, Values}
 use Rattle.rel_algebra.specs.declared.plan.Node.{Node, roll-Node}
 use Rattle.rel_algebra.specs.declared.plan.Node.TheOpen.{Node-F}
-use Rattle.rel_algebra.specs.declared.plan.Node.TheVariants.{Extend, rolls-Extend, rolls-Filter, rolls-Keep, rolls-Cross, rolls-LeftOuter, rolls-Settle, rolls-Sort}
+use Rattle.rel_algebra.specs.declared.plan.Node.TheVariants.{Extend, rolls-Extend, rolls-Filter, rolls-Keep, rolls-Cross, rolls-LeftOuter, rolls-Settle, rolls-Group, rolls-Sort}
 use Rattle.rel_algebra.specs.declared.plan.Plan.{Plan}
 use Rattle.rel_algebra.specs.declared.scalar.Scalar.{Scalar as ScalarCode}
 use Rattle.rel_algebra.specs.Plan.{Scalars, PlanTree, unit_row, extend, apply, Nodes, no_node, extend_by, apply_by, on_each}
@@ -12,7 +12,7 @@ use Rattle.rel_algebra.specs.PlanView.{leaf_of, scalars_of, with_node, with_node
 use Rattle.rel_algebra.specs.Emit.{joined_nodes}
 use Rattle.catalog_store.specs.Kept.{extended, run_of as kept_run}
 use Rattle.expr_plan.proofs.Joins.{joined-nothing}
-use Rattle.expr_plan.proofs.Nodes.{with-Extend, with-Filter, with-Keep, with-Cross, with-LeftOuter, with-Settle, with-Sort, below-Extend, of_layer}
+use Rattle.expr_plan.proofs.Nodes.{with-Extend, with-Filter, with-Keep, with-Cross, with-LeftOuter, with-Settle, with-Group, with-Sort, below-Extend, of_layer}
 
 -- the nodes of a tree that is a run over one row without cells, with others above them
 abbrev pub run_in : PlanTree → Nodes → Option Nodes
@@ -50,6 +50,7 @@ adding_at (Node-F.Keep places) = subst Adding (sym (rolls-Keep places)) (acts (�
 adding_at (Node-F.Cross r) = subst Adding (sym (rolls-Cross r)) (acts (λ ns. refl) (λ t a. ap (λ x. run_in x a) (with-Cross r t)))
 adding_at (Node-F.LeftOuter ms s n r) = subst Adding (sym (rolls-LeftOuter ms s n r)) (acts (λ ns. refl) (λ t a. ap (λ x. run_in x a) (with-LeftOuter ms s n r t)))
 adding_at Node-F.Settle = subst Adding (sym rolls-Settle) (acts (λ ns. refl) (λ t a. ap (λ x. run_in x a) (with-Settle t)))
+adding_at (Node-F.Group is ags) = subst Adding (sym (rolls-Group is ags)) (acts (λ ns. refl) (λ t a. ap (λ x. run_in x a) (with-Group is ags t)))
 adding_at (Node-F.Sort keys) = subst Adding (sym (rolls-Sort keys)) (acts (λ ns. refl) (λ t a. ap (λ x. run_in x a) (with-Sort keys t)))
 
 pub adding : (n : Node) → Adding n

@@ -1,13 +1,13 @@
 //! A plan in the making: nodes are put over it one by one.
 
 ghost use Rattle.std.specs.Prelude.{◌≡◌, ◌+◌, length, Some, OnOk};
-ghost use Rattle.rel_algebra.specs.Plan.{extend, filter, keep, cross, left_outer, settle, sort, unit_row, on_each, Nodes};
-ghost use Rattle.rel_algebra.specs.PlanView.{scalar_of, scalars_of, leaf_of, tree_of, run_of};
+ghost use Rattle.rel_algebra.specs.Plan.{extend, filter, keep, cross, left_outer, settle, group, sort, unit_row, on_each, Nodes};
+ghost use Rattle.rel_algebra.specs.PlanView.{scalar_of, scalars_of, aggregates_of, leaf_of, tree_of, run_of};
 ghost use Rattle.catalog_store.specs.Kept.{run_of as kept_run};
 ghost use Rattle.expr_plan.specs.Drafts.{drafted, is_unit_row};
 
 use rel_algebra::{Leaf, Node, Plan, Scalar};
-use row_types::SortKey;
+use row_types::{AggregateColumn, SortKey};
 use sql_values::NoMemory;
 use sqlite_items::{Boxed, Items};
 use std::alloc::Global;
@@ -147,6 +147,23 @@ impl Draft {
         ensures width { (drafted self.new).width ≡ (drafted self.old).width }
     {
         self.plan.nodes.push(Node::Settle)?;
+        Ok(())
+    }
+
+    /// A Group more (7.13): by the columns at these places, with these aggregates (10.9).
+    pub fn group(
+        &mut self,
+        places: Items<usize>,
+        aggregates: Items<AggregateColumn>,
+    ) -> Result<(), NoMemory>
+        ensures tree { OnOk result ((drafted self.new).tree ≡ group places (aggregates_of aggregates) (drafted self.old).tree) }
+        ensures width { OnOk result ((drafted self.new).width ≡ length places + length aggregates) }
+    {
+        let Some(columns) = places.len().checked_add(aggregates.len()) else {
+            return Err(NoMemory);
+        };
+        self.plan.nodes.push(Node::Group(places, aggregates))?;
+        self.columns = columns;
         Ok(())
     }
 

@@ -16,6 +16,6 @@ mod words;
 pub use assigning::assigned;
 pub use draft::Draft;
 pub use emit::{emit_expr, emit_list};
-pub use scalars::{compare, turned_scalars, unary};
+pub use scalars::{check, compare, turned_scalars, unary};
 pub use scope::{Scope, is_inner};
 pub use words::listed;

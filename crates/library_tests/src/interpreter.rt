@@ -110,7 +110,7 @@ fn ran(alloc: Global, run: Run) -> Option<(End, usize)> {
     with_catalog(alloc, run, &catalog)
 }
 
-static RUNS: [(&str, Run, End, usize); 5] = [
+static RUNS: [(&str, Run, End, usize); 7] = [
     ("difference", Run::Difference, End::Number(50), 2),
     ("quotient", Run::Quotient(7), End::Number(14), 2),
     ("no quotient", Run::Quotient(0), End::DivisionByZero, 2),
@@ -119,6 +119,18 @@ static RUNS: [(&str, Run, End, usize); 5] = [
         Run::Insert(Query::Numbers(3, 1)),
         End::Stored(2),
         4,
+    ),
+    (
+        "insert of a total",
+        Run::Insert(Query::TotalOfAllBut(0)),
+        End::Stored(1),
+        3,
+    ),
+    (
+        "insert of a group that raises",
+        Run::Insert(Query::TotalOfAllBut(2)),
+        End::DivisionByZero,
+        2,
     ),
     (
         "key twice",

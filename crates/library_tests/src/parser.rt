@@ -33,7 +33,7 @@ fn end(part: Part, alloc: Global, read: &Tokens, open: u32) -> Result<usize, Par
     }
 }
 
-static ROWS: [(&str, Part, u32, Result<usize, ParseFault>); 43] = [
+static ROWS: [(&str, Part, u32, Result<usize, ParseFault>); 47] = [
     ("VALUES ((1)))", Part::Query, 22, Ok(6)),
     (
         "VALUES ((1)))",
@@ -97,6 +97,30 @@ static ROWS: [(&str, Part, u32, Result<usize, ParseFault>); 43] = [
         Part::Query,
         0,
         Err(ParseFault::NoStatement(2)),
+    ),
+    (
+        "SELECT g, COUNT(*) AS n, SUM(v) FROM d GROUP BY d.g, h HAVING MAX(v) > 0",
+        Part::Query,
+        23,
+        Ok(30),
+    ),
+    (
+        "SELECT g, COUNT(*) AS n, SUM(v) FROM d GROUP BY d.g, h HAVING MAX(v) > 0",
+        Part::Query,
+        24,
+        Err(ParseFault::TooDeep(4)),
+    ),
+    (
+        "SELECT COUNT(*) FROM t GROUP k",
+        Part::Query,
+        0,
+        Err(ParseFault::NoStatement(8)),
+    ),
+    (
+        "SELECT SUM(*) FROM t",
+        Part::Query,
+        0,
+        Err(ParseFault::NoStatement(3)),
     ),
     ("INSERT INTO t VALUES (1);", Part::Change, 23, Ok(7)),
     (

@@ -7,15 +7,15 @@ ghost use Rattle.catalog_store.specs.Catalog.{Catalog as PlainCatalog};
 ghost use Rattle.catalog_store.specs.Entries.{ObjectFits};
 
 use bound_trees::{
-    BoundExpr, BoundFromItem, BoundLink, BoundOperation, BoundQuery, BoundRow, BoundSelect,
-    BoundSource,
+    BoundExpr, BoundFromItem, BoundGrouping, BoundLink, BoundOperation, BoundQuery, BoundRow,
+    BoundSelect, BoundSource,
 };
 use catalog_store::{Body, Catalog, Head, Object, RoutineRecord};
 use expr_interp::World;
 use query_plan::with_plan;
 use row_types::{ColumnType, Row, RowType, SortKey};
 use sql_conditions::Area;
-use sql_values::{Comparison, Name, Operator, SqlType, Value};
+use sql_values::{Comparison, FoldKind, Name, Operator, SqlType, Value};
 use sqlite_items::{Boxed, Items};
 use std::alloc::Global;
 use table_store::{Table, Tables};
@@ -158,6 +158,7 @@ fn select(
         items,
         from,
         conjuncts,
+        grouping: None,
     }))
 }
 
@@ -170,6 +171,24 @@ fn joined(alloc: Global, item: BoundFromItem) -> Option<BoundQuery> {
         items,
         from,
         conjuncts: Items::new(alloc),
+        grouping: None,
+    }))
+}
+
+// SELECT items FROM T WHERE conjuncts, in groups
+fn grouped(
+    alloc: Global,
+    items: Items<BoundExpr>,
+    conjuncts: Items<BoundExpr>,
+    grouping: BoundGrouping,
+) -> Option<BoundQuery> {
+    let source = table_t(alloc)?;
+    let from = one(alloc, BoundFromItem::Comma(source))?;
+    Some(BoundQuery::Select(BoundSelect {
+        items,
+        from,
+        conjuncts,
+        grouping: Some(grouping),
     }))
 }
 
@@ -192,6 +211,10 @@ pub enum Query {
     Matched(i64, i64),
     // SELECT K FROM T ORDER BY K DESC
     Descending,
+    // SELECT SUM(100 / F(K)) FROM T WHERE K <> ..
+    TotalOfAllBut(i64),
+    // SELECT 100 / F(K), COUNT(*) FROM T GROUP BY K HAVING K <> ..
+    GroupsBut(i64),
 }
 
 fn column(place: usize) -> BoundExpr {
@@ -251,6 +274,29 @@ fn descending(alloc: Global) -> Option<BoundQuery> {
     Some(BoundQuery::Ordered(Boxed::new(alloc, query).ok()?, keys))
 }
 
+fn total_of_all_but(alloc: Global, skipped: i64) -> Option<BoundQuery> {
+    let items = one(alloc, column(0))?;
+    let conjuncts = only(alloc, differs(alloc, Some(column(0)), skipped))?;
+    let grouping = BoundGrouping {
+        keys: 0,
+        parts: only(alloc, quotient(alloc, column(0)))?,
+        aggregates: one(alloc, FoldKind::Sum)?,
+        having: Items::new(alloc),
+    };
+    grouped(alloc, items, conjuncts, grouping)
+}
+
+fn groups_but(alloc: Global, skipped: i64) -> Option<BoundQuery> {
+    let items = two(alloc, quotient(alloc, column(0))?, column(1))?;
+    let grouping = BoundGrouping {
+        keys: 1,
+        parts: two(alloc, column(0), BoundExpr::Literal(Value::Bool(true)))?,
+        aggregates: one(alloc, FoldKind::Count)?,
+        having: only(alloc, differs(alloc, Some(column(0)), skipped))?,
+    };
+    grouped(alloc, items, Items::new(alloc), grouping)
+}
+
 pub fn tree_of(alloc: Global, query: Query) -> Option<BoundQuery> {
     match query {
         Query::Numbers(first, second) => values_of(alloc, first, second),
@@ -261,11 +307,13 @@ pub fn tree_of(alloc: Global, query: Query) -> Option<BoundQuery> {
         Query::LeftAlone => left_alone(alloc),
         Query::Matched(first, second) => matched(alloc, first, second),
         Query::Descending => descending(alloc),
+        Query::TotalOfAllBut(skipped) => total_of_all_but(alloc, skipped),
+        Query::GroupsBut(skipped) => groups_but(alloc, skipped),
     }
 }
 
 // Queries over the rows 2 and 0, and how they end.
-pub static QUERIES: [(&str, Query, End); 10] = [
+pub static QUERIES: [(&str, Query, End); 14] = [
     ("numbers", Query::Numbers(3, 4), End::Number(304)),
     ("quotients", Query::Quotients(7, 2), End::Number(1450)),
     (
@@ -288,6 +336,18 @@ pub static QUERIES: [(&str, Query, End); 10] = [
     ("beside NULL", Query::LeftAlone, End::Number(990299)),
     ("2 beside 2", Query::Matched(1, 2), End::Number(202)),
     ("2 before 0", Query::Descending, End::Number(200)),
+    ("total", Query::TotalOfAllBut(0), End::Number(50)),
+    (
+        "argument raises",
+        Query::TotalOfAllBut(2),
+        End::DivisionByZero,
+    ),
+    ("group of 2", Query::GroupsBut(0), End::Number(5001)),
+    (
+        "list of a group raises",
+        Query::GroupsBut(2),
+        End::DivisionByZero,
+    ),
 ];
 
 // The columns of T.

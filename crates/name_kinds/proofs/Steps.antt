@@ -1,5 +1,5 @@
 -- One step of each loop that has two lists, over plain variables.
-use Rattle.std.proofs.Common.{◌≡◌, ◌≢◌, refl, sym, ap, ◌∙◌, subst, ℕ, ◌+◌, ◌<◌, zero, suc, List, [], ◌∷◌, ◌++◌, append_assoc, map, reverse, take, drop, length, get_or, slice_get, slice_set, add-one, arith, Some, None}
+use Rattle.std.proofs.Common.{◌≡◌, ◌≢◌, refl, sym, ap, ◌∙◌, subst, ℕ, ◌+◌, ◌<◌, zero, suc, List, [], ◌∷◌, ◌++◌, append_assoc, map, reverse, take, drop, length, get_or, slice_get, slice_set, add-one, arith, Some, None, true}
 use Rattle.std.proofs.Math.Seq.{drop-cons}
 use Rattle.std.proofs.lemmas.List.{reverse-append, append-nil}
 use Rattle.syntax_trees.specs.declared.expr.ChainOperator.{ChainOperator}
@@ -8,9 +8,11 @@ use Rattle.bound_trees.specs.declared.expr.BoundExpr.{BoundExpr}
 use Rattle.bound_trees.specs.declared.expr.BoundExpr.TheVariants as bound
 use Rattle.bound_trees.specs.declared.expr.BoundLink.{BoundLink}
 use Rattle.bound_trees.specs.declared.expr.BoundOperation.TheVariants.{Negation}
+use Rattle.sql_values.specs.declared.value.Value.TheVariants.{Bool as Truth}
 use Rattle.name_kinds.specs.declared.kind.Kind.{Kind}
 use Rattle.name_kinds.specs.declared.kind.Head.{Head}
 use Rattle.name_kinds.specs.Kinds.{joined, joined_row}
+use Rattle.name_kinds.specs.Aggregates.{argument_of}
 use Rattle.name_kinds.specs.Words.{plus, operator_in, link_of, links_of}
 
 -- ---- the kinds of columns
@@ -120,3 +122,13 @@ pub plus_of_others : (es : List BoundExpr) → length es ≢ 1 → plus es ≡ b
 plus_of_others [] h = refl
 plus_of_others (x ∷ []) h = absurd (h refl)
 plus_of_others (x ∷ y ∷ es) h = refl
+
+-- ---- the argument of an aggregate
+
+pub argument_of_none : (es : List BoundExpr) → length es ≡ 0 → argument_of es ≡ bound.Literal (Truth true)
+argument_of_none [] h = refl
+argument_of_none (x ∷ es) h = absurd (omega arith)
+
+pub argument_of_some : (es : List BoundExpr) (e : BoundExpr) → length es ≢ 0 → slice_get es 0 ≡ Some e → argument_of es ≡ e
+argument_of_some [] e h p = absurd (h refl)
+argument_of_some (x ∷ es) e h p = cc

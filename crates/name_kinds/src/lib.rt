@@ -2,8 +2,9 @@
 //! here. A rule looks at the heads of operands, which say their kinds and places, and never at their trees.
 #![tactic(auto, using(name_faults::proofs::Laws::noted_append))]
 
-ghost use Rattle.name_kinds.specs.Examples.{ConjunctsStandInOrder};
+ghost use Rattle.name_kinds.specs.Examples.{ConjunctsStandInOrder, AggregatesOfArguments};
 
+mod aggregates;
 mod cases;
 mod chains;
 mod columns;
@@ -14,6 +15,7 @@ mod operations;
 mod types;
 mod words;
 
+pub use aggregates::{aggregate_kind, argument_of, ask_aggregate};
 pub use chains::{ask_chain, chain_kind, chain_place};
 pub use columns::{arguments, in_turn, join_row};
 pub use conjunction::conjuncts;
@@ -26,4 +28,9 @@ pub use words::{chain_of, missing, tree_of, value_of};
 /// Conjuncts in brackets stand beside the others, in their order; an operand of OR is none.
 pub fn conjuncts_stand_in_order()
     ensures { ConjunctsStandInOrder }
+{}
+
+/// What aggregates ask of their arguments, their kinds, and what COUNT(*) counts.
+pub fn aggregates_of_arguments()
+    ensures { AggregatesOfArguments }
 {}

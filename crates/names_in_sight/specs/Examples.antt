@@ -7,8 +7,10 @@ use Rattle.name_kinds.specs.declared.kind.Kind.TheVariants.{Integer, Text, Boole
 use Rattle.names_in_sight.specs.declared.item.Item.{Item}
 use Rattle.names_in_sight.specs.declared.output.Output.{Output}
 use Rattle.names_in_sight.specs.declared.sight.Found.{Found}
-use Rattle.names_in_sight.specs.declared.sight.Found.TheVariants.{Column, Guessed, Variable, Several, Unknown}
-use Rattle.names_in_sight.specs.Sight.{Level, Seen, stands_for}
+use Rattle.names_in_sight.specs.declared.sight.Found.TheVariants.{Column, Guessed, Variable, Barred, Several, Unknown}
+use Rattle.names_in_sight.specs.declared.key.Key.{Key}
+use Rattle.names_in_sight.specs.declared.key.Key.TheVariants.{Own, Guessed as GuessedKey, Other}
+use Rattle.names_in_sight.specs.Sight.{Level, Seen, stands_for, key_of, may_stand, inside_aggregate}
 
 abbrev pub ident : List ℕ → Ident
 ident name = record { name = name; anchor = record { token = 0; line = 1; column = 1 } }
@@ -35,7 +37,11 @@ abbrev pub missing : List ℕ → Item
 missing name = record { name = name; columns = []; first = 0; known = false }
 
 abbrev pub level : ℕ → List Item → Level
-level base is = record { items = is; base = base }
+level base is = record { items = is; base = base; keys = []; grouped = false }
+
+-- the list or HAVING of a query that is grouped by these
+abbrev pub group : List Key → List Item → Level
+group keys is = record { items = is; base = 0; keys = keys; grouped = true }
 
 -- inside these queries, in a function with a parameter X
 abbrev pub seen : List Level → Seen
@@ -77,10 +83,44 @@ pub record ItemsHide : Type 0 where
   pub inner_item_of_the_name : Stands (qualified (codes "T") (codes "B")) (level 0 (t ∷ []) ∷ level 0 (item (codes "T") 0 (column (codes "B") Integer ∷ []) ∷ []) ∷ []) Unknown
   pub not_an_unknown_one : Stands (qualified (codes "T") (codes "B")) (level 0 (missing (codes "T") ∷ []) ∷ level 0 (item (codes "T") 0 (column (codes "B") Integer ∷ []) ∷ []) ∷ []) (Column 1 0 Integer)
   pub known_before_unknown : Stands (plain (codes "K")) (level 0 (missing (codes "V") ∷ []) ∷ both ∷ []) (Column 1 0 Integer)
-  pub of_an_unknown_item : Stands (plain (codes "Z")) (level 0 (t ∷ missing (codes "V") ∷ []) ∷ []) Guessed
-  pub of_an_unknown_item_by_name : Stands (qualified (codes "V") (codes "Z")) (level 0 (t ∷ missing (codes "V") ∷ []) ∷ []) Guessed
+  pub of_an_unknown_item : Stands (plain (codes "Z")) (level 0 (t ∷ missing (codes "V") ∷ []) ∷ []) (Guessed 0 1)
+  pub of_an_unknown_item_by_name : Stands (qualified (codes "V") (codes "Z")) (level 0 (t ∷ missing (codes "V") ∷ []) ∷ []) (Guessed 0 1)
   pub unknown_item_of_another_name : Stands (qualified (codes "T") (codes "Z")) (level 0 (t ∷ missing (codes "V") ∷ []) ∷ []) Unknown
   pub variable : Stands (plain (codes "X")) (both ∷ []) (Variable 0 Text)
-  pub unknown_item_before_variable : Stands (plain (codes "X")) (level 0 (missing (codes "V") ∷ []) ∷ []) Guessed
+  pub unknown_item_before_variable : Stands (plain (codes "X")) (level 0 (missing (codes "V") ∷ []) ∷ []) (Guessed 0 0)
   pub no_variable_behind_a_name : Stands (qualified (codes "T") (codes "X")) (both ∷ []) Unknown
   pub nothing : Stands (plain (codes "Z")) (both ∷ []) Unknown
+
+-- ---- in groups
+
+-- T and U grouped by A of T and B of U, and T and V, which is not known, by Z of V
+abbrev pub by_two : Level
+by_two = group (Own 1 ∷ Own 3 ∷ []) (t ∷ u ∷ [])
+
+abbrev pub by_unknown : Level
+by_unknown = group (GuessedKey 1 (codes "Z") ∷ []) (t ∷ missing (codes "V") ∷ missing (codes "W") ∷ [])
+
+pub record GroupsBar : Type 0 where
+  pub grouping_column : Stands (plain (codes "B")) (by_two ∷ []) (Column 0 1 Integer)
+  pub behind_its_item : Stands (qualified (codes "T") (codes "A")) (by_two ∷ []) (Column 0 0 Text)
+  pub first_of_equals : Stands (plain (codes "B")) (group (Own 0 ∷ Own 3 ∷ Own 3 ∷ []) (t ∷ u ∷ []) ∷ []) (Column 0 1 Integer)
+  pub other_column : Stands (plain (codes "K")) (by_two ∷ []) Barred
+  pub other_item : Stands (qualified (codes "U") (codes "A")) (by_two ∷ []) Barred
+  pub in_two_items : Stands (plain (codes "A")) (by_two ∷ []) Several
+  pub without_grouping_columns : Stands (plain (codes "K")) (group [] (t ∷ []) ∷ []) Barred
+  pub of_an_unknown_item : Stands (plain (codes "Z")) (by_unknown ∷ []) (Guessed 0 1)
+  pub other_of_an_unknown_item : Stands (plain (codes "Y")) (by_unknown ∷ []) Barred
+  pub of_another_unknown_item : Stands (qualified (codes "W") (codes "Z")) (by_unknown ∷ []) Barred
+  pub variable : Stands (plain (codes "X")) (by_two ∷ []) (Variable 0 Text)
+  pub outer_column : Stands (plain (codes "B")) (group [] (t ∷ []) ∷ level 0 (t ∷ u ∷ []) ∷ []) (Column 1 3 Integer)
+  pub column_of_an_outer_group : Stands (plain (codes "B")) (level 0 (t ∷ []) ∷ by_two ∷ []) (Column 1 1 Integer)
+  pub other_column_of_an_outer_group : Stands (plain (codes "B")) (level 0 (t ∷ []) ∷ group [] (t ∷ u ∷ []) ∷ []) Barred
+  pub in_an_aggregate : stands_for (plain (codes "K")) (inside_aggregate (seen (by_two ∷ []))) ≡ Column 0 0 Integer
+  pub outer_column_in_an_aggregate : stands_for (plain (codes "B")) (inside_aggregate (seen (group [] (t ∷ []) ∷ by_two ∷ []))) ≡ Column 1 1 Integer
+  pub aggregate_in_a_group : may_stand (by_two ∷ []) ≡ true
+  pub aggregate_in_an_inner_query : may_stand (level 0 (t ∷ []) ∷ by_two ∷ []) ≡ false
+  pub aggregate_in_an_aggregate : may_stand (inside_aggregate (seen (by_two ∷ []))).levels ≡ false
+  pub aggregate_outside : may_stand [] ≡ false
+  pub key : key_of (Column 0 3 Integer) (codes "B") ≡ Own 3
+  pub outer_key : key_of (Column 1 3 Integer) (codes "B") ≡ Other
+  pub unknown_key : key_of (Guessed 0 1) (codes "Z") ≡ GuessedKey 1 (codes "Z")

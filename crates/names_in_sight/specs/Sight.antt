@@ -1,5 +1,5 @@
 -- The names in sight of an expression, and what a name stands for. ISO/IEC 9075-2, 5.4 (names), 6.6 (identifier chain) and 7.6 (table reference).
-use Rattle.std.specs.Prelude.{ℕ, ◌+◌, ◌-◌, Bool, true, false, ◌&&◌, not, if◌then◌else◌, List, [], ◌∷◌, map, get_or, Option, Some, None, is_some}
+use Rattle.std.specs.Prelude.{ℕ, ◌+◌, ◌-◌, ◌==◌, Bool, true, false, ◌&&◌, not, if◌then◌else◌, List, [], ◌∷◌, map, position, get_or, Option, Some, None, is_some}
 use Rattle.std.specs.List.{list_any}
 use Rattle.std.specs.Str.{bytes_eq}
 use Rattle.syntax_trees.specs.declared.anchor.ColumnName.{ColumnName}
@@ -12,17 +12,21 @@ use Rattle.names_in_sight.specs.declared.output.Hit.{Hit}
 use Rattle.names_in_sight.specs.declared.output.Hit.TheVariants.{Nowhere, Once, Twice}
 use Rattle.names_in_sight.specs.declared.sight.Variables.{Variables}
 use Rattle.names_in_sight.specs.declared.sight.Found.{Found}
-use Rattle.names_in_sight.specs.declared.sight.Found.TheVariants.{Column, Guessed, Variable, Several, Unknown}
+use Rattle.names_in_sight.specs.declared.sight.Found.TheVariants.{Column, Guessed, Variable, Barred, Several, Unknown}
+use Rattle.names_in_sight.specs.declared.key.Key.{Key}
+use Rattle.names_in_sight.specs.declared.key.Key.TheVariants as key
 use Rattle.names_in_sight.specs.declared.sight.Level.{Level as CodeLevel}
 use Rattle.names_in_sight.specs.declared.sight.Sight.{Sight as CodeSight}
 use Rattle.names_in_sight.specs.Columns.{hits, together, or_else, moved}
 use Rattle.names_in_sight.specs.Index.{place_of}
 
--- What a query brings in sight: items of its FROM, and the place in its row at which the first of them begins. The place of a flag for grouped
--- queries, and of their grouping columns, is here.
+-- What a query brings in sight: items of its FROM, and the place in its row at which the first of them begins. In the list and in HAVING of a grouped
+-- query only its grouping columns are, and aggregates may stand.
 pub record Level : Type 0 where
   pub items : List Item
   pub base : ℕ
+  pub keys : List Key
+  pub grouped : Bool
 
 -- the queries around an expression, the innermost first, the variables and parameters, and the catalog
 pub record Seen : Type 0 where
@@ -71,21 +75,55 @@ any_unknown q is = list_any (is_unknown q) is
 abbrev pub hides : Option Ident → List Item → Bool
 hides q is = (is_some q && list_any (is_meant q) is) && not (any_unknown q is)
 
+-- ---- in a group
+
+abbrev pub is_own : ℕ → Key → Bool
+is_own place (key.Own own) = own == place
+is_own place (key.Guessed item name) = false
+is_own place key.Other = false
+
+abbrev pub is_guess : ℕ → List ℕ → Key → Bool
+is_guess item name (key.Own own) = false
+is_guess item name (key.Guessed i n) = (i == item) && bytes_eq n name
+is_guess item name key.Other = false
+
+abbrev pub among_keys : ℕ → Kind → Option ℕ → Found
+among_keys level kind None = Barred
+among_keys level kind (Some place) = Column level place kind
+
+-- a column of a query's row; in its group it is one of the grouping columns, the first such
+abbrev pub column_of : ℕ → ℕ → Kind → Bool → List Key → Found
+column_of level place kind false keys = Column level place kind
+column_of level place kind true keys = among_keys level kind (position (is_own place) keys)
+
+-- a column of an item that is not known is one of the grouping columns where it is of the same item and the same name
+abbrev pub guess_of : ℕ → ℕ → List ℕ → Bool → List Key → Found
+guess_of level item name false keys = Guessed level item
+guess_of level item name true keys = if list_any (is_guess item name) keys then Guessed level item else Barred
+
 -- ---- outwards
 
-abbrev pub found_or : ℕ → Hit → Found → Found
-found_or level Nowhere other = other
-found_or level (Once place kind) other = Column level place kind
-found_or level Twice other = Several
+abbrev pub found_or : ℕ → Level → Hit → Found → Found
+found_or level l Nowhere other = other
+found_or level l (Once place kind) other = column_of level place kind l.grouped l.keys
+found_or level l Twice other = Several
 
 -- a column of a known item, of the innermost query outwards
 abbrev pub outwards : ColumnName → ℕ → List Level → Found → Found
 outwards c level [] other = other
-outwards c level (l ∷ ls) other = found_or level (among c l.base l.items) (if hides c.qualifier l.items then Unknown else outwards c (level + 1) ls other)
+outwards c level (l ∷ ls) other = found_or level l (among c l.base l.items) (if hides c.qualifier l.items then Unknown else outwards c (level + 1) ls other)
 
-abbrev pub guessed : Bool → Found → Found
-guessed false other = other
-guessed true other = Guessed
+abbrev pub unknown_item : Option Ident → List Item → Option ℕ
+unknown_item q is = position (is_unknown q) is
+
+abbrev pub guess_or : ℕ → ColumnName → Level → Option ℕ → Found → Found
+guess_or level c l None other = other
+guess_or level c l (Some item) other = guess_of level item c.name.name l.grouped l.keys
+
+-- a column of an item that is not known, of the innermost query outwards
+abbrev pub guess : ColumnName → ℕ → List Level → Found → Found
+guess c level [] other = other
+guess c level (l ∷ ls) other = guess_or level c l (unknown_item c.qualifier l.items) (guess c (level + 1) ls other)
 
 -- the kind at a place
 abbrev pub kind_at : List Kind → ℕ → Kind
@@ -105,7 +143,31 @@ variable c vs = unqualified c.qualifier (variable_at vs.kinds (place_of c.name.n
 
 -- a column of a known item, then of any that is not known, then a variable or parameter
 abbrev pub stands_for : ColumnName → Seen → Found
-stands_for c seen = outwards c 0 seen.levels (guessed (list_any (λ l. any_unknown c.qualifier l.items) seen.levels) (variable c seen.variables))
+stands_for c seen = outwards c 0 seen.levels (guess c 0 seen.levels (variable c seen.variables))
+
+-- ---- grouping columns and aggregates
+
+-- what GROUP BY names: a column of the query itself, or another value
+abbrev pub key_of : Found → List ℕ → Key
+key_of (Column level place kind) name = if level == 0 then key.Own place else key.Other
+key_of (Guessed level item) name = if level == 0 then key.Guessed item name else key.Other
+key_of (Variable place kind) name = key.Other
+key_of Barred name = key.Other
+key_of Several name = key.Other
+key_of Unknown name = key.Other
+
+-- aggregates stand directly in the list and in HAVING of a grouped query
+abbrev pub may_stand : List Level → Bool
+may_stand [] = false
+may_stand (l ∷ ls) = l.grouped
+
+abbrev pub ungrouped : List Level → List Level
+ungrouped [] = []
+ungrouped (l ∷ ls) = record { items = l.items; base = l.base; keys = l.keys; grouped = false } ∷ ls
+
+-- in the argument of an aggregate each column of its query is in sight, and no aggregate may stand
+abbrev pub inside_aggregate : Seen → Seen
+inside_aggregate seen = record { levels = ungrouped seen.levels; variables = seen.variables; catalog = seen.catalog }
 
 -- ---- sights
 
@@ -131,7 +193,7 @@ over_catalog catalog seen = record { levels = seen.levels; variables = seen.vari
 -- ---- what the code's sight shows
 
 abbrev pub level_by : CodeLevel → Level
-level_by l = record { items = l.items.now; base = l.base }
+level_by l = record { items = l.items.now; base = l.base; keys = l.keys.now; grouped = l.grouped }
 
 abbrev pub seen_by : CodeSight → Seen
 seen_by s = record { levels = map level_by s.levels.now; variables = s.variables.now; catalog = s.catalog.now }

@@ -1,6 +1,6 @@
 //! FROM items, and how often a name stands among them.
 
-ghost use Rattle.std.specs.Prelude.{◌≡◌, ◌&&◌, not, IfOk};
+ghost use Rattle.std.specs.Prelude.{◌≡◌, ◌&&◌, not, position, IfOk};
 ghost use Rattle.std.specs.List.{list_any};
 ghost use Rattle.names_in_sight.specs.Sight as spec;
 
@@ -76,8 +76,14 @@ fn is_unknown(qualifier: &Option<Boxed<Ident>>, item: &Item) -> bool
     !item.known && is_meant(qualifier, item)
 }
 
-/// Whether an item may have the column because it is not known.
-pub(crate) fn any_unknown(qualifier: &Option<Boxed<Ident>>, items: &[Item]) -> bool
+/// The place of the first item that may have the column because it is not known.
+pub(crate) fn unknown_item(qualifier: &Option<Boxed<Ident>>, items: &[Item]) -> Option<usize>
+    ensures { result ≡ spec.unknown_item qualifier.now items.now }
+{
+    items.iter().position(|item| is_unknown(qualifier, item))
+}
+
+fn any_unknown(qualifier: &Option<Boxed<Ident>>, items: &[Item]) -> bool
     ensures { result ≡ spec.any_unknown qualifier.now items.now }
 {
     items.iter().any(|item| is_unknown(qualifier, item))

@@ -1,11 +1,11 @@
 //! The names in sight, and what a name stands for.
 
 ghost use Rattle.std.specs.Prelude.{◌≡◌, ◌∷◌, IfOk, map};
-ghost use Rattle.std.specs.List.{list_any};
 ghost use Rattle.names_in_sight.specs.Sight as spec;
 ghost use Rattle.names_in_sight.specs.Sight.{seen_by, level_by};
 
-use crate::item::{Item, among, any_unknown, hides};
+use crate::item::{Item, among, hides, unknown_item};
+use crate::key::{Key, column_of, guess_of};
 use crate::name_list::NameList;
 use crate::output::Hit;
 use catalog_store::Catalog;
@@ -23,11 +23,14 @@ pub struct Variables {
 }
 
 /// What a query brings in sight: items of its FROM, and the place in its row at which the first of
-/// them begins.
+/// them begins. In the list and in HAVING of a grouped query only its grouping columns are in sight,
+/// and aggregates may stand.
 #[derive(Clone, Copy)]
 pub struct Level<'a> {
     pub items: &'a [Item],
     pub base: usize,
+    pub keys: &'a [Key],
+    pub grouped: bool,
 }
 
 /// The queries around an expression, the innermost first, the variables and parameters, and the
@@ -42,32 +45,30 @@ pub struct Sight<'a> {
 /// What a name stands for.
 #[derive(Clone, Copy)]
 pub enum Found {
-    /// So many queries outwards, the column of this place, of this kind.
+    /// So many queries outwards, the column of this place, of this kind. In a group it is the place
+    /// among the grouping columns.
     Column(usize, usize, Kind),
-    /// A column of an item that is not known.
-    Guessed,
+    /// So many queries outwards, a column of the item of this place, which is not known.
+    Guessed(usize, usize),
     /// The variable or parameter of this place, of this kind.
     Variable(usize, Kind),
+    /// A column of a grouped query that is no grouping column.
+    Barred,
     /// Two columns.
     Several,
     Unknown,
 }
 
-fn may_be_guessed(wanted: &ColumnName, levels: &[Level<'_>]) -> bool
-    ensures { result ≡ list_any (λ l. spec.any_unknown wanted.now.qualifier l.items) (map level_by levels.now) }
+// A column of an item that is not known, of the innermost query outwards.
+fn guess(wanted: &ColumnName, levels: &[Level<'_>], other: Found) -> Found
+    ensures { result ≡ spec.guess wanted.now 0 (map level_by levels.now) other }
 {
-    for level in levels {
-        if any_unknown(&wanted.qualifier, level.items) {
-            return true;
+    for (depth, level) in levels.iter().enumerate() {
+        if let Some(item) = unknown_item(&wanted.qualifier, level.items) {
+            return guess_of(depth, item, &wanted.name.name, level.grouped, level.keys);
         }
     }
-    false
-}
-
-fn guessed(unknown: bool, other: Found) -> Found
-    ensures { result ≡ spec.guessed unknown other }
-{
-    if unknown { Found::Guessed } else { other }
+    other
 }
 
 // The kind at a place.
@@ -113,7 +114,9 @@ fn outwards(wanted: &ColumnName, levels: &[Level<'_>], other: Found) -> Result<F
                     return Ok(Found::Unknown);
                 }
             }
-            Hit::Once(place, kind) => return Ok(Found::Column(depth, place, kind)),
+            Hit::Once(place, kind) => {
+                return Ok(column_of(depth, place, kind, level.grouped, level.keys));
+            }
             Hit::Twice => return Ok(Found::Several),
         }
     }
@@ -125,7 +128,7 @@ pub fn stands_for(wanted: &ColumnName, sight: &Sight<'_>) -> Result<Found, NoMem
     ensures { IfOk result (λ f. f ≡ spec.stands_for wanted.now (seen_by sight.now)) }
 {
     let other = variable(wanted, sight.variables);
-    let other = guessed(may_be_guessed(wanted, sight.levels), other);
+    let other = guess(wanted, sight.levels, other);
     outwards(wanted, sight.levels, other)
 }
 
@@ -153,4 +156,34 @@ pub fn entered<'a>(
         levels.push(*outer)?;
     }
     Ok(levels)
+}
+
+/// Whether an aggregate may stand directly in what the innermost of these queries holds.
+pub fn may_stand(levels: &[Level<'_>]) -> bool
+    ensures { result ≡ spec.may_stand (map level_by levels.now) }
+{
+    match levels {
+        [level, ..] => level.grouped,
+        [] => false,
+    }
+}
+
+/// The levels inside an aggregate: each column of its query is in sight there, and no aggregate may
+/// stand.
+pub fn ungrouped<'a>(alloc: Global, levels: &'a [Level<'a>]) -> Result<Vec<Level<'a>>, NoMemory>
+    ensures { IfOk result (λ ls. map level_by ls.items ≡ spec.ungrouped (map level_by levels.now)) }
+{
+    match levels {
+        [level, outside @ ..] => {
+            let inner = Level {
+                items: level.items,
+                base: level.base,
+                keys: level.keys,
+                grouped: false,
+            };
+            let found = entered(alloc, inner, outside)?;
+            Ok(found)
+        }
+        [] => Ok(Vec::new(alloc)),
+    }
 }

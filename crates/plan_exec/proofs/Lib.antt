@@ -1,9 +1,11 @@
 pub mod Collected
+pub mod Grouped
 pub mod Matching
 pub mod Nodes
 pub mod Paired
 pub mod Picks
 pub mod Read
+pub mod Receiving
 pub mod Settled
 pub mod Stretched
 pub mod Whole

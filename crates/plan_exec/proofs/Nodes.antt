@@ -11,14 +11,15 @@ use Rattle.row_types.specs.Cells.{PlanRow, Whole, Poisoned}
 use Rattle.rel_algebra.specs.declared.plan.Node.{Node, out-Node, roll-Node}
 use Rattle.rel_algebra.specs.declared.plan.Node.TheOpen.{Node-F}
 use Rattle.rel_algebra.specs.declared.plan.Node.TheFolds.{map-Node, fold-roll-Node}
-use Rattle.rel_algebra.specs.declared.plan.Node.TheVariants.{Extend, Filter, Keep, Cross, LeftOuter, Settle, Sort, rolls-Extend, rolls-Filter, rolls-Keep, rolls-Cross, rolls-LeftOuter, rolls-Settle, rolls-Sort}
+use Rattle.rel_algebra.specs.declared.plan.Node.TheVariants.{Extend, Filter, Keep, Cross, LeftOuter, Settle, Group, Sort, rolls-Extend, rolls-Filter, rolls-Keep, rolls-Cross, rolls-LeftOuter, rolls-Settle, rolls-Group, rolls-Sort}
 use Rattle.rel_algebra.specs.declared.plan.Node.TheViews.{roll-out-Node}
 use Rattle.rel_algebra.specs.declared.plan.Plan.{Plan}
 use Rattle.rel_algebra.specs.declared.scalar.Scalar.{Scalar}
+use Rattle.row_types.specs.declared.aggregate_column.AggregateColumn.{AggregateColumn}
 use Rattle.row_types.specs.declared.sort_key.SortKey.{SortKey}
 use Rattle.rel_algebra.specs.Plain.{Inputs}
-use Rattle.rel_algebra.specs.Plan.{PlanTree, Nodes, den, added, each, kept, sight, cell_of, extend, filter, keep, cross, left_outer, settle, sort}
-use Rattle.rel_algebra.specs.PlanView.{NodeTree, node_step, plan_step, node_of, tree_of, with_node, with_nodes, run_of, scalar_of, scalars_of}
+use Rattle.rel_algebra.specs.Plan.{PlanTree, Nodes, den, added, each, kept, sight, cell_of, extend, filter, keep, cross, left_outer, settle, group, sort}
+use Rattle.rel_algebra.specs.PlanView.{NodeTree, node_step, plan_step, node_of, tree_of, with_node, with_nodes, run_of, scalar_of, scalars_of, aggregates_of}
 use Rattle.rel_algebra.specs.Work.{work_below}
 use Rattle.plan_exec.specs.Fates.{Fate, Stays, Gone, Raises, tested, node_fate, go_on, fate, fate_rows, passed, by_row, grown, grown_by}
 
@@ -67,7 +68,7 @@ gone_on (Raises a) go = refl
 node_is : (y : Node-F Node Plan) → node_of (roll-Node y) ≡ node_step (map-Node Node Plan NodeTree PlanTree node_of tree_of y)
 node_is y = fold-roll-Node NodeTree PlanTree node_step plan_step y
 
-of_layer : (P : Node → Type 0) → ((y : Node-F Node Plan) → P (roll-Node y)) → (n : Node) → P n
+pub of_layer : (P : Node → Type 0) → ((y : Node-F Node Plan) → P (roll-Node y)) → (n : Node) → P n
 of_layer P h n = subst P (roll-out-Node n) (h (out-Node n))
 
 pub over_extend : (ss : List Scalar) (input : PlanTree) → with_node (Extend ss) input ≡ extend (scalars_of ss) input
@@ -89,6 +90,10 @@ over_outer ns s n right input =
 pub over_settle : (input : PlanTree) → with_node Settle input ≡ settle input
 over_settle input = ap (λ n. with_node n input) (sym rolls-Settle) ∙ ap (λ (t : NodeTree). t.over input) (node_is Node-F.Settle)
 
+pub over_group : (places : List ℕ) (aggregates : List AggregateColumn) (input : PlanTree) → with_node (Group places aggregates) input ≡ group places (aggregates_of aggregates) input
+over_group places aggregates input =
+    ap (λ n. with_node n input) (sym (rolls-Group places aggregates)) ∙ ap (λ (t : NodeTree). t.over input) (node_is (Node-F.Group places aggregates))
+
 pub over_sort : (keys : List SortKey) (input : PlanTree) → with_node (Sort keys) input ≡ sort keys input
 over_sort keys input = ap (λ n. with_node n input) (sym (rolls-Sort keys)) ∙ ap (λ (t : NodeTree). t.over input) (node_is (Node-F.Sort keys))
 
@@ -107,6 +112,7 @@ fates_at (Node-F.Keep places) = subst IsFates (sym (rolls-Keep places)) (λ h in
 fates_at (Node-F.Cross right) = subst IsFates (sym (rolls-Cross right)) (λ h. absurd (false≢true h))
 fates_at (Node-F.LeftOuter ns s n right) = subst IsFates (sym (rolls-LeftOuter ns s n right)) (λ h. absurd (false≢true h))
 fates_at Node-F.Settle = subst IsFates (sym rolls-Settle) (λ h. absurd (false≢true h))
+fates_at (Node-F.Group places aggregates) = subst IsFates (sym (rolls-Group places aggregates)) (λ h. absurd (false≢true h))
 fates_at (Node-F.Sort keys) = subst IsFates (sym (rolls-Sort keys)) (λ h. absurd (false≢true h))
 
 node_den : (n : Node) → IsFates n
@@ -138,6 +144,7 @@ dearer_step (Node-F.Keep places) input w o = omega arith
 dearer_step (Node-F.Cross right) input w o = omega arith
 dearer_step (Node-F.LeftOuter ns s n right) input w o = omega arith
 dearer_step Node-F.Settle input w o = omega arith
+dearer_step (Node-F.Group places aggregates) input w o = omega arith
 dearer_step (Node-F.Sort keys) input w o = omega arith
 
 pub node_work : (n : Node) → IsDearer n
@@ -168,6 +175,9 @@ growing_at (Node-F.LeftOuter ms s n right) =
     subst IsGrowing (sym (rolls-LeftOuter ms s n right))
     (λ rest w o row. ap (λ ns. added ns w o row) (below_is (Node-F.LeftOuter ms s n right) (LeftOuter ms s n right) (rolls-LeftOuter ms s n right) rest))
 growing_at Node-F.Settle = subst IsGrowing (sym rolls-Settle) (λ rest w o row. ap (λ ns. added ns w o row) (below_is Node-F.Settle Settle rolls-Settle rest))
+growing_at (Node-F.Group places aggregates) =
+    subst IsGrowing (sym (rolls-Group places aggregates))
+    (λ rest w o row. ap (λ ns. added ns w o row) (below_is (Node-F.Group places aggregates) (Group places aggregates) (rolls-Group places aggregates) rest))
 growing_at (Node-F.Sort keys) =
     subst IsGrowing (sym (rolls-Sort keys)) (λ rest w o row. ap (λ ns. added ns w o row) (below_is (Node-F.Sort keys) (Sort keys) (rolls-Sort keys) rest))
 

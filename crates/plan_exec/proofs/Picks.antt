@@ -1,7 +1,7 @@
 -- Cells behind the cells of a row, and nodes behind nodes.
-use Rattle.std.proofs.Common.{◌≡◌, ℕ, zero, suc, ◌-◌, ◌<◌, ◌≤◌, List, [], ◌∷◌, ◌++◌, length, take, slice_index_or, Some, refl, sym, ap, ◌∙◌, arith}
+use Rattle.std.proofs.Common.{◌≡◌, ℕ, zero, suc, ◌+◌, ◌-◌, ◌<◌, ◌≤◌, List, [], ◌∷◌, ◌++◌, map, length, take, drop, slice_index_or, Some, refl, sym, ap, ◌∙◌, arith}
 use Rattle.std.specs.Prelude.{slice_get}
-use Rattle.std.proofs.lemmas.List.{append-nil}
+use Rattle.std.proofs.lemmas.List.{append-nil, append_assoc, drop_more, map-append}
 use Rattle.sql_values.specs.declared.value.Value.{Value}
 use Rattle.sql_values.specs.declared.value.Value.TheVariants.{Null}
 use Rattle.row_types.specs.declared.cell.Cell.{Cell}
@@ -83,3 +83,17 @@ pub whole_last : (f : Fate) → f ≡ go_on f (λ r. Stays r)
 whole_last (Stays r) = refl
 whole_last Gone = refl
 whole_last (Raises a) = refl
+
+cell_is : (row : List Cell) (i : ℕ) → slice_index_or row i (Val Null) ≡ cell_at row i
+cell_is [] i = refl
+cell_is (c ∷ row) zero = refl
+cell_is (c ∷ row) (suc i) = cell_is row i
+
+-- one cell more of a row is a value
+pub own_more : (row : List Cell) (i : ℕ) (vs us : List Value) (v : Value) (whole : List Cell) → i < length row → Val v ≡ cell_at row i → us ≡ vs ++ v ∷ [] →
+    map Val vs ++ drop i row ≡ whole → map Val us ++ drop (i + 1) row ≡ whole
+own_more row i vs us v whole l h e k =
+    let at : drop i row ≡ Val v ∷ drop (i + 1) row = drop_more row i (Val Null) l ∙ ap (λ c. c ∷ drop (i + 1) row) (cell_is row i ∙ sym h) in
+    ap (λ xs. map Val xs ++ drop (i + 1) row) e
+    ∙ (ap (λ xs. xs ++ drop (i + 1) row) (map-append Val vs (v ∷ []))
+    ∙ (append_assoc (map Val vs) (Val v ∷ []) (drop (i + 1) row) ∙ (ap (λ xs. map Val vs ++ xs) (sym at) ∙ k)))

@@ -1,5 +1,8 @@
 pub mod Answers
+pub mod Examples
 pub mod Fates
+pub mod Grouping
 pub mod Joins
 pub mod Passing
+pub mod Receiving
 pub mod Ways

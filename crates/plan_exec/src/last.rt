@@ -1,7 +1,7 @@
 //! The last nodes of a plan, by which a row gets its final cells. They are worked out straight into
 //! the memory of the row that comes out.
 
-ghost use Rattle.std.specs.Prelude.{◌≡◌, ◌++◌, [], ◌-◌, List, length, take, map, slice_get, Some, IfOk, IfSome};
+ghost use Rattle.std.specs.Prelude.{◌≡◌, ◌++◌, [], ◌-◌, true, List, length, take, map, slice_get, Some, IfOk, IfSome};
 ghost use Rattle.sql_values.specs.declared.value.Value.{Value as PlainValue};
 ghost use Rattle.row_types.specs.declared.cell.Cell.{Cell as PlainCell};
 ghost use Rattle.row_types.specs.declared.cell.Cell.TheVariants.{Val};
@@ -16,7 +16,7 @@ ghost use Rattle.plan_exec.specs.Ways.{last_cells, way_fate};
 
 use crate::scratch::Scratch;
 use rel_algebra::{Node, Scalar};
-use row_types::{Cell, Outer, PlanRow, Row, RowInSight, ValuesInSight, gathered};
+use row_types::{Cell, Outer, PlanRow, RowInSight, ValuesInSight, gathered};
 use scalar_eval::{eval_on, own_cell};
 use sql_values::{NoMemory, Value};
 use sqlite_items::Items;
@@ -116,10 +116,44 @@ pub fn finished(
             let (first, second) = front.slices();
             let values = ValuesInSight::of_pair(first, second);
             let row = RowInSight::over(&values, scratch.cells.as_slice());
-            match picked_values(alloc, scalars, places, &row, outer, args)? {
-                Some(values) => Ok(PlanRow::of_values(values)),
-                None => picked_cells(alloc, scalars, places, front, scratch, outer, args),
+            let mut values = Vec::with_capacity(alloc, places.len())?;
+            if pick_values(&mut values, alloc, scalars, places, &row, outer, args)? {
+                return Ok(PlanRow::of_values(Items::from_vec(values)));
             }
+            picked_cells(alloc, scalars, places, front, scratch, outer, args)
+        }
+    }
+}
+
+/// The same in the scratch's memory for values, where each of the cells is a value. `false` says
+/// nothing. The cells in the scratch stay.
+pub fn work_out(
+    alloc: Global,
+    last: &Last,
+    front: &ValuesInSight,
+    scratch: &mut Scratch,
+    outer: &Outer,
+    args: &[Value],
+) -> Result<bool, NoMemory>
+    ensures values { IfOk result (λ all. all ≡ true → map Val scratch.new.values.items ≡ last_cells last.now (map Val front.now ++ scratch.old.cells.items) (outer_rows outer.now) args.now) }
+    ensures cells { scratch.new.cells.items ≡ scratch.old.cells.items }
+{
+    scratch.values.clear();
+    let (first, second) = front.slices();
+    let front = ValuesInSight::of_pair(first, second);
+    let row = RowInSight::over(&front, scratch.cells.as_slice());
+    match last {
+        Last::Whole => own_values(&mut scratch.values, alloc, &row),
+        Last::Picked(scalars, places) => {
+            pick_values(
+                &mut scratch.values,
+                alloc,
+                scalars,
+                places,
+                &row,
+                outer,
+                args,
+            )
         }
     }
 }
@@ -142,26 +176,39 @@ fn picked_cells(
     gathered(alloc, &ValuesInSight::none(), scratch.cells.as_mut_slice())
 }
 
-// The same where each of the cells is a value. `None` says nothing.
-fn picked_values(
+// Adds the values of the same cells, where each is a value. `false` says nothing.
+fn pick_values(
+    values: &mut Vec<Value>,
     alloc: Global,
     scalars: &[Scalar],
     places: &[usize],
     row: &RowInSight,
     outer: &Outer,
     args: &[Value],
-) -> Result<Option<Row>, NoMemory>
-    ensures { IfOk result (λ o. IfSome o (λ values. map Val values ≡ cells_at (row.now ++ cells_of (scalars_of scalars.now) (sight_of row.now (outer_rows outer.now) args.now)) places.now)) }
+) -> Result<bool, NoMemory>
+    ensures { IfOk result (λ all. all ≡ true → map Val values.new.items ≡ map Val values.old.items ++ cells_at (row.now ++ cells_of (scalars_of scalars.now) (sight_of row.now (outer_rows outer.now) args.now)) places.now) }
 {
     let width = row.len();
-    let mut values = Items::from_vec(Vec::with_capacity(alloc, places.len())?);
     for place in places {
         match extended_cell(alloc, scalars, row, width, *place, outer, args)? {
             Cell::Val(value) => values.push(value)?,
-            Cell::Cond(_) => return Ok(None),
+            Cell::Cond(_) => return Ok(false),
         }
     }
-    Ok(Some(values))
+    Ok(true)
+}
+
+// Adds the values of a row's cells, where each is a value. `false` says nothing.
+fn own_values(values: &mut Vec<Value>, alloc: Global, row: &RowInSight) -> Result<bool, NoMemory>
+    ensures { IfOk result (λ all. all ≡ true → map Val values.new.items ≡ map Val values.old.items ++ row.now) }
+{
+    for place in 0..row.len() {
+        match own_cell(alloc, row, place)? {
+            Cell::Val(value) => values.push(value)?,
+            Cell::Cond(_) => return Ok(false),
+        }
+    }
+    Ok(true)
 }
 
 // The cell at a place of a row with the cells of scalars behind its own.

@@ -3,12 +3,14 @@
 
 mod collecting;
 mod ends;
+mod groups;
 mod last;
 mod leaves;
 mod lists;
 mod outer;
 mod pairs;
 mod pass;
+mod received;
 #[cfg(test)]
 mod run_tests;
 mod running;

@@ -4,8 +4,8 @@ ghost use Rattle.std.specs.Prelude.{◌≡◌};
 
 use crate::{Answer, Values, collect, collect_values, execute};
 use rel_algebra::{Leaf, Node, Plan, Scalar, ScalarLink, ScalarRow};
-use row_types::{PlanRow, RowEnd, SortKey, Steps};
-use sql_values::{Comparison, Name, NoMemory, Operator, Value};
+use row_types::{AggregateColumn, PlanRow, RowEnd, SortKey, Steps};
+use sql_values::{Comparison, FoldKind, Name, NoMemory, Operator, Value};
 use sqlite_items::{Boxed, Items};
 use std::alloc::Global;
 use std::marker::Brand;
@@ -100,6 +100,27 @@ fn sorted_pairs(alloc: Global) -> Result<Plan, NoMemory> {
         Node::Cross(right),
         Some(sort),
     )
+}
+
+// A leaf, Group by some columns with an aggregate of column 0, and perhaps a second node.
+fn grouped(
+    alloc: Global,
+    leaf: Result<Leaf, NoMemory>,
+    by: &[usize],
+    kind: FoldKind,
+    second: Option<Node>,
+) -> Result<Plan, NoMemory> {
+    let places = Items::from_slice(alloc, by)?;
+    let mut aggregates = Items::new(alloc);
+    aggregates.push(AggregateColumn { kind, place: 0 })?;
+    under(alloc, leaf, Node::Group(places, aggregates), second)
+}
+
+// The rows of VALUES 2, 1, 2, 0, 1, Group #0 agg count #0, Filter #0 < #1
+fn counted(alloc: Global) -> Result<Plan, NoMemory> {
+    let test = Node::Filter(compared(alloc, Comparison::LessThan)?);
+    let leaf = listed(alloc, &[2, 1, 2, 0, 1]);
+    grouped(alloc, leaf, &[0], FoldKind::Count, Some(test))
 }
 
 // The rows of VALUES 20 / 10, 20 / 0, 20 / 5.
@@ -275,5 +296,39 @@ fn rows_that_tie_keep_their_order(rt: HostRuntime) -> Result<(), Fail> {
     let alloc = rt.alloc();
     let rows = tell(alloc, sorted_pairs(alloc)).ok().ok_or("no memory")?;
     assert!(rt; rows.as_slice() == [2, 1, 2, 1, 104, 204].as_slice());
+    Ok(())
+}
+
+#[test]
+fn groups_stand_as_their_first_rows(rt: HostRuntime) -> Result<(), Fail> {
+    let alloc = rt.alloc();
+    let leaf = listed(alloc, &[2, 1, 2]);
+    let rows = tell(alloc, grouped(alloc, leaf, &[0], FoldKind::Sum, None))
+        .ok()
+        .ok_or("no memory")?;
+    assert!(rt; rows.as_slice() == [2, 1, 102, 202].as_slice());
+    let rows = tell(alloc, counted(alloc)).ok().ok_or("no memory")?;
+    assert!(rt; rows.as_slice() == [1, 0, 102, 202].as_slice());
+    Ok(())
+}
+
+#[test]
+fn one_group_without_a_column(rt: HostRuntime) -> Result<(), Fail> {
+    let alloc = rt.alloc();
+    let none = listed(alloc, &[]);
+    let rows = tell(alloc, grouped(alloc, none, &[], FoldKind::Count, None))
+        .ok()
+        .ok_or("no memory")?;
+    assert!(rt; rows.as_slice() == [0, 101, 201].as_slice());
+    let large = listed(alloc, &[i64::MAX, 1]);
+    let rows = tell(alloc, grouped(alloc, large, &[], FoldKind::Sum, None))
+        .ok()
+        .ok_or("no memory")?;
+    assert!(rt; rows.as_slice() == [-1, -100, -200].as_slice());
+    let raising = quotients(alloc);
+    let rows = tell(alloc, grouped(alloc, raising, &[], FoldKind::Max, None))
+        .ok()
+        .ok_or("no memory")?;
+    assert!(rt; rows.as_slice() == [-1, -100, -200].as_slice());
     Ok(())
 }

@@ -14,10 +14,12 @@ use sql_values::{NoMemory, Value};
 use std::alloc::Global;
 use std::mem::swap;
 
-/// The cells that stand behind the values of a row, and memory for as many more.
+/// The cells that stand behind the values of a row, and memory for as many more and for the values
+/// that come of a row.
 #[derive(Drop)]
 pub struct Scratch {
     pub cells: Vec<Cell>,
+    pub values: Vec<Value>,
     spare: Vec<Cell>,
 }
 
@@ -28,6 +30,7 @@ impl Scratch {
     {
         Scratch {
             cells: Vec::new(alloc),
+            values: Vec::new(alloc),
             spare: Vec::new(alloc),
         }
     }

@@ -13,6 +13,8 @@
 mod command;
 #[cfg(test)]
 mod fault_tests;
+#[cfg(test)]
+mod group_tests;
 mod law;
 mod program;
 #[cfg(test)]

@@ -1,17 +1,18 @@
 -- How many columns items of FROM have. ISO/IEC 9075-2, 7.6 (table reference).
-use Rattle.std.proofs.Common.{ℕ, suc, ◌≡◌, ◌∷◌, [], List, Option, Some, None, length, slice_get, refl, sym, ap, ◌∙◌}
+use Rattle.std.proofs.Common.{ℕ, suc, ◌≡◌, ◌∷◌, [], List, Option, Some, None, length, map, slice_get, refl, sym, ap, ◌∙◌}
 use Rattle.row_types.specs.declared.sort_key.SortKey.{SortKey}
 use Rattle.bound_trees.specs.declared.expr.BoundExpr.{BoundExpr}
 use Rattle.bound_trees.specs.declared.query.BoundQuery.{BoundQuery}
 use Rattle.bound_trees.specs.declared.query.BoundQuery.TheVariants as query
+use Rattle.bound_trees.specs.declared.query.BoundGrouping.{BoundGrouping}
 use Rattle.bound_trees.specs.declared.query.BoundRow.{BoundRow}
 use Rattle.bound_trees.specs.declared.query.BoundSelect.{BoundSelect}
 use Rattle.bound_trees.specs.declared.query.BoundSource.{BoundSource}
 use Rattle.bound_trees.specs.declared.query.BoundSource.TheVariants as source
-use Rattle.rel_algebra.specs.Tree.{count, From, Query}
+use Rattle.rel_algebra.specs.Tree.{count, Exprs, From, Query}
 use Rattle.rel_algebra.specs.Joins.{rows_width, query_width, from_width}
 use Rattle.catalog_store.specs.Catalog.{Catalog}
-use Rattle.catalog_store.specs.View.{exprs_of, rows_of, query_of, source_of}
+use Rattle.catalog_store.specs.View.{exprs_of, rows_of, from_of, item_of, selected, query_of, source_of}
 use Rattle.catalog_store.proofs.Laws.{query_of-Select, query_of-Values, query_of-Ordered, select_of-parts, source_of-Derived}
 
 exprs_counted : (k : Catalog) (es : List BoundExpr) → length es ≡ count (exprs_of k es)
@@ -31,9 +32,16 @@ module _ (k : Catalog) (S : List ℕ → ℕ) where
   abbrev width : BoundQuery → ℕ
   width q = query_width (query_of k q) S
 
+  selected_counted : (g : Option BoundGrouping) (items : Exprs) (from : From) (conjuncts : Exprs) → query_width (selected k g items from conjuncts) S ≡ count items
+  selected_counted None items from conjuncts = refl
+  selected_counted (Some g) items from conjuncts = refl
+
   pub select_counted : (q : BoundQuery) (s : BoundSelect) (n : ℕ) → q ≡ query.Select s → n ≡ length s.items → n ≡ width q
   select_counted q s n is counted =
-      counted ∙ exprs_counted k s.items ∙ sym (ap width is ∙ ap (λ (t : Query). query_width t S) (query_of-Select k s ∙ select_of-parts k s))
+      counted ∙ exprs_counted k s.items ∙ sym (
+      ap width is ∙ ap (λ (t : Query). query_width t S) (query_of-Select k s ∙ select_of-parts k s)
+      ∙ selected_counted s.grouping (exprs_of k s.items) (from_of (map (item_of k) s.from)) (exprs_of k s.conjuncts)
+      )
 
   values_counted : (q : BoundQuery) (rows : List BoundRow) → q ≡ query.Values rows → width q ≡ rows_width (rows_of k rows)
   values_counted q rows is = ap width is ∙ ap (λ (t : Query). query_width t S) (query_of-Values k rows)

@@ -3,3 +3,4 @@ pub mod Assigning
 pub mod RowByRow
 pub mod LeftToRight
 pub mod Counted
+pub mod Grouping

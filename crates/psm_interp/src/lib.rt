@@ -2,9 +2,11 @@
 #![tactic(auto)]
 
 mod from;
+mod groups;
 mod inserts;
 mod joins;
 mod queries;
+mod records;
 mod widths;
 
 pub use inserts::{run_insert, store_rows};

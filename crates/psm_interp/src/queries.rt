@@ -1,18 +1,19 @@
 //! Queries.
 
-ghost use Rattle.std.specs.Prelude.{[], ◌∷◌, map};
-ghost use Rattle.row_types.specs.Rows.{Row as Values};
-ghost use Rattle.rel_algebra.specs.World.{no_self, each_kept};
-ghost use Rattle.rel_algebra.specs.Meaning.{answer, ask, from_rows as from_by, record_of as record_by};
-ghost use Rattle.catalog_store.specs.View.{exprs_of, query_of, select_of, item_of, source_of, from_of, itself};
+ghost use Rattle.std.specs.Prelude.{[], map};
+ghost use Rattle.rel_algebra.specs.World.{no_self};
+ghost use Rattle.rel_algebra.specs.Meaning.{answer, ask, from_rows as from_by};
+ghost use Rattle.catalog_store.specs.View.{query_of, select_of, item_of, source_of, from_of, itself};
 ghost use Rattle.expr_interp.specs.Content.{world_of};
 ghost use Rattle.expr_interp.specs.Ending.{Ended};
+ghost use Rattle.psm_interp.specs.Groups.{made_of as made_by};
 
 use crate::from::{closed, join, table_rows};
-use crate::joins::add;
+use crate::groups::grouped;
+use crate::records::records_of;
 use bound_trees::{BoundFromItem, BoundQuery, BoundSelect, BoundSource};
 use catalog_store::Catalog;
-use expr_interp::{Frame, Stop, World, eval_all, eval_rows, holds, leave};
+use expr_interp::{Frame, Stop, World, eval_rows, leave};
 use row_sort::sorted;
 use row_types::Row;
 use sqlite_items::Items;
@@ -35,7 +36,8 @@ pub fn run_query(
 }
 
 /// The rows of a query that no query stands around: of a SELECT in the order of the rows of its
-/// FROM, of VALUES as they stand. An order is made of the whole list.
+/// FROM, or of the first rows of its groups, of VALUES as they stand. An order is made of the whole
+/// list.
 #[cycle(query)]
 pub fn answer_query(
     query: &BoundQuery,
@@ -66,7 +68,7 @@ fn select(
     ensures { Ended world.old world.new result (answer (select_of catalog.now query.now) no_self [] frame.now (world_of world.old)) }
 {
     let rows = from_rows(query.from.as_slice(), frame, world, catalog)?;
-    records_of(query, rows.as_slice(), frame, world, catalog)
+    made_of(query, rows.as_slice(), frame, world, catalog)
 }
 
 // The rows of FROM: of each item in turn they are made, and then joined to those before it.
@@ -121,40 +123,20 @@ fn source_rows(
     }
 }
 
-// What a SELECT makes of the rows of its FROM, one by one.
-fn records_of(
+// What a SELECT makes of the rows of its FROM: records of the rows one by one, or of their groups.
+fn made_of(
     query: &BoundSelect,
     rows: &[Row],
     frame: &Frame,
     world: &mut World,
     catalog: &Catalog,
 ) -> Result<Items<Row>, Stop>
-    ensures { Ended world.old world.new result (each_kept (λ (row : Values). record_by (exprs_of catalog.now query.now.items) (exprs_of catalog.now query.now.conjuncts) no_self (row ∷ []) frame.now) rows.now (world_of world.old)) }
+    ensures { Ended world.old world.new result (made_by catalog.now query.now frame.now rows.now (world_of world.old)) }
 {
-    let mut records = Items::new(world.allocator());
-    for row in rows {
-        let record = record_of(query, row, frame, world, catalog)?;
-        add(&mut records, record)?;
-    }
-    Ok(records)
-}
-
-// The record of a row, where the row is kept: first the conjuncts, and where they are true the
-// select list.
-fn record_of(
-    query: &BoundSelect,
-    row: &Row,
-    frame: &Frame,
-    world: &mut World,
-    catalog: &Catalog,
-) -> Result<Option<Row>, Stop>
-    ensures { Ended world.old world.new result (record_by (exprs_of catalog.now query.now.items) (exprs_of catalog.now query.now.conjuncts) no_self (row.now ∷ []) frame.now (world_of world.old)) }
-{
-    let rows = [row.as_slice()];
-    if holds(query.conjuncts.as_slice(), &rows, frame, world, catalog)? {
-        let record = eval_all(query.items.as_slice(), &rows, frame, world, catalog)?;
-        Ok(Some(record))
-    } else {
-        Ok(None)
+    let list = query.items.as_slice();
+    let conjuncts = query.conjuncts.as_slice();
+    match &query.grouping {
+        Some(grouping) => grouped(grouping, conjuncts, list, rows, frame, world, catalog),
+        None => records_of(list, conjuncts, rows, frame, world, catalog),
     }
 }

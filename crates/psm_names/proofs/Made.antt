@@ -27,7 +27,7 @@ use Rattle.names_in_sight.specs.Sight.{in_function, at_top}
 use Rattle.sql_names.specs.Names.{judge}
 use Rattle.psm_names.specs.Statements.{judged_statement, taken_name, column_faults, parameter_faults, parameters_of, is_key, key_of, column_type, judged_table, judged_function, result_faults, height_above, too_high, targets, rows_into, insert_into}
 use Rattle.sql_names.specs.Heights.{greatest_height}
-use Rattle.sql_names.specs.From.{table_named}
+use Rattle.typed_parts.specs.From.{table_named}
 use Rattle.sql_names.specs.Queries.{judge_query}
 use Rattle.psm_names.specs.Binds.{FaultlessFits, StatementFits}
 use Rattle.sql_names.proofs.Laws.{front_nil, back_nil, no_fault, fitting, query_planned, ordered_planned}
@@ -65,7 +65,7 @@ function-fits s catalog p =
     let heads = taken_name s.name catalog ++ parameter_faults s in
     let result = result_faults s body.value.head in
     let rest = back_nil heads (body.faults ++ (result ++ too_high s.name called)) p in
-    let covers = fitting s.result seen (front_nil body.faults (result ++ too_high s.name called) rest) in
+    let covers = fitting s.result seen refl (front_nil body.faults (result ++ too_high s.name called) rest) in
     let asked = back_nil body.faults (result ++ too_high s.name called) rest in
     let low = no_fault (nat_lt MOST_HEIGHT (called + 1)) TooHigh s.name.anchor (back_nil result (too_high s.name called) asked) in (
       free s.name catalog (front_nil (taken_name s.name catalog) (parameter_faults s) (front_nil heads (body.faults ++ (result ++ too_high s.name called)) p)),

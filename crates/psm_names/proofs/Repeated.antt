@@ -9,7 +9,7 @@ use Rattle.name_faults.specs.declared.fault.FaultKind.TheVariants.{DuplicateName
 use Rattle.name_faults.specs.Faults.{noted, fault_if}
 use Rattle.name_faults.proofs.Laws.{noted_append}
 use Rattle.names_in_sight.specs.Index.{place_of}
-use Rattle.sql_names.proofs.Laws.{unrolled}
+use Rattle.typed_parts.proofs.Laws.{unrolled}
 use Rattle.psm_names.specs.Statements.{again, repeated}
 
 -- names that earlier ones have

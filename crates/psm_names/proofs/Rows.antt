@@ -4,11 +4,12 @@ use Rattle.syntax_trees.specs.declared.statement.Parameter.{Parameter}
 use Rattle.syntax_trees.specs.declared.data_type.DataType.{DataType}
 use Rattle.name_faults.specs.Faults.{Noted, ◌>>=◌, ◌>>◌, as_value}
 use Rattle.names_in_sight.specs.Sight.{at_top, in_function}
-use Rattle.sql_names.specs.declared.typed.TypedQuery.{TypedQuery}
+use Rattle.typed_parts.specs.declared.typed.TypedQuery.{TypedQuery}
 use Rattle.sql_names.specs.Examples.{called, catalog}
-use Rattle.sql_names.specs.From.{table_named}
+use Rattle.typed_parts.specs.From.{table_named}
+use Rattle.typed_parts.specs.Typed.{alone, no_parts}
 use Rattle.sql_names.specs.Names.{Judge, look}
-use Rattle.sql_names.specs.Order.{ordered_by}
+use Rattle.typed_parts.specs.Order.{ordered_by}
 use Rattle.sql_names.specs.Written.{Expr, Query}
 use Rattle.sql_names.proofs.Laws.{plain, expr_plain, plain_query, query_plain}
 use Rattle.psm_names.specs.declared.statement.BoundStmt.TheVariants as bound
@@ -35,7 +36,7 @@ insert-row n rs =
 pub function-row : (n : List ℕ) (ps : List Parameter) (to : DataType) (e : Expr)
     → judged_statement (function n ps to e) catalog
     ≡ as_value (λ o. bound.Create n o) (taken_name (called n 2) catalog ++ parameter_faults (new_function n ps to e)
-    >> function_with (new_function n ps to e) catalog (look (plain e) (in_function (parameters_of ps) catalog)))
+    >> function_with (new_function n ps to e) catalog (alone (look (plain e) (in_function (parameters_of ps) catalog) no_parts)))
 function-row n ps to e =
     ap (λ (j : Judge). as_value (λ o. bound.Create n o) (taken_name (called n 2) catalog ++ parameter_faults (new_function n ps to e)
-    >> function_with (new_function n ps to e) catalog (look j (in_function (parameters_of ps) catalog)))) (expr_plain e)
+    >> function_with (new_function n ps to e) catalog (alone (look j (in_function (parameters_of ps) catalog) no_parts)))) (expr_plain e)

@@ -32,11 +32,11 @@ use Rattle.name_kinds.specs.declared.kind.Kind.{Kind}
 use Rattle.name_kinds.specs.declared.kind.Head.{Head}
 use Rattle.name_kinds.specs.Types.{type_of, type_faults}
 use Rattle.name_kinds.specs.Kinds.{kind_of_type, misfit}
-use Rattle.sql_names.specs.declared.typed.Typed.{Typed}
-use Rattle.sql_names.specs.declared.typed.TypedQuery.{TypedQuery}
+use Rattle.typed_parts.specs.declared.typed.Typed.{Typed}
+use Rattle.typed_parts.specs.declared.typed.TypedQuery.{TypedQuery}
 use Rattle.names_in_sight.specs.declared.sight.Variables.{Variables}
 use Rattle.names_in_sight.specs.Sight.{in_function, at_top}
-use Rattle.sql_names.specs.From.{table_named, unknown_table}
+use Rattle.typed_parts.specs.From.{table_named, unknown_table}
 use Rattle.sql_names.specs.Heights.{greatest_height}
 use Rattle.sql_names.specs.Names.{judge}
 use Rattle.sql_names.specs.Order.{judge_ordered}

@@ -10,8 +10,8 @@ mod function;
 mod statement;
 
 pub use function::MOST_HEIGHT;
-pub use sql_names::NameFault;
 pub use statement::{BoundStmt, bind_statement};
+pub use typed_parts::NameFault;
 
 /// A statement without faults makes what fits the catalog: a name that is free, a key of columns,
 /// calls of functions that stand there and are lower, with as many arguments as parameters; and

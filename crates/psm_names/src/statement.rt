@@ -18,11 +18,12 @@ use name_faults::{Fault, FaultKind, Notes, note_if};
 use name_kinds::{Kind, kind_of_type};
 use names_in_sight::{Sight, no_variables};
 use row_types::{ColumnType, RowType};
-use sql_names::{NameFault, TypedQuery, bind_ordered, bind_typed, table_named};
+use sql_names::{bind_ordered, bind_typed};
 use sql_values::{Name, NoMemory};
 use sqlite_items::Items;
 use std::alloc::Global;
 use syntax_trees::{Ident, Insert, OrderedQuery, Query, Stmt};
+use typed_parts::{NameFault, TypedQuery, table_named};
 
 /// A statement with its names resolved.
 #[derive(Drop)]

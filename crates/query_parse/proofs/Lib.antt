@@ -1,4 +1,0 @@
-pub mod Ranks
-pub mod Begun
-pub mod Lone
-pub mod Laws

@@ -8,10 +8,9 @@ ghost use Rattle.token_grammar.specs.Reads.{Reads};
 ghost use Rattle.sql_grammar.specs.Queries as queries;
 ghost use Rattle.sql_grammar.specs.Sql.{rules};
 
-use crate::lists::only;
-use crate::place::ident;
 use crate::queries::query;
-use sql_lex::{Kind, Sign, Word};
+use expr_parse::{ListItem, comma_list, ident};
+use sql_lex::{Kind, Word};
 use sqlite_items::Items;
 use std::alloc::Global;
 use syntax_trees::{OrderedQuery, SortSpecification};
@@ -38,6 +37,23 @@ fn sort_specification(input: &mut Input<'_>, room: u32) -> Result<SortSpecificat
     Ok(SortSpecification { name, descending })
 }
 
+// The columns of ORDER BY.
+struct SortSpecifications;
+
+impl ListItem for SortSpecifications {
+    type Tree = SortSpecification;
+
+    ghost item = { queries.sort_specification };
+
+    fn read(
+        _alloc: Global,
+        input: &mut Input<'_>,
+        room: u32,
+    ) -> Result<SortSpecification, ParseError> {
+        sort_specification(input, room)
+    }
+}
+
 #[tactic(auto, unfolding(sql_grammar::specs::Queries::sort_specifications, sql_grammar::specs::Queries::more_sort_specifications))]
 fn sort_specifications(
     alloc: Global,
@@ -46,15 +62,7 @@ fn sort_specifications(
 ) -> Result<Items<SortSpecification>, ParseError>
     ensures { Reads (reading rules room queries.sort_specifications input.old.rest.now) result input.new.rest.now }
 {
-    let first = sort_specification(input, room)?;
-    let mut found = only(alloc, first)?;
-    'more: while input.eat(Kind::Sign(Sign::Comma)) {
-        match sort_specification(input, room) {
-            Ok(next) => found.push(next)?,
-            Err(error) => return Err(error),
-        }
-    }
-    Ok(found)
+    comma_list::<SortSpecifications>(alloc, input, room)
 }
 
 // ORDER BY with its columns.

@@ -1,25 +1,26 @@
 //! Queries and their FROM, which hold each other.
 
-ghost use Rattle.std.specs.Prelude.{◌≡◌};
+ghost use Rattle.std.specs.Prelude.{◌≡◌, IfOk};
 ghost use Rattle.sql_lex.specs.declared.token.Kind.TheVariants as kinds;
+ghost use Rattle.syntax_trees.specs.declared.query.TableRef.TheVariants as tables;
 ghost use Rattle.token_grammar.specs.Grammar.{optional, token};
-ghost use Rattle.token_grammar.specs.Notation.{◌~>◌};
+ghost use Rattle.token_grammar.specs.Notation.{◌~◌, ◌~>◌};
 ghost use Rattle.token_grammar.specs.Reading.{begins, first, reading};
 ghost use Rattle.token_grammar.specs.Reads.{Reads};
 ghost use Rattle.sql_grammar.specs.Trees as trees;
 ghost use Rattle.sql_grammar.specs.Queries as queries;
 ghost use Rattle.sql_grammar.specs.Sql.{rules};
 
-use crate::expr::after;
-use crate::lists::{derived, only};
-use crate::names::{alias, column_list, if_alias};
-use crate::place::{anchor_in, ident};
+use crate::grouping::grouping;
 use crate::rows::values;
 use crate::select_list::select_list;
+use expr_parse::{after, alias, anchor_in, column_list, ident, if_alias, only};
 use sql_lex::{Kind, Sign, Word};
-use sqlite_items::Items;
-use std::alloc::Global;
-use syntax_trees::{Anchor, Expr, FromItem, Query, Select, TableRef};
+use sqlite_items::{Boxed, Items};
+use std::alloc::{AllocError, Global};
+use syntax_trees::{
+    Anchor, ColumnName, Expr, FromItem, Ident, Query, Select, SelectItem, TableRef,
+};
 use token_grammar::{Input, ParseError};
 
 // WHERE and its condition, if it stands here.
@@ -31,6 +32,38 @@ fn filter(alloc: Global, input: &mut Input<'_>, room: u32) -> Result<Option<Expr
         Ok(Some(after(alloc, input, room, Kind::Word(Word::Where))?))
     } else {
         Ok(None)
+    }
+}
+
+// What stands after FROM: the condition of WHERE, and the grouping.
+fn conditions(
+    alloc: Global,
+    input: &mut Input<'_>,
+    room: u32,
+) -> Result<(Option<Expr>, (Items<ColumnName>, Option<Expr>)), ParseError>
+    ensures { Reads (reading rules room (queries.filter ~ queries.grouping) input.old.rest.now) result input.new.rest.now }
+{
+    let filter = filter(alloc, input, room)?;
+    let grouping = grouping(alloc, input, room)?;
+    Ok((filter, grouping))
+}
+
+fn selected(
+    anchor: Anchor,
+    items: Items<SelectItem>,
+    from: Items<FromItem>,
+    conditions: (Option<Expr>, (Items<ColumnName>, Option<Expr>)),
+) -> Select
+    ensures { result ≡ queries.select_of (anchor, (items, (from, conditions))) }
+{
+    let (filter, (group_by, having)) = conditions;
+    Select {
+        anchor,
+        items,
+        from,
+        filter,
+        group_by,
+        having,
     }
 }
 
@@ -72,6 +105,18 @@ fn begins_from_item(input: &Input<'_>) -> bool
     ])
 }
 
+// A derived table, with its name and the names of its columns.
+fn derived(
+    alloc: Global,
+    query: Query,
+    name: Ident,
+    columns: Items<Ident>,
+) -> Result<TableRef, AllocError>
+    ensures { IfOk result (λ t. t ≡ tables.Derived query name columns) }
+{
+    Ok(TableRef::Derived(Boxed::new(alloc, query)?, name, columns))
+}
+
 // ---- what holds a query, or stands in one
 
 /// A query (ISO/IEC 9075-2, 7.17), without ORDER BY, by the rule `query`. On Ok the input stands
@@ -96,13 +141,8 @@ fn select(alloc: Global, input: &mut Input<'_>, room: u32) -> Result<Select, Par
     let anchor = select_word(input, room)?;
     let items = select_list(alloc, input, room)?;
     let from = from_clause(alloc, input, room)?;
-    let filter = filter(alloc, input, room)?;
-    Ok(Select {
-        anchor,
-        items,
-        from,
-        filter,
-    })
+    let conditions = conditions(alloc, input, room)?;
+    Ok(selected(anchor, items, from, conditions))
 }
 
 #[tactic(auto, unfolding(sql_grammar::specs::Queries::from_clause))]

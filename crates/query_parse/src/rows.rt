@@ -6,10 +6,8 @@ ghost use Rattle.token_grammar.specs.Reads.{Reads};
 ghost use Rattle.sql_grammar.specs.Queries as queries;
 ghost use Rattle.sql_grammar.specs.Sql.{rules};
 
-use crate::expr::bracketed_exprs;
-use crate::lists::only;
-use crate::place::anchor_in;
-use sql_lex::{Kind, Sign, Word};
+use expr_parse::{ListItem, anchor_in, bracketed_exprs, comma_list};
+use sql_lex::{Kind, Word};
 use sqlite_items::Items;
 use std::alloc::Global;
 use syntax_trees::{Anchor, ValueRow, Values};
@@ -22,19 +20,24 @@ fn row(alloc: Global, input: &mut Input<'_>, room: u32) -> Result<ValueRow, Pars
     Ok(ValueRow::Row(bracketed_exprs(alloc, input, room)?))
 }
 
+// The rows of VALUES.
+struct ValueRows;
+
+impl ListItem for ValueRows {
+    type Tree = ValueRow;
+
+    ghost item = { queries.row };
+
+    fn read(alloc: Global, input: &mut Input<'_>, room: u32) -> Result<ValueRow, ParseError> {
+        row(alloc, input, room)
+    }
+}
+
 #[tactic(auto, unfolding(sql_grammar::specs::Queries::rows, sql_grammar::specs::Queries::more_rows))]
 fn rows(alloc: Global, input: &mut Input<'_>, room: u32) -> Result<Items<ValueRow>, ParseError>
     ensures { Reads (reading rules room queries.rows input.old.rest.now) result input.new.rest.now }
 {
-    let first = row(alloc, input, room)?;
-    let mut found = only(alloc, first)?;
-    'more: while input.eat(Kind::Sign(Sign::Comma)) {
-        match row(alloc, input, room) {
-            Ok(next) => found.push(next)?,
-            Err(error) => return Err(error),
-        }
-    }
-    Ok(found)
+    comma_list::<ValueRows>(alloc, input, room)
 }
 
 #[tactic(auto, unfolding(sql_grammar::specs::Queries::values_word))]

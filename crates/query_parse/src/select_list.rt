@@ -6,10 +6,7 @@ ghost use Rattle.token_grammar.specs.Reads.{Reads};
 ghost use Rattle.sql_grammar.specs.Queries as queries;
 ghost use Rattle.sql_grammar.specs.Sql.{rules};
 
-use crate::expr::expr;
-use crate::lists::only;
-use crate::names::if_alias;
-use crate::place::anchor_in;
+use expr_parse::{ListItem, anchor_in, comma_list, expr, if_alias, only};
 use sql_lex::{Kind, Sign};
 use sqlite_items::Items;
 use std::alloc::Global;
@@ -26,6 +23,19 @@ fn select_value(alloc: Global, input: &mut Input<'_>, room: u32) -> Result<Selec
     Ok(SelectItem::Value(value, name))
 }
 
+// The values of a select list.
+struct SelectValues;
+
+impl ListItem for SelectValues {
+    type Tree = SelectItem;
+
+    ghost item = { queries.select_value };
+
+    fn read(alloc: Global, input: &mut Input<'_>, room: u32) -> Result<SelectItem, ParseError> {
+        select_value(alloc, input, room)
+    }
+}
+
 #[tactic(auto, unfolding(sql_grammar::specs::Queries::select_values, sql_grammar::specs::Queries::more_select_values))]
 fn select_values(
     alloc: Global,
@@ -34,15 +44,7 @@ fn select_values(
 ) -> Result<Items<SelectItem>, ParseError>
     ensures { Reads (reading rules room queries.select_values input.old.rest.now) result input.new.rest.now }
 {
-    let first = select_value(alloc, input, room)?;
-    let mut found = only(alloc, first)?;
-    'more: while input.eat(Kind::Sign(Sign::Comma)) {
-        match select_value(alloc, input, room) {
-            Ok(next) => found.push(next)?,
-            Err(error) => return Err(error),
-        }
-    }
-    Ok(found)
+    comma_list::<SelectValues>(alloc, input, room)
 }
 
 #[tactic(auto, unfolding(sql_grammar::specs::Queries::all_columns))]

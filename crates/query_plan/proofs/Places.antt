@@ -1,5 +1,5 @@
 -- Places in a row, from one to another.
-use Rattle.std.proofs.Common.{ℕ, ◌≡◌, ◌<◌, ◌≤◌, ◌+◌, ◌-◌, suc, [], ◌∷◌, ap, ◌∙◌, arith}
+use Rattle.std.proofs.Common.{ℕ, ◌≡◌, ◌<◌, ◌≤◌, ◌+◌, ◌-◌, zero, suc, [], ◌∷◌, length, refl, ap, ◌∙◌, arith}
 use Rattle.rel_algebra.specs.Joins.{places}
 
 pub places-next : (p end : ℕ) → p < end → places p (end - p) ≡ p ∷ places (p + 1) (end - (p + 1))
@@ -9,3 +9,7 @@ places-next p end h =
 
 pub places-none : (p end : ℕ) → end ≤ p → places p (end - p) ≡ []
 places-none p end h = let e : end - p ≡ 0 = omega (arith, h) in ap (places p) e
+
+pub places-long : (i n : ℕ) → length (places i n) ≡ n
+places-long i zero = refl
+places-long i (suc n) = ap suc (places-long (suc i) n)

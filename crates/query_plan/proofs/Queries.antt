@@ -1,24 +1,30 @@
 -- Whole queries.
-use Rattle.std.proofs.Common.{ℕ, ◌≡◌, ◌<◌, ◌≤◌, ◌+◌, ◌∷◌, [], ◌++◌, List, Option, Some, None, MatchOption, Bool, true, false, ◌&&◌, if◌then◌else◌, replicate, length, drop, get_or, slice_get, suc, refl, sym, ap, ◌∙◌, subst, arith, append_assoc}
+use Rattle.std.proofs.Common.{ℕ, ◌≡◌, ◌<◌, ◌≤◌, ◌+◌, ◌∷◌, [], ◌++◌, List, Option, Some, None, MatchOption, Bool, true, false, ◌&&◌, if◌then◌else◌, replicate, length, map, drop, get_or, slice_get, suc, refl, sym, ap, ◌∙◌, subst, arith, append_assoc}
 use Rattle.std.proofs.lemmas.List.{drop_all, length-replicate, append-nil}
 use Rattle.bound_trees.specs.declared.expr.BoundExpr.{BoundExpr}
+use Rattle.bound_trees.specs.declared.query.BoundFromItem.{BoundFromItem}
+use Rattle.bound_trees.specs.declared.query.BoundGrouping.{BoundGrouping}
 use Rattle.bound_trees.specs.declared.query.BoundRow.{BoundRow}
+use Rattle.bound_trees.specs.declared.query.BoundSelect.{BoundSelect}
 use Rattle.catalog_store.specs.Catalog.{Catalog}
-use Rattle.catalog_store.specs.View.{exprs_of, rows_of}
+use Rattle.catalog_store.specs.View.{exprs_of, rows_of, from_of, item_of, selected, select_of}
 use Rattle.rel_algebra.specs.declared.plan.ScalarRow.{ScalarRow}
-use Rattle.rel_algebra.specs.Tree.{Exprs, count, From, Select, Values}
+use Rattle.rel_algebra.specs.Tree.{Aggregate, Exprs, count, From, Values}
 use Rattle.rel_algebra.specs.Plan.{Scalar, Scalars, PlanTree, Nodes, no_node, extend_by, apply_by, values, unit_row, on_each}
-use Rattle.rel_algebra.specs.Joins.{from_width, rows_width}
+use Rattle.rel_algebra.specs.Joins.{query_width, rows_width}
 use Rattle.rel_algebra.specs.PlanView.{scalars_of, lists_of}
-use Rattle.rel_algebra.specs.Emit.{Env, EmittedAll, top, lifted, entered, none_waits, emit_all, emit_rows, emit_tests, filters, filters_width, listed, list_nodes, chosen, several, numbers, is_plain, all_plain, values_plan, scalars_of as all_scalars_of, from_plan, plan, width}
+use Rattle.rel_algebra.specs.Emit.{Env, Emitted, EmittedAll, top, lifted, entered, none_waits, emit_all, emit_rows, emit_tests, filters, filters_width, listed, list_nodes, chosen, several, numbers, is_plain, all_plain, values_plan, scalars_of as all_scalars_of, plan, width}
 use Rattle.expr_plan.specs.declared.draft.Draft.{Draft}
 use Rattle.expr_plan.specs.Drafts.{drafted}
 use Rattle.expr_plan.specs.Emission.{EmitsAll}
+use Rattle.query_plan.specs.Grouping.{selected_rows, grouped_rows}
+use Rattle.query_plan.specs.Joining.{IsFrom}
 use Rattle.query_plan.specs.Listing.{listed_only}
 use Rattle.query_plan.specs.Plainness.{ArePlain}
 use Rattle.expr_plan.specs.Drafts.{is_unit_row}
 use Rattle.query_plan.specs.Choosing.{columns_from, with_row, closed, all_arms_of}
 use Rattle.catalog_store.specs.Widths.{width_in}
+use Rattle.catalog_store.proofs.Laws.{select_of-parts}
 use Rattle.expr_plan.proofs.Laws.{on_each-joined, width-joined}
 use Rattle.expr_plan.proofs.Laws.{rest, map-last}
 use Rattle.expr_plan.proofs.Laws.{plain_unit}
@@ -35,21 +41,55 @@ listed_emission f n t start between ss end tree wide d is =
 
 -- ---- SELECT
 
-pub select_plan : (items tests : Exprs) (from : From) (S : List ℕ → ℕ) (columns : ℕ) (start filtered between : Draft) (ss : Scalars) (end : PlanTree) → columns ≡ (drafted start).width →
-    (drafted start).tree ≡ from_plan from S (top 0) → (drafted start).width ≡ from_width from S →
-    (drafted filtered).tree ≡ filters (emit_tests tests S (entered (top 0) columns) none_waits (drafted start).width) (drafted start).tree →
-    (drafted filtered).width ≡ filters_width (emit_tests tests S (entered (top 0) columns) none_waits (drafted start).width) (drafted start).width →
-    EmitsAll filtered between ss (emit_all items S (entered (top 0) columns) (drafted filtered).width) →
-    end ≡ listed_only ss (drafted between).width (drafted between).tree → end ≡ plan (Select items from tests) S (top 0)
-select_plan items tests from S columns start filtered between ss end same tree wide kept kept_width d is =
-    let n = from_width from S in
-    let c : columns ≡ n = same ∙ wide in
-    let ts = emit_tests tests S (entered (top 0) n) none_waits n in
-    let input = from_plan from S (top 0) in
-    let tested : emit_tests tests S (entered (top 0) columns) none_waits (drafted start).width ≡ ts = λ j. emit_tests tests S (entered (top 0) (c j)) none_waits (wide j) in
-    listed_emission (λ m. emit_all items S (entered (top 0) columns) m) (filters_width ts n) (filters ts input) filtered between ss end
-    (kept ∙ (λ j. filters (tested j) (tree j))) (kept_width ∙ (λ j. filters_width (tested j) (wide j))) d is
-    ∙ ap (λ q. listed (emit_all items S (entered (top 0) q) (filters_width ts n)) (filters_width ts n) (filters ts input)) c
+-- a Filter for each conjunct over the rows of a plan, and the list
+pub selected_plan : (k : Catalog) (items tests : List BoundExpr) (columns : ℕ) (start filtered between : Draft) (ss : Scalars) (end : PlanTree) → columns ≡ (drafted start).width →
+    (drafted filtered).tree ≡ filters (emit_tests (exprs_of k tests) (width_in k) (entered (top 0) columns) none_waits (drafted start).width) (drafted start).tree →
+    (drafted filtered).width ≡ filters_width (emit_tests (exprs_of k tests) (width_in k) (entered (top 0) columns) none_waits (drafted start).width) (drafted start).width →
+    EmitsAll filtered between ss (emit_all (exprs_of k items) (width_in k) (entered (top 0) columns) (drafted filtered).width) →
+    end ≡ listed_only ss (drafted between).width (drafted between).tree →
+    end ≡ selected_rows (exprs_of k items) (exprs_of k tests) (width_in k) (drafted start).width (drafted start).tree
+selected_plan k items tests columns start filtered between ss end same kept kept_width d is =
+    let S = width_in k in
+    let n = (drafted start).width in
+    let input = (drafted start).tree in
+    let list : ℕ → ℕ → EmittedAll = λ q m. emit_all (exprs_of k items) S (entered (top 0) q) m in
+    let conjuncts : ℕ → List Emitted = λ q. emit_tests (exprs_of k tests) S (entered (top 0) q) none_waits n in
+    listed_emission (list columns) (filters_width (conjuncts columns) n) (filters (conjuncts columns) input) filtered between ss end kept kept_width d is
+    ∙ ap (λ q. let m = filters_width (conjuncts q) n in listed (list q m) m (filters (conjuncts q) input)) same
+
+-- the plan of a query over the rows of FROM that has no groups
+pub ungrouped_plan : (k : Catalog) (grouping : Option BoundGrouping) (items tests : List BoundExpr) (rows : Draft) (f : From) (end : PlanTree) → grouping ≡ None → IsFrom k rows f →
+    end ≡ selected_rows (exprs_of k items) (exprs_of k tests) (width_in k) (drafted rows).width (drafted rows).tree →
+    end ≡ plan (selected k grouping (exprs_of k items) f (exprs_of k tests)) (width_in k) (top 0)
+ungrouped_plan k grouping items tests rows f end none is made =
+    made ∙ (λ j. selected_rows (exprs_of k items) (exprs_of k tests) (width_in k) (is.width j) (is.tree j))
+    ∙ ap (λ g. plan (selected k g (exprs_of k items) f (exprs_of k tests)) (width_in k) (top 0)) (sym none)
+
+-- and that of one that has
+pub grouped_plan : (k : Catalog) (g : BoundGrouping) (items tests parts having : List BoundExpr) (aggregates : List Aggregate) (rows least groups : Draft) (f : From) (end : PlanTree) →
+    parts ≡ g.parts → aggregates ≡ g.aggregates → having ≡ g.having → IsFrom k rows f →
+    (drafted least).tree ≡ selected_rows (exprs_of k parts) (exprs_of k tests) (width_in k) (drafted rows).width (drafted rows).tree →
+    (drafted groups).tree ≡ grouped_rows g.keys aggregates (drafted least).tree → (drafted groups).width ≡ g.keys + length aggregates →
+    end ≡ selected_rows (exprs_of k items) (exprs_of k having) (width_in k) (drafted groups).width (drafted groups).tree →
+    end ≡ plan (selected k (Some g) (exprs_of k items) f (exprs_of k tests)) (width_in k) (top 0)
+grouped_plan k g items tests parts having aggregates rows least groups f end p a h is made tree wide last =
+    let S = width_in k in
+    let below = made ∙ (λ j. selected_rows (exprs_of k (p j)) (exprs_of k tests) S (is.width j) (is.tree j)) in
+    let many = wide ∙ ap (λ (ags : List Aggregate). g.keys + length ags) a in
+    let between = tree ∙ (λ j. grouped_rows g.keys (a j) (below j)) in
+    last ∙ (λ j. selected_rows (exprs_of k items) (exprs_of k (h j)) S (many j) (between j))
+
+-- the same of a bound select
+pub select_there : (k : Catalog) (s : BoundSelect) (items conjuncts : List BoundExpr) (from : List BoundFromItem) (p : PlanTree) → from ≡ s.from → items ≡ s.items → conjuncts ≡ s.conjuncts →
+    p ≡ plan (selected k s.grouping (exprs_of k items) (from_of (map (item_of k) from)) (exprs_of k conjuncts)) (width_in k) (top 0) → p ≡ plan (select_of k s) (width_in k) (top 0)
+select_there k s items conjuncts from p f i c is =
+    is ∙ (λ j. plan (selected k s.grouping (exprs_of k (i j)) (from_of (map (item_of k) (f j))) (exprs_of k (c j))) (width_in k) (top 0))
+    ∙ ap (λ q. plan q (width_in k) (top 0)) (sym (select_of-parts k s))
+
+-- a query is as wide as its list
+pub selected-width : (k : Catalog) (grouping : Option BoundGrouping) (items tests : Exprs) (f : From) (widths : List ℕ → ℕ) → query_width (selected k grouping items f tests) widths ≡ count items
+selected-width k None items tests f widths = refl
+selected-width k (Some g) items tests f widths = refl
 
 -- ---- VALUES
 
@@ -213,17 +253,6 @@ pub none_there : (k : Catalog) (rs : List BoundRow) → rs ≡ [] → (w : ℕ) 
 none_there k rs h w numbered = ap (λ (xs : List BoundRow). values_plan w (emit_rows (rows_of k xs) (width_in k) nowhere_env 0) numbered) (sym h)
 
 -- ---- the same of bound trees
-
-pub select_bound : (k : Catalog) (is js items tests : List BoundExpr) (from : From) (columns : ℕ) (start filtered between : Draft) (ss : Scalars) (end : PlanTree) →
-    is ≡ items → js ≡ tests → columns ≡ (drafted start).width →
-    (drafted start).tree ≡ from_plan from (width_in k) (top 0) → (drafted start).width ≡ from_width from (width_in k) →
-    (drafted filtered).tree ≡ filters (emit_tests (exprs_of k js) (width_in k) (entered (top 0) columns) none_waits (drafted start).width) (drafted start).tree →
-    (drafted filtered).width ≡ filters_width (emit_tests (exprs_of k js) (width_in k) (entered (top 0) columns) none_waits (drafted start).width) (drafted start).width →
-    EmitsAll filtered between ss (emit_all (exprs_of k is) (width_in k) (entered (top 0) columns) (drafted filtered).width) →
-    end ≡ listed_only ss (drafted between).width (drafted between).tree → end ≡ plan (Select (exprs_of k items) from (exprs_of k tests)) (width_in k) (top 0)
-select_bound k is js items tests from columns start filtered between ss end p q same tree wide kept kept_width d made =
-    select_plan (exprs_of k is) (exprs_of k js) from (width_in k) columns start filtered between ss end same tree wide kept kept_width d made
-    ∙ (λ j. plan (Select (exprs_of k (p j)) from (exprs_of k (q j))) (width_in k) (top 0))
 
 pub row_bound : (k : Catalog) (vs ws : List BoundExpr) (start between : Draft) (ss : Scalars) (end : PlanTree) → vs ≡ ws → (drafted start).tree ≡ unit_row → (drafted start).width ≡ 0 →
     EmitsAll start between ss (emit_all (exprs_of k vs) (width_in k) nowhere_env (drafted start).width) → end ≡ listed_only ss (drafted between).width (drafted between).tree →

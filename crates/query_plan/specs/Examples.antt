@@ -1,10 +1,13 @@
--- Worked plans, which hold by computation. ISO/IEC 9075-2, 7.5 (from clause), 7.10 (joined table) and 14.3 (cursor).
-use Rattle.std.specs.Prelude.{◌≡◌, ℕ, true, List, [], ◌∷◌, codes}
+-- Worked plans, which hold by computation. ISO/IEC 9075-2, 7.5 (from clause), 7.10 (joined table), 7.13 (group by clause) and 14.3 (cursor).
+use Rattle.std.specs.Prelude.{◌≡◌, ℕ, true, pos, List, [], ◌∷◌, codes}
 use Rattle.row_types.specs.declared.sort_key.SortKey.{SortKey}
-use Rattle.sql_values.specs.declared.operators.Comparison.TheVariants.{Equals}
-use Rattle.rel_algebra.specs.Tree.{Comparing, TrueTest, Column, Operate, Exprs, NoExpr, MoreExprs, From, Table, Derived, Query, Select, Ordered}
-use Rattle.rel_algebra.specs.Plan.{strict, and_word, Scalar, column, word, none, more, PlanTree, scan, filter, keep, cross, left_outer, settle, sort, no_node}
+use Rattle.sql_values.specs.declared.value.Value.TheVariants.{Int, Bool as Truth}
+use Rattle.sql_values.specs.declared.operators.Operator.TheVariants.{Divide}
+use Rattle.sql_values.specs.declared.operators.Comparison.TheVariants.{Equals, GreaterThan}
+use Rattle.rel_algebra.specs.Tree.{Arithmetic, Comparing, NullTest, TrueTest, Count, Sum, Literal, Column, Chain, Operate, NoLink, MoreLinks, Exprs, NoExpr, MoreExprs, From, Table, Derived, Query, Select, Grouped, Ordered}
+use Rattle.rel_algebra.specs.Plan.{strict, and_word, Scalar, constant, column, word, none, more, PlanTree, scan, extend, filter, keep, cross, left_outer, settle, group, sort, no_node}
 use Rattle.rel_algebra.specs.Emit.{top, plan, from_plan}
+use Rattle.expr_plan.specs.Emission.{value_check}
 use Rattle.catalog_store.specs.View.{after_comma, crossing, matching, matching_or_nulls, from_of}
 
 -- #i = #j, as an expression and as a scalar
@@ -45,3 +48,36 @@ pub record JoinsPlanned : Type 0 where
   pub derived : from_plan (from_of (after_comma (table (codes "A"))
       ∷ crossing (Derived (Select (MoreExprs (Column 0 0) NoExpr) (from_of (after_comma (table (codes "B")) ∷ [])) NoExpr)) ∷ [])) one_column (top 0)
       ≡ cross (scan (codes "A") 1) (settle (keep (0 ∷ []) (scan (codes "B") 1)))
+
+-- D (K, G, V)
+abbrev pub three_columns : List ℕ → ℕ
+three_columns name = 3
+
+-- SELECT G, COUNT(*) AS N FROM D GROUP BY G HAVING 10 / SUM(V) > 0
+abbrev pub counted : Query
+counted =
+    Grouped (table (codes "D")) NoExpr 1 (MoreExprs (Column 0 1) (MoreExprs (Literal (Truth true)) (MoreExprs (Column 0 2) NoExpr))) (Count ∷ Sum ∷ [])
+    (MoreExprs (Operate (Comparing GreaterThan)
+    (MoreExprs (Chain (Literal (Int (pos 10))) (MoreLinks Divide (Column 0 2) NoLink)) (MoreExprs (Literal (Int (pos 0))) NoExpr))) NoExpr)
+    (MoreExprs (Column 0 0) (MoreExprs (Column 0 1) NoExpr))
+
+-- the grouping column and the arguments, their groups, a test that both aggregates are values, HAVING, and the list
+abbrev pub counted_plan : PlanTree
+counted_plan =
+    keep (0 ∷ 1 ∷ [])
+    (filter (word (strict (Comparing GreaterThan))
+    (more (word (strict (Arithmetic Divide)) (more (constant (Int (pos 10))) (more (column 0 2) none))) (more (constant (Int (pos 0))) none)))
+    (filter (word and_word (more (value_check 1) (more (value_check 2) none)))
+    (group (0 ∷ []) ((Count, 1) ∷ (Sum, 2) ∷ [])
+    (keep (3 ∷ 4 ∷ 5 ∷ []) (extend (more (column 0 1) (more (constant (Truth true)) (more (column 0 2) none))) (scan (codes "D") 3))))))
+
+pub record GroupsPlanned : Type 0 where
+  pub whole : plan counted three_columns (top 0) ≡ counted_plan
+  -- SELECT SUM(V) FROM D WHERE G IS NULL: one group, and a part that is a column needs no cell of its own
+  pub one_group : plan (Grouped (table (codes "D")) (MoreExprs (Operate NullTest (MoreExprs (Column 0 1) NoExpr)) NoExpr) 0 (MoreExprs (Column 0 2) NoExpr) (Sum ∷ []) NoExpr
+      (MoreExprs (Column 0 0) NoExpr)) three_columns (top 0)
+      ≡ keep (0 ∷ []) (filter (word and_word (more (value_check 0) none)) (group [] ((Sum, 0) ∷ [])
+      (keep (2 ∷ []) (filter (word (strict NullTest) (more (column 0 1) none)) (scan (codes "D") 3)))))
+  -- SELECT G FROM D GROUP BY G: no aggregate is tested
+  pub no_aggregate : plan (Grouped (table (codes "D")) NoExpr 1 (MoreExprs (Column 0 1) NoExpr) [] NoExpr (MoreExprs (Column 0 0) NoExpr)) three_columns (top 0)
+      ≡ keep (0 ∷ []) (filter (word and_word none) (group (0 ∷ []) [] (keep (1 ∷ []) (scan (codes "D") 3))))

@@ -3,4 +3,5 @@ pub mod Joining
 pub mod Listing
 pub mod Choosing
 pub mod Plainness
+pub mod Grouping
 pub mod Examples

@@ -1,4 +1,4 @@
-//! The conjuncts of WHERE: a Filter each.
+//! The conjuncts of WHERE, ON and HAVING: a Filter each.
 
 ghost use Rattle.std.specs.Prelude.{◌≡◌, ℕ, map, IfOk, OnOk};
 ghost use Rattle.rel_algebra.specs.Tree.{Column};
@@ -17,8 +17,8 @@ use expr_plan::{Draft, Scope, compare, emit_expr, is_inner};
 use rel_algebra::Scalar;
 use sql_values::{Comparison, NoMemory, Value};
 
-/// Puts a Filter over a plan for each conjunct (ISO/IEC 9075-2, 7.12), after the nodes that it
-/// needs. The rows of FROM have so many columns.
+/// Puts a Filter over a plan for each conjunct (ISO/IEC 9075-2, 7.12 and 7.14), after the nodes
+/// that it needs. The rows on which it is read, those of FROM or of groups, have so many columns.
 pub fn filter_by(
     conjuncts: &[BoundExpr],
     columns: usize,

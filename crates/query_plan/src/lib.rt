@@ -1,15 +1,17 @@
 //! The plans of queries and of functions.
 #![tactic(auto)]
 
-ghost use Rattle.query_plan.specs.Examples.{JoinsPlanned};
+ghost use Rattle.query_plan.specs.Examples.{JoinsPlanned, GroupsPlanned};
 
 mod chosen;
 mod conjuncts;
 mod from;
 mod functions;
+mod groups;
 mod joins;
 mod listing;
 mod plans;
+mod selects;
 mod tables;
 mod values;
 
@@ -20,4 +22,9 @@ pub use plans::plan_query;
 /// and 7.10), and in an order.
 pub fn joins_planned()
     ensures { JoinsPlanned }
+{}
+
+/// The plans of worked queries over groups (7.13), with HAVING (7.14) and of aggregates alone.
+pub fn groups_planned()
+    ensures { GroupsPlanned }
 {}

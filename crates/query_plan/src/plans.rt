@@ -5,19 +5,16 @@ ghost use Rattle.row_types.specs.declared.sort_key.SortKey.{SortKey as KeyOf};
 ghost use Rattle.rel_algebra.specs.Emit.{top, plan};
 ghost use Rattle.rel_algebra.specs.Plan.{sort};
 ghost use Rattle.rel_algebra.specs.PlanView.{tree_of};
-ghost use Rattle.rel_algebra.specs.Tree.{From, Select as PlainSelect};
-ghost use Rattle.catalog_store.specs.View.{exprs_of, query_of, select_of};
+ghost use Rattle.catalog_store.specs.View.{query_of, select_of};
 ghost use Rattle.catalog_store.specs.Widths.{width_in};
-ghost use Rattle.query_plan.specs.Joining.{IsFrom};
 
-use crate::conjuncts::filter_by;
 use crate::from::draft_from;
-use crate::listing::list;
+use crate::selects::plan_over;
 use crate::tables::columns_of;
 use crate::values::plan_values;
-use bound_trees::{BoundExpr, BoundQuery, BoundSelect};
+use bound_trees::{BoundQuery, BoundSelect};
 use catalog_store::Catalog;
-use expr_plan::{Draft, Scope, emit_list};
+use expr_plan::Draft;
 use rel_algebra::Plan;
 use row_types::SortKey;
 use sql_values::NoMemory;
@@ -46,26 +43,10 @@ pub fn plan_query(alloc: Global, query: &BoundQuery, catalog: &Catalog) -> Resul
 fn plan_select(alloc: Global, select: &BoundSelect, catalog: &Catalog) -> Result<Plan, NoMemory>
     ensures { IfOk result (λ p. tree_of p ≡ plan (select_of catalog.now select.now) (width_in catalog.now) (top 0)) }
 {
-    let draft = draft_from(alloc, select.from.as_slice(), catalog)?;
+    let rows = draft_from(alloc, select.from.as_slice(), catalog)?;
     let items = select.items.as_slice();
-    Ok(selected(items, select.conjuncts.as_slice(), draft, catalog)?)
-}
-
-// The plan of a SELECT over the rows of FROM: a Filter for each conjunct, and the list.
-fn selected(
-    items: &[BoundExpr],
-    conjuncts: &[BoundExpr],
-    rows: Draft,
-    catalog: &Catalog,
-) -> Result<Plan, NoMemory>
-    ensures { IfOk result (λ p. (f : From) → IsFrom catalog.now rows f → tree_of p ≡ plan (PlainSelect (exprs_of catalog.now items.now) f (exprs_of catalog.now conjuncts.now)) (width_in catalog.now) (top 0)) }
-{
-    let mut draft = rows;
-    let columns = draft.columns();
-    filter_by(conjuncts, columns, &mut draft, catalog)?;
-    let scalars = emit_list(items, Scope::Row(columns), &mut draft, catalog)?;
-    list(scalars, &mut draft)?;
-    Ok(draft.into_plan())
+    let conjuncts = select.conjuncts.as_slice();
+    Ok(plan_over(rows, items, conjuncts, &select.grouping, catalog)?)
 }
 
 // The rows of a plan, which have so many columns, in the order of these columns (14.3).

@@ -50,6 +50,7 @@ at_layer (Node-F.Keep places) = record { over = λ input. refl; below = λ rest.
 at_layer (Node-F.Cross right) = record { over = λ input. omega (arith, right.1); below = λ rest. refl }
 at_layer (Node-F.LeftOuter nodes s n right) = record { over = λ input. omega (arith, run_quiet nodes, right.1); below = λ rest. refl }
 at_layer Node-F.Settle = record { over = λ input. refl; below = λ rest. refl }
+at_layer (Node-F.Group places aggregates) = record { over = λ input. refl; below = λ rest. refl }
 at_layer (Node-F.Sort keys) = record { over = λ input. refl; below = λ rest. refl }
 
 of_layer : (y : Node-F Shown ShownPlan) → IsQuiet (roll-Node (layer y))

@@ -13,7 +13,7 @@ use Rattle.sql_values.specs.declared.operators.Operator.{Operator}
 use Rattle.sql_values.specs.declared.operators.Operator.TheVariants.{Add, Subtract, Multiply, Divide, Concatenate}
 use Rattle.sql_values.specs.declared.operators.Comparison.{Comparison}
 use Rattle.sql_values.specs.declared.operators.Comparison.TheVariants.{Equals, NotEquals, LessThan, LessThanOrEquals, GreaterThan, GreaterThanOrEquals}
-use Rattle.rel_algebra.specs.Tree.{Operation, Negation, Arithmetic, Comparing, Modulo, CharLength, Substring, Cast, Assign, Opposite, NullTest, TrueTest, FalseTest, AnyOf, Aggregate, Count, Sum, Average, Min, Max, Expr, Literal, Column, Variable, Chain, Operate, And, Or, Case, CaseOf, Coalesce, In, Exists, Single, Call, CallSelf, Links, NoLink, MoreLinks, Exprs, NoExpr, MoreExprs, Routine, Function, Rows, NoRow, MoreRows, From, Table, Derived, Cross, Inner, LeftOuter, Query, Select, Grouped, Values, Ordered}
+use Rattle.rel_algebra.specs.Tree.{Operation, Negation, Arithmetic, Comparing, Modulo, CharLength, Substring, Cast, Assign, Opposite, NullTest, TrueTest, FalseTest, AnyOf, Aggregate, Count, Sum, Avg, Min, Max, Expr, Literal, Column, Variable, Chain, Operate, And, Or, Case, CaseOf, Coalesce, In, Exists, Single, Call, CallSelf, Links, NoLink, MoreLinks, Exprs, NoExpr, MoreExprs, Routine, Function, Rows, NoRow, MoreRows, From, Table, Derived, Cross, Inner, LeftOuter, Query, Select, Grouped, Values, Ordered}
 use Rattle.row_types.specs.declared.sort_key.SortKey.{SortKey}
 
 -- a code that is read back
@@ -204,18 +204,18 @@ operation_back (Assign t) = ap Assign (type_back t)
 abbrev pub aggregate_code : Aggregate → Gv
 aggregate_code Count = gnum 0
 aggregate_code Sum = gnum 1
-aggregate_code Average = gnum 2
+aggregate_code Avg = gnum 2
 aggregate_code Min = gnum 3
 aggregate_code Max = gnum 4
 
 abbrev pub aggregate_by : ℕ → Aggregate
 aggregate_by n =
-    if nat_eq n 0 then Count else if nat_eq n 1 then Sum else if nat_eq n 2 then Average else if nat_eq n 3 then Min else Max
+    if nat_eq n 0 then Count else if nat_eq n 1 then Sum else if nat_eq n 2 then Avg else if nat_eq n 3 then Min else Max
 
 pub aggregate_back : (a : Aggregate) → aggregate_by (num (aggregate_code a)) ≡ a
 aggregate_back Count = refl
 aggregate_back Sum = refl
-aggregate_back Average = refl
+aggregate_back Avg = refl
 aggregate_back Min = refl
 aggregate_back Max = refl
 

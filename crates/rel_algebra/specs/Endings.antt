@@ -11,6 +11,7 @@ use Rattle.sql_values.specs.Casts.{cast_to, assigned}
 use Rattle.sql_values.specs.Operators.{applied, compared}
 use Rattle.sql_conditions.specs.Conditions.{Area, area_of}
 use Rattle.row_types.specs.Rows.{Row}
+pub use Rattle.row_types.specs.Groups.{value_at}
 use Rattle.row_types.specs.declared.cell.Cell.{Cell}
 use Rattle.row_types.specs.declared.cell.Cell.TheVariants.{Val, Cond}
 use Rattle.rel_algebra.specs.Tree.{Operation, Negation, Arithmetic, Comparing, Modulo, CharLength, Substring, Cast, Assign, Opposite, NullTest, TrueTest, FalseTest, AnyOf}
@@ -70,12 +71,7 @@ op_value FalseTest (x ∷ []) = Ok (Truth (is_false x))
 op_value AnyOf (x ∷ vs) = Ok (among (Truth false) x vs)
 op_value _ _ = Ok Null
 
--- the i-th value of a row, the i-th row of a stack
-abbrev pub value_at : Row → ℕ → Value
-value_at [] i = Null
-value_at (v ∷ vs) zero = v
-value_at (v ∷ vs) (suc i) = value_at vs i
-
+-- the i-th row of a stack
 abbrev pub row_at : List Row → ℕ → Row
 row_at [] i = []
 row_at (r ∷ rs) zero = r

@@ -10,7 +10,7 @@ use Rattle.rel_algebra.specs.Emit.{plan, top}
 use Rattle.rel_algebra.specs.Joins.{numbered, places, rows_width}
 use Rattle.rel_algebra.specs.Plain.{all_even}
 use Rattle.rel_algebra.specs.Plan.{Kind, Nodes, PlanTree, Scalar, Scalars, Word, aggregate, and_word, apply, apply_by, argument, case_word, coalesce_word, column, constant, cross, exists, extend, extend_by, filter, group, keep, left_outer, member, more, no_node, none, or_word, scan, settle, single, sort, strict, unit_row, values, word}
-use Rattle.rel_algebra.specs.Tree.{Aggregate, And, AnyOf, Arithmetic, Assign, Average, Call, CallSelf, Case, CaseOf, Cast, Chain, CharLength, Coalesce, Column, Comparing, Count, Cross, Derived, Exists, Expr, Exprs, FalseTest, From, Function, Grouped, In, Inner, LeftOuter, Links, Literal, Max, Min, Modulo, MoreExprs, MoreLinks, MoreRows, Negation, NoExpr, NoLink, NoRow, NullTest, Operate, Operation, Opposite, Or, Ordered, Query, Routine, Rows, Select, Single, Substring, Sum, Table, TrueTest, Values, Variable, parameters_of}
+use Rattle.rel_algebra.specs.Tree.{Aggregate, And, AnyOf, Arithmetic, Assign, Avg, Call, CallSelf, Case, CaseOf, Cast, Chain, CharLength, Coalesce, Column, Comparing, Count, Cross, Derived, Exists, Expr, Exprs, FalseTest, From, Function, Grouped, In, Inner, LeftOuter, Links, Literal, Max, Min, Modulo, MoreExprs, MoreLinks, MoreRows, Negation, NoExpr, NoLink, NoRow, NullTest, Operate, Operation, Opposite, Or, Ordered, Query, Routine, Rows, Select, Single, Substring, Sum, Table, TrueTest, Values, Variable, parameters_of}
 use Rattle.rel_algebra.specs.WellFormed.{HasRow}
 
 pub data DataKind : Type 0 where
@@ -161,14 +161,14 @@ word_good coalesce_word ks = all_good ks
 abbrev pub aggregate_kind : Aggregate → DataKind → DataKind
 aggregate_kind Count k = IntegerKind
 aggregate_kind Sum k = IntegerKind
-aggregate_kind Average k = IntegerKind
+aggregate_kind Avg k = IntegerKind
 aggregate_kind Min k = k
 aggregate_kind Max k = k
 
 abbrev pub aggregate_good : Aggregate → DataKind → Bool
 aggregate_good Count k = true
 aggregate_good Sum k = agree k IntegerKind
-aggregate_good Average k = agree k IntegerKind
+aggregate_good Avg k = agree k IntegerKind
 aggregate_good Min k = true
 aggregate_good Max k = true
 

@@ -1,5 +1,5 @@
 -- Which plain trees the scalars and plans of the code stand for: a chain of operators stands for nested words.
-use Rattle.std.specs.Prelude.{List, [], ◌∷◌, map}
+use Rattle.std.specs.Prelude.{ℕ, List, [], ◌∷◌, map}
 use Rattle.sql_values.specs.declared.operators.Operator.{Operator}
 use Rattle.rel_algebra.specs.declared.scalar.Scalar.{Scalar as ScalarCode, fold-Scalar}
 use Rattle.rel_algebra.specs.declared.scalar.Scalar.TheOpen.{Scalar-F, ScalarLink-F}
@@ -14,8 +14,9 @@ use Rattle.rel_algebra.specs.declared.plan.Leaf.TheVariants as leaf
 use Rattle.rel_algebra.specs.declared.plan.Node.{Node, fold-Node}
 use Rattle.rel_algebra.specs.declared.plan.Node.TheOpen.{Node-F, Plan-F}
 use Rattle.rel_algebra.specs.declared.plan.Plan.{Plan, fold-Plan}
-use Rattle.rel_algebra.specs.Tree.{Operation, Negation, Arithmetic, Comparing, Modulo, CharLength, Substring, Cast, Assign, Opposite, NullTest, TrueTest, FalseTest, AnyOf}
-use Rattle.rel_algebra.specs.Plan.{Word, strict, and_word, or_word, case_word, coalesce_word, Scalar, constant, column, argument, word, Scalars, none, more, PlanTree, unit_row, scan, values, extend, filter, keep, cross, left_outer, settle, sort, Nodes, no_node, extend_by}
+use Rattle.row_types.specs.declared.aggregate_column.AggregateColumn.{AggregateColumn}
+use Rattle.rel_algebra.specs.Tree.{Aggregate, Operation, Negation, Arithmetic, Comparing, Modulo, CharLength, Substring, Cast, Assign, Opposite, NullTest, TrueTest, FalseTest, AnyOf}
+use Rattle.rel_algebra.specs.Plan.{Word, strict, and_word, or_word, case_word, coalesce_word, Scalar, constant, column, argument, word, Scalars, none, more, PlanTree, unit_row, scan, values, extend, filter, keep, cross, left_outer, settle, group, sort, Nodes, no_node, extend_by}
 
 -- an operator with the plain scalar right of it
 pub record Link : Type 0 where
@@ -81,6 +82,10 @@ leaf_of leaf.Unit = unit_row
 leaf_of (leaf.Scan name columns) = scan name columns
 leaf_of (leaf.Values rows) = values (lists_of rows)
 
+-- aggregates of columns
+abbrev pub aggregates_of : List AggregateColumn → List (Aggregate × ℕ)
+aggregates_of columns = map (λ a. (a.kind, a.place)) columns
+
 -- what a node makes of the plan below it, and of a run of nodes one that has an Extend more at its lower end
 pub record NodeTree : Type 0 where
   pub over : PlanTree → PlanTree
@@ -103,6 +108,7 @@ node_step (Node-F.Keep places) = acting (λ input. keep places input)
 node_step (Node-F.Cross right) = acting (λ input. cross input right)
 node_step (Node-F.LeftOuter nodes s n right) = acting (λ input. left_outer (run nodes) (scalar_of s) n input right)
 node_step Node-F.Settle = acting (λ input. settle input)
+node_step (Node-F.Group places aggregates) = acting (λ input. group places (aggregates_of aggregates) input)
 node_step (Node-F.Sort keys) = acting (λ input. sort keys input)
 
 -- nodes over an input, the first of them lowest

@@ -4,6 +4,8 @@ use Rattle.sql_values.specs.declared.value.Value.{Value}
 use Rattle.sql_values.specs.declared.value.SqlType.{SqlType}
 use Rattle.sql_values.specs.declared.operators.Operator.{Operator}
 use Rattle.sql_values.specs.declared.operators.Comparison.{Comparison}
+use Rattle.sql_values.specs.declared.fold.FoldKind.{FoldKind}
+pub use Rattle.sql_values.specs.declared.fold.FoldKind.TheVariants.{Count, Sum, Avg, Min, Max}
 use Rattle.row_types.specs.declared.sort_key.SortKey.{SortKey}
 
 -- The operations that take all their operands, from left to right. ISO/IEC 9075-2, 6.13, 6.27, 6.28, 6.32, 8.2, 8.4, 8.8, 6.39 and 9.2.
@@ -32,12 +34,8 @@ pub data Operation : Type 0 where
   AnyOf : Operation
 
 -- ISO/IEC 9075-2, 10.9 (aggregate function). COUNT of all rows is that of a column of TRUE.
-pub data Aggregate : Type 0 where
-  Count : Aggregate
-  Sum : Aggregate
-  Average : Aggregate
-  Min : Aggregate
-  Max : Aggregate
+abbrev pub Aggregate : Type 0
+Aggregate = FoldKind
 
 mutual
   pub data Expr : Type 0 where

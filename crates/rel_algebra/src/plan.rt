@@ -5,7 +5,7 @@ ghost use Rattle.rel_algebra.specs.Applies.{applies};
 ghost use Rattle.rel_algebra.specs.PlanView.{tree_of};
 
 use crate::scalar::Scalar;
-use row_types::SortKey;
+use row_types::{AggregateColumn, SortKey};
 use sql_values::Name;
 use sqlite_items::{Boxed, Items};
 
@@ -47,6 +47,11 @@ pub enum Node {
     LeftOuter(Items<Node>, Scalar, usize, Boxed<Plan>),
     /// The rows, settled.
     Settle,
+    /// The groups of the rows, settled, by the columns at these places, in which NULL equals NULL: a
+    /// row for each group, in the order of their first rows, of these columns and then of its
+    /// aggregates. One that raises is a condition cell. Without a column there is one group, even of
+    /// no rows.
+    Group(Items<usize>, Items<AggregateColumn>),
     /// The rows, settled, in the order of these columns; rows that tie keep their order.
     Sort(Items<SortKey>),
 }

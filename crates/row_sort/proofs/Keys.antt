@@ -12,7 +12,7 @@ by_place : (place : ℕ) (descending : Bool) → IsTotalOrder (λ (a b : Row). c
 by_place place true = on_total (λ (row : Row). get_or row place Null) (back_total value_cmp_total)
 by_place place false = on_total (λ (row : Row). get_or row place Null) value_cmp_total
 
-key_cmp_total : (key : SortKey) → IsTotalOrder (key_cmp key)
+pub key_cmp_total : (key : SortKey) → IsTotalOrder (key_cmp key)
 key_cmp_total key = by_place key.place key.descending
 
 pub keys_cmp_total : (keys : List SortKey) → IsTotalOrder (keys_cmp keys)

@@ -1,4 +1,7 @@
 pub mod Stable
 pub mod Keys
 pub mod Mapped
-pub mod Numbers
+pub mod Passes
+pub mod Places
+pub mod Values
+pub mod ByNumbers

@@ -1,5 +1,5 @@
 -- A stable sort gives the list that insertion gives. Nothing here knows of rows.
-use Rattle.std.proofs.Common.{ℕ, suc, ◌≡◌, ◌<◌, ◌≤◌, Bool, true, false, List, [], ◌∷◌, ◌++◌, refl, sym, ap, ◌∙◌, arith, cond, not, ◌&&◌, length, get_or, drop, filter, Ordering, is_lt, append_assoc}
+use Rattle.std.proofs.Common.{ℕ, zero, suc, ◌+◌, ◌≡◌, ◌<◌, ◌≤◌, Bool, true, false, List, [], ◌∷◌, ◌++◌, refl, sym, ap, ◌∙◌, arith, cond, not, ◌&&◌, length, get_or, drop, filter, Ordering, is_lt, append_assoc}
 use Rattle.std.proofs.lemmas.Bool.{and_parts, and_from}
 use Rattle.std.proofs.lemmas.List.{append-nil}
 use Rattle.std.proofs.lemmas.List.Elements.{filter-append}
@@ -10,21 +10,21 @@ use Rattle.std.specs.List.Sorted.{IsSortedBy, IsStableBy, ties}
 use Rattle.row_types.specs.Ordered.{put, put_all, in_order}
 use Rattle.row_types.proofs.Laws.{all-put}
 
-cases : {P : Type 0} (b : Bool) → (b ≡ true → P) → (b ≡ false → P) → P
+pub cases : {P : Type 0} (b : Bool) → (b ≡ true → P) → (b ≡ false → P) → P
 cases true t f = t refl
 cases false t f = f refl
 
-not_true : (b : Bool) → not b ≡ true → b ≡ false
+pub not_true : (b : Bool) → not b ≡ true → b ≡ false
 not_true true h = cc
 not_true false h = refl
 
 -- ---- what a test keeps
 
 module _ {X : Type 0} where
-  kept : (p : X → Bool) (x : X) (xs : List X) → p x ≡ true → filter p (x ∷ xs) ≡ x ∷ filter p xs
+  pub kept : (p : X → Bool) (x : X) (xs : List X) → p x ≡ true → filter p (x ∷ xs) ≡ x ∷ filter p xs
   kept p x xs h = ap (λ b. cond b (x ∷ filter p xs) (filter p xs)) h
 
-  left_out : (p : X → Bool) (x : X) (xs : List X) → p x ≡ false → filter p (x ∷ xs) ≡ filter p xs
+  pub left_out : (p : X → Bool) (x : X) (xs : List X) → p x ≡ false → filter p (x ∷ xs) ≡ filter p xs
   left_out p x xs h = ap (λ b. cond b (x ∷ filter p xs) (filter p xs)) h
 
   -- what all pass, the first that is kept passes
@@ -177,3 +177,19 @@ module _ {X : Type 0} (R : X → X → Ordering) (o : IsTotalOrder R) where
   pub stable_is_in_order : (xs ys : List X) → IsSortedBy below ys → IsStableBy below xs ys → ys ≡ in_order R xs
   stable_is_in_order xs ys up stable =
       same_ties ys (in_order R xs) (climbs_from ys (sorted_far below weak ys up)) (climbs-put_all [] xs refl) (λ x. stable x ∙ sym (filter-put_all x [] xs refl))
+
+  -- what insertion gives is sorted, and ties keep their order
+  climbs_at : (xs : List X) → climbs xs ≡ true → (k : ℕ) (d : X) → suc k < length xs → below (get_or xs (suc k) d) (get_or xs k d) ≡ false
+  climbs_at [] h k d l = absurd (omega arith)
+  climbs_at (x ∷ []) h k d l = absurd (omega arith)
+  climbs_at (x ∷ y ∷ ys) h zero d l = not_true (below y x) ((and_parts (not (below y x)) (none_below x ys) ((and_parts (none_below x (y ∷ ys)) (climbs (y ∷ ys)) h).0)).0)
+  climbs_at (x ∷ y ∷ ys) h (suc k) d l = climbs_at (y ∷ ys) ((and_parts (none_below x (y ∷ ys)) (climbs (y ∷ ys)) h).1) k d (omega arith)
+
+  pub in_order_sorted : (xs : List X) → IsSortedBy below (in_order R xs)
+  in_order_sorted xs k d l m =
+      let next : suc k ≡ k + 1 = omega arith in
+      ap (λ (n : ℕ). below (get_or (in_order R xs) n d) (get_or (in_order R xs) k d)) (sym next)
+      ∙ climbs_at (in_order R xs) (climbs-put_all [] xs refl) k d (omega arith)
+
+  pub in_order_stable : (xs : List X) → IsStableBy below xs (in_order R xs)
+  in_order_stable xs x = filter-put_all x [] xs refl

@@ -7,3 +7,6 @@ pub mod Tables
 pub mod Writing
 pub mod Examples
 pub mod Sorting
+pub mod Groups
+pub mod Keys
+pub mod SameKeys

@@ -4,6 +4,7 @@
 ghost use Rattle.std.specs.Prelude.{◌≡◌, IfOk};
 ghost use Rattle.row_types.specs.Rows.{fits as fits_by};
 
+mod aggregate_column;
 mod cell;
 mod gather;
 mod key;
@@ -17,6 +18,7 @@ mod row_list;
 mod sort_key;
 mod steps;
 
+pub use aggregate_column::AggregateColumn;
 pub use cell::{Cell, copied_area, copied_cell};
 pub use gather::gathered;
 pub use key::Key;

@@ -5,6 +5,6 @@ mod cells;
 mod places;
 mod scalars;
 
-pub use cells::is_true;
+pub use cells::{is_true, outcome_cell};
 pub use places::{own_cell, value_in_place};
 pub use scalars::{eval, eval_on};

@@ -4,10 +4,11 @@ use Rattle.std.specs.Prelude.{◌≡◌, true, false, refl, []}
 use Rattle.std.proofs.Common.{sym, ◌∙◌}
 use Rattle.token_grammar.specs.Grammar.{Grammar}
 use Rattle.token_grammar.specs.Reading.{decides, goes_on, nullable, same_kind}
-use Rattle.sql_grammar.specs.declared.function_word.FunctionWord.TheVariants.{Coalesce, Modulo, CharLength, Substring, Cast}
+use Rattle.sql_grammar.specs.declared.function_word.FunctionWord.TheVariants.{Coalesce, Modulo, CharLength, Substring, Cast, Aggregate}
+use Rattle.sql_values.specs.declared.fold.FoldKind.TheVariants.{Count, Sum, Avg, Min, Max}
 use Rattle.sql_grammar.specs.Trees.{Rule, Tree, Columns, Parameters, Length, Arguments, Exprs, Bracketed, Operands, Subquery, Names, Cases, bracketed, ident, varchar_length, plain_type, varchar, data_type}
-use Rattle.sql_grammar.specs.Expressions.{constant, literal, dotted, named, function_call, function, case_expression, primary, unary_sign, factor, operator, term, sum, comparison_sign, comparison, compared, truth_test, asked, tested, in_word, among, predicate_part, predicate, not_word, negation, conjunction, expr, after, more_exprs, exprs, for_length, as_type, operands, when_clause, more_when_clauses, when_clauses, else_clause, arms, cases}
-use Rattle.sql_grammar.specs.Queries.{more_idents, idents, column_list, alias, select_value, more_select_values, select_values, all_columns, select_list, named_table, derived_table, table_ref, on_condition, joined_on, comma_item, cross_join, left_join, inner_join, from_item, more_from_items, first_item, from_items, from_clause, filter, select_word, select, row, more_rows, rows, values_word, values, query, direction, sort_specification, more_sort_specifications, sort_specifications, order_clause, order_by, ordered_query}
+use Rattle.sql_grammar.specs.Expressions.{constant, literal, dotted, column_name, named, function_call, aggregate, function, case_expression, primary, unary_sign, factor, operator, term, sum, comparison_sign, comparison, compared, truth_test, asked, tested, in_word, among, predicate_part, predicate, not_word, negation, conjunction, expr, after, more_exprs, exprs, for_length, as_type, all_rows, argument, operands, when_clause, more_when_clauses, when_clauses, else_clause, arms, cases}
+use Rattle.sql_grammar.specs.Queries.{more_idents, idents, column_list, alias, select_value, more_select_values, select_values, all_columns, select_list, named_table, derived_table, table_ref, on_condition, joined_on, comma_item, cross_join, left_join, inner_join, from_item, more_from_items, first_item, from_items, from_clause, filter, more_column_names, column_names, group_clause, group_by, having, grouping, select_word, select, row, more_rows, rows, values_word, values, query, direction, sort_specification, more_sort_specifications, sort_specifications, order_clause, order_by, ordered_query}
 use Rattle.sql_grammar.specs.Writing.{insert_source, insertion, into_table, insert_word, insert, dml}
 use Rattle.sql_grammar.specs.Definitions.{not_null, primary_key, column_constraint, constraints, column, more_columns, columns, parameter, more_parameters, parameters, table_definition, create_table, returns_type, return_value, body, function_definition, create_function, create_word, created, ddl}
 use Rattle.sql_grammar.specs.Sql.{unended, statement, rules, shut}
@@ -35,6 +36,11 @@ record AllAreSound : Type 0 where
   char_length_rule : RuleIsSound (Operands CharLength)
   substring_rule : RuleIsSound (Operands Substring)
   cast_rule : RuleIsSound (Operands Cast)
+  count_rule : RuleIsSound (Operands (Aggregate Count))
+  sum_rule : RuleIsSound (Operands (Aggregate Sum))
+  avg_rule : RuleIsSound (Operands (Aggregate Avg))
+  min_rule : RuleIsSound (Operands (Aggregate Min))
+  max_rule : RuleIsSound (Operands (Aggregate Max))
   subquery_rule : RuleIsSound Subquery
   names_rule : RuleIsSound Names
   cases_rule : RuleIsSound Cases
@@ -46,7 +52,7 @@ record AllAreSound : Type 0 where
   statement_end : (summary shut false statement).goes_on ≡ []
 
 all_are_sound : AllAreSound
-unfolding same_kind bracketed ident varchar_length plain_type varchar data_type constant literal dotted named function_call function case_expression primary unary_sign factor operator term sum comparison_sign comparison compared truth_test asked tested in_word among predicate_part predicate not_word negation conjunction expr after more_exprs exprs for_length as_type operands when_clause more_when_clauses when_clauses else_clause arms cases more_idents idents column_list alias select_value more_select_values select_values all_columns select_list named_table derived_table table_ref on_condition joined_on comma_item cross_join left_join inner_join from_item more_from_items first_item from_items from_clause filter select_word select row more_rows rows values_word values query direction sort_specification more_sort_specifications sort_specifications order_clause order_by ordered_query insert_source insertion into_table insert_word insert dml not_null primary_key column_constraint constraints column more_columns columns parameter more_parameters parameters table_definition create_table returns_type return_value body function_definition create_function create_word created ddl unended statement
+unfolding same_kind bracketed ident varchar_length plain_type varchar data_type constant literal dotted column_name named function_call aggregate function case_expression primary unary_sign factor operator term sum comparison_sign comparison compared truth_test asked tested in_word among predicate_part predicate not_word negation conjunction expr after more_exprs exprs for_length as_type all_rows argument operands when_clause more_when_clauses when_clauses else_clause arms cases more_idents idents column_list alias select_value more_select_values select_values all_columns select_list named_table derived_table table_ref on_condition joined_on comma_item cross_join left_join inner_join from_item more_from_items first_item from_items from_clause filter more_column_names column_names group_clause group_by having grouping select_word select row more_rows rows values_word values query direction sort_specification more_sort_specifications sort_specifications order_clause order_by ordered_query insert_source insertion into_table insert_word insert dml not_null primary_key column_constraint constraints column more_columns columns parameter more_parameters parameters table_definition create_table returns_type return_value body function_definition create_function create_word created ddl unended statement
 all_are_sound = record {
   columns_rule = refl;
   parameters_rule = refl;
@@ -59,6 +65,11 @@ all_are_sound = record {
   char_length_rule = refl;
   substring_rule = refl;
   cast_rule = refl;
+  count_rule = refl;
+  sum_rule = refl;
+  avg_rule = refl;
+  min_rule = refl;
+  max_rule = refl;
   subquery_rule = refl;
   names_rule = refl;
   cases_rule = refl;
@@ -81,6 +92,11 @@ rules_sound (Operands Modulo) = all_are_sound.modulo_rule
 rules_sound (Operands CharLength) = all_are_sound.char_length_rule
 rules_sound (Operands Substring) = all_are_sound.substring_rule
 rules_sound (Operands Cast) = all_are_sound.cast_rule
+rules_sound (Operands (Aggregate Count)) = all_are_sound.count_rule
+rules_sound (Operands (Aggregate Sum)) = all_are_sound.sum_rule
+rules_sound (Operands (Aggregate Avg)) = all_are_sound.avg_rule
+rules_sound (Operands (Aggregate Min)) = all_are_sound.min_rule
+rules_sound (Operands (Aggregate Max)) = all_are_sound.max_rule
 rules_sound Subquery = all_are_sound.subquery_rule
 rules_sound Names = all_are_sound.names_rule
 rules_sound Cases = all_are_sound.cases_rule

@@ -7,6 +7,7 @@ use Rattle.sql_lex.specs.declared.token.Lexeme.TheVariants as lexeme
 use Rattle.sql_lex.specs.declared.token.Token.{Token}
 use Rattle.sql_lex.specs.declared.word.Word.{Word}
 use Rattle.sql_lex.specs.declared.word.Word.TheVariants as w
+use Rattle.sql_values.specs.declared.fold.FoldKind.TheVariants as fold
 use Rattle.sql_values.specs.declared.operators.Comparison.TheVariants as cmp
 use Rattle.sql_values.specs.declared.operators.Operator.TheVariants as op
 use Rattle.syntax_trees.specs.declared.anchor.Anchor.{Anchor}
@@ -37,8 +38,8 @@ use Rattle.token_grammar.specs.Reading.{same_kind, reading, NoSpelling, TooDeep}
 use Rattle.token_grammar.specs.Statement.{most_open}
 use Rattle.sql_grammar.specs.Constructs.{open_after}
 use Rattle.sql_grammar.specs.Trees.{bracketed, ident, varchar_length, plain_type, varchar, data_type}
-use Rattle.sql_grammar.specs.Expressions.{unqualified, qualified, constant, literal, dotted, named, function_call, function, case_expression, primary, unary_sign, factor, operator, term, sum, comparison_sign, comparison, compared, truth_test, asked, tested, in_word, among, predicate_part, predicate, not_word, negation, conjunction, expr, after, more_exprs, exprs, for_length, as_type, operands, when_clause, more_when_clauses, when_clauses, else_clause, arms, cases}
-use Rattle.sql_grammar.specs.Queries.{more_idents, idents, column_list, alias, select_value, more_select_values, select_values, all_columns, select_list, named_table, derived_table, table_ref, on_condition, joined_on, comma_item, cross_join, left_join, inner_join, from_item, more_from_items, first_item, from_items, from_clause, filter, select_word, select, row, more_rows, rows, values_word, values, query, direction, sort_specification, more_sort_specifications, sort_specifications, order_clause, order_by, ordered_query}
+use Rattle.sql_grammar.specs.Expressions.{unqualified, qualified, constant, literal, dotted, column_name, named, function_call, aggregate, function, case_expression, primary, unary_sign, factor, operator, term, sum, comparison_sign, comparison, compared, truth_test, asked, tested, in_word, among, predicate_part, predicate, not_word, negation, conjunction, expr, after, more_exprs, exprs, for_length, as_type, all_rows, argument, operands, when_clause, more_when_clauses, when_clauses, else_clause, arms, cases}
+use Rattle.sql_grammar.specs.Queries.{more_idents, idents, column_list, alias, select_value, more_select_values, select_values, all_columns, select_list, named_table, derived_table, table_ref, on_condition, joined_on, comma_item, cross_join, left_join, inner_join, from_item, more_from_items, first_item, from_items, from_clause, filter, more_column_names, column_names, group_clause, group_by, having, grouping, select_word, select, row, more_rows, rows, values_word, values, query, direction, sort_specification, more_sort_specifications, sort_specifications, order_clause, order_by, ordered_query}
 use Rattle.sql_grammar.specs.Writing.{insert_source, insertion, into_table, insert_word, insert, dml}
 use Rattle.sql_grammar.specs.Definitions.{not_null, primary_key, column_constraint, constraints, column, more_columns, columns, parameter, more_parameters, parameters, table_definition, create_table, returns_type, return_value, body, function_definition, create_function, create_word, created, ddl}
 use Rattle.sql_grammar.specs.Sql.{unended, statement, rules}
@@ -124,6 +125,8 @@ pub record Rows : Type 0 where
         items = item.Value (e.Chain (name_k 1) (link (chain_operator.Value op.Add) 2 (number_one 3) ∷ [])) None ∷ item.Value (e.Call (id_t 5) []) None ∷ [];
         from = from.Comma (table_t 9) ∷ [];
         filter = Some (e.Operation (at 12) (operation.Compare cmp.NotEquals) (name_k 11 ∷ number_one 13 ∷ []));
+        group_by = [];
+        having = None;
       }));
       order = [];
     }),
@@ -166,7 +169,7 @@ pub record Rows : Type 0 where
   pub is_too_deep : reading rules 1 statement an_insert ≡ Err (TooDeep (drop 12 an_insert))
 
 pub rows_hold : Rows
-unfolding same_kind bracketed ident varchar_length plain_type varchar data_type constant literal dotted named function_call function case_expression primary unary_sign factor operator term sum comparison_sign comparison compared truth_test asked tested in_word among predicate_part predicate not_word negation conjunction expr after more_exprs exprs for_length as_type operands when_clause more_when_clauses when_clauses else_clause arms cases more_idents idents column_list alias select_value more_select_values select_values all_columns select_list named_table derived_table table_ref on_condition joined_on comma_item cross_join left_join inner_join from_item more_from_items first_item from_items from_clause filter select_word select row more_rows rows values_word values query direction sort_specification more_sort_specifications sort_specifications order_clause order_by ordered_query insert_source insertion into_table insert_word insert dml not_null primary_key column_constraint constraints column more_columns columns parameter more_parameters parameters table_definition create_table returns_type return_value body function_definition create_function create_word created ddl unended statement
+unfolding same_kind bracketed ident varchar_length plain_type varchar data_type constant literal dotted column_name named function_call aggregate function case_expression primary unary_sign factor operator term sum comparison_sign comparison compared truth_test asked tested in_word among predicate_part predicate not_word negation conjunction expr after more_exprs exprs for_length as_type all_rows argument operands when_clause more_when_clauses when_clauses else_clause arms cases more_idents idents column_list alias select_value more_select_values select_values all_columns select_list named_table derived_table table_ref on_condition joined_on comma_item cross_join left_join inner_join from_item more_from_items first_item from_items from_clause filter more_column_names column_names group_clause group_by having grouping select_word select row more_rows rows values_word values query direction sort_specification more_sort_specifications sort_specifications order_clause order_by ordered_query insert_source insertion into_table insert_word insert dml not_null primary_key column_constraint constraints column more_columns columns parameter more_parameters parameters table_definition create_table returns_type return_value body function_definition create_function create_word created ddl unended statement
 rows_hold = record {
   select_is_read = refl;
   insert_is_read = refl;
@@ -221,6 +224,23 @@ derived_without_name = tokens_of (wd w.Select ∷ k ∷ wd w.From ∷ sg s.LeftP
 abbrev all_and_more : List Token
 all_and_more = tokens_of (wd w.Select ∷ sg s.Asterisk ∷ sg s.Comma ∷ k ∷ wd w.From ∷ t ∷ sg s.Semicolon ∷ [])
 
+-- SELECT COUNT (*) FROM t WHERE k GROUP BY t.k, k HAVING k
+abbrev grouped : List Token
+grouped = tokens_of (wd w.Select ∷ wd w.Count ∷ sg s.LeftParen ∷ sg s.Asterisk ∷ sg s.RightParen ∷ wd w.From ∷ t ∷ wd w.Where ∷ k
+    ∷ wd w.Group ∷ wd w.By ∷ t ∷ sg s.Period ∷ k ∷ sg s.Comma ∷ k ∷ wd w.Having ∷ k ∷ [])
+
+-- SELECT 1 FROM t HAVING MAX (k)
+abbrev having_alone : List Token
+having_alone = tokens_of (wd w.Select ∷ one ∷ wd w.From ∷ t ∷ wd w.Having ∷ wd w.Max ∷ sg s.LeftParen ∷ k ∷ sg s.RightParen ∷ [])
+
+-- SELECT k FROM t HAVING k GROUP BY k;
+abbrev having_first : List Token
+having_first = tokens_of (wd w.Select ∷ k ∷ wd w.From ∷ t ∷ wd w.Having ∷ k ∷ wd w.Group ∷ wd w.By ∷ k ∷ sg s.Semicolon ∷ [])
+
+-- SELECT k FROM t GROUP BY 1;
+abbrev by_a_number : List Token
+by_a_number = tokens_of (wd w.Select ∷ k ∷ wd w.From ∷ t ∷ wd w.Group ∷ wd w.By ∷ one ∷ sg s.Semicolon ∷ [])
+
 pub record QueryRows : Type 0 where
   pub joins_are_read : reading rules most_open statement joins ≡ Ok (
     stmt.Query (record {
@@ -235,6 +255,8 @@ pub record QueryRows : Type 0 where
             ∷ from.Cross (table_k 33)
             ∷ from.Inner (table_t 36) (e.Literal (at 38) literal_of.True) ∷ [];
         filter = None;
+        group_by = [];
+        having = None;
       }));
       order = [];
     }),
@@ -247,6 +269,8 @@ pub record QueryRows : Type 0 where
         items = item.Value (e.Name (qualified (id_k 1) (id_t 3))) (Some (id_k 5)) ∷ item.Value (number_one 7) (Some (id_t 8)) ∷ item.Value (name_k 10) None ∷ [];
         from = from.Comma (ref.Table (id_t 12) (Some (id_k 13))) ∷ from.Inner (table_t 15) (name_k 17) ∷ from.Left (table_k 21) (name_t 23) ∷ [];
         filter = Some (name_k 25);
+        group_by = [];
+        having = None;
       }));
       order = record { name = id_k 28; descending = true } ∷ record { name = id_t 31; descending = false } ∷ record { name = id_k 33; descending = false } ∷ [];
     }),
@@ -264,8 +288,12 @@ pub record QueryRows : Type 0 where
             items = item.All (at 5) ∷ [];
             from = from.Comma (ref.Derived (q.Values (record { anchor = at 8; rows = value_row.Row (number_one 10 ∷ []) ∷ [] })) (id_t 13) []) ∷ [];
             filter = None;
+            group_by = [];
+            having = None;
           }))) (id_k 15) []) ∷ [];
       filter = None;
+      group_by = [];
+      having = None;
     })),
     [],
   )
@@ -275,9 +303,33 @@ pub record QueryRows : Type 0 where
   pub cross_join_has_none : reading rules most_open statement a_condition_too_many ≡ Err (NoSpelling (drop 7 a_condition_too_many))
   pub name_is_wanted : reading rules most_open statement derived_without_name ≡ Err (NoSpelling (drop 9 derived_without_name))
   pub all_stands_alone : reading rules most_open statement all_and_more ≡ Err (NoSpelling (drop 2 all_and_more))
+  pub groups_are_read : reading rules most_open query grouped ≡ Ok (
+    q.Select (roll-Select (record {
+      anchor = at 0;
+      items = item.Value (e.Aggregate (at 1) fold.Count []) None ∷ [];
+      from = from.Comma (table_t 6) ∷ [];
+      filter = Some (name_k 8);
+      group_by = record { qualifier = Some (id_t 11); name = id_k 13 } ∷ record { qualifier = None; name = id_k 15 } ∷ [];
+      having = Some (name_k 17);
+    })),
+    [],
+  )
+  pub having_stands_alone : reading rules most_open query having_alone ≡ Ok (
+    q.Select (roll-Select (record {
+      anchor = at 0;
+      items = item.Value (number_one 1) None ∷ [];
+      from = from.Comma (table_t 3) ∷ [];
+      filter = None;
+      group_by = [];
+      having = Some (e.Aggregate (at 5) fold.Max (name_k 7 ∷ []));
+    })),
+    [],
+  )
+  pub having_comes_last : reading rules most_open statement having_first ≡ Err (NoSpelling (drop 6 having_first))
+  pub groups_are_by_columns : reading rules most_open statement by_a_number ≡ Err (NoSpelling (drop 6 by_a_number))
 
 pub query_rows_hold : QueryRows
-unfolding same_kind bracketed ident varchar_length plain_type varchar data_type constant literal dotted named function_call function case_expression primary unary_sign factor operator term sum comparison_sign comparison compared truth_test asked tested in_word among predicate_part predicate not_word negation conjunction expr after more_exprs exprs for_length as_type operands when_clause more_when_clauses when_clauses else_clause arms cases more_idents idents column_list alias select_value more_select_values select_values all_columns select_list named_table derived_table table_ref on_condition joined_on comma_item cross_join left_join inner_join from_item more_from_items first_item from_items from_clause filter select_word select row more_rows rows values_word values query direction sort_specification more_sort_specifications sort_specifications order_clause order_by ordered_query insert_source insertion into_table insert_word insert dml not_null primary_key column_constraint constraints column more_columns columns parameter more_parameters parameters table_definition create_table returns_type return_value body function_definition create_function create_word created ddl unended statement
+unfolding same_kind bracketed ident varchar_length plain_type varchar data_type constant literal dotted column_name named function_call aggregate function case_expression primary unary_sign factor operator term sum comparison_sign comparison compared truth_test asked tested in_word among predicate_part predicate not_word negation conjunction expr after more_exprs exprs for_length as_type all_rows argument operands when_clause more_when_clauses when_clauses else_clause arms cases more_idents idents column_list alias select_value more_select_values select_values all_columns select_list named_table derived_table table_ref on_condition joined_on comma_item cross_join left_join inner_join from_item more_from_items first_item from_items from_clause filter more_column_names column_names group_clause group_by having grouping select_word select row more_rows rows values_word values query direction sort_specification more_sort_specifications sort_specifications order_clause order_by ordered_query insert_source insertion into_table insert_word insert dml not_null primary_key column_constraint constraints column more_columns columns parameter more_parameters parameters table_definition create_table returns_type return_value body function_definition create_function create_word created ddl unended statement
 query_rows_hold = record {
   joins_are_read = refl;
   names_are_read = refl;
@@ -288,6 +340,10 @@ query_rows_hold = record {
   cross_join_has_none = refl;
   name_is_wanted = refl;
   all_stands_alone = refl;
+  groups_are_read = refl;
+  having_stands_alone = refl;
+  having_comes_last = refl;
+  groups_are_by_columns = refl;
 }
 
 -- ---- reading of expressions
@@ -350,6 +406,23 @@ a_cast = tokens_of (wd w.Cast ∷ sg s.LeftParen ∷ k ∷ wd w.As ∷ wd w.Varc
 abbrev words_in_words : List Token
 words_in_words = tokens_of (wd w.Coalesce ∷ sg s.LeftParen ∷ wd w.Null ∷ sg s.Comma ∷ wd w.Mod ∷ sg s.LeftParen ∷ k ∷ sg s.Comma ∷ one ∷ sg s.RightParen ∷ sg s.Comma
     ∷ wd w.CharLength ∷ sg s.LeftParen ∷ lexeme.Text (codes "K") ∷ sg s.RightParen ∷ sg s.RightParen ∷ [])
+
+-- t.k
+abbrev a_qualified_name : List Token
+a_qualified_name = tokens_of (t ∷ sg s.Period ∷ k ∷ [])
+
+-- COUNT (*) + COUNT (k)
+abbrev counts : List Token
+counts = tokens_of (wd w.Count ∷ sg s.LeftParen ∷ sg s.Asterisk ∷ sg s.RightParen ∷ sg s.Plus ∷ wd w.Count ∷ sg s.LeftParen ∷ k ∷ sg s.RightParen ∷ [])
+
+-- SUM (k - 1) * AVG (k) * MIN (t) * MAX (1)
+abbrev aggregates : List Token
+aggregates = tokens_of (wd w.Sum ∷ sg s.LeftParen ∷ k ∷ sg s.Minus ∷ one ∷ sg s.RightParen ∷ sg s.Asterisk ∷ wd w.Avg ∷ sg s.LeftParen ∷ k ∷ sg s.RightParen
+    ∷ sg s.Asterisk ∷ wd w.Min ∷ sg s.LeftParen ∷ t ∷ sg s.RightParen ∷ sg s.Asterisk ∷ wd w.Max ∷ sg s.LeftParen ∷ one ∷ sg s.RightParen ∷ [])
+
+-- SUM (*)
+abbrev sum_of_all : List Token
+sum_of_all = tokens_of (wd w.Sum ∷ sg s.LeftParen ∷ sg s.Asterisk ∷ sg s.RightParen ∷ [])
 
 -- VALUES (k = 1 = k
 abbrev two_comparisons : List Token
@@ -449,6 +522,20 @@ pub record ExprRows : Type 0 where
         ∷ e.Operation (at 11) operation.CharLength (e.Literal (at 13) (literal_of.Text (codes "K")) ∷ []) ∷ []),
     [],
   )
+  pub qualifier_is_read : reading rules most_open expr a_qualified_name ≡ Ok (e.Name (record { qualifier = Some (id_t 0); name = id_k 2 }), [])
+  pub counts_are_read : reading rules most_open expr counts ≡ Ok (
+    e.Chain (e.Aggregate (at 0) fold.Count []) (link (chain_operator.Value op.Add) 4 (e.Aggregate (at 5) fold.Count (name_k 7 ∷ [])) ∷ []),
+    [],
+  )
+  pub aggregates_are_read : reading rules most_open expr aggregates ≡ Ok (
+    e.Chain (e.Aggregate (at 0) fold.Sum (e.Chain (name_k 2) (link (chain_operator.Value op.Subtract) 3 (number_one 4) ∷ []) ∷ []))
+        (link (chain_operator.Value op.Multiply) 6 (e.Aggregate (at 7) fold.Avg (name_k 9 ∷ []))
+        ∷ link (chain_operator.Value op.Multiply) 11 (e.Aggregate (at 12) fold.Min (name_t 14 ∷ []))
+        ∷ link (chain_operator.Value op.Multiply) 16 (e.Aggregate (at 17) fold.Max (number_one 19 ∷ [])) ∷ []),
+    [],
+  )
+  -- only COUNT is of all rows
+  pub an_argument_is_wanted : reading rules most_open expr sum_of_all ≡ Err (NoSpelling (drop 2 sum_of_all))
   -- a comparison has two sides
   pub stops_at_second_comparison : reading rules most_open query two_comparisons ≡ Err (NoSpelling (drop 5 two_comparisons))
   pub when_is_wanted : reading rules most_open expr no_when ≡ Err (NoSpelling (drop 2 no_when))
@@ -459,7 +546,7 @@ pub record ExprRows : Type 0 where
   pub cases_past_the_limit : reading rules most_open expr (case_in_case 25) ≡ Err (TooDeep (drop 48 (case_in_case 25)))
 
 pub expr_rows_hold : ExprRows
-unfolding same_kind bracketed ident varchar_length plain_type varchar data_type constant literal dotted named function_call function case_expression primary unary_sign factor operator term sum comparison_sign comparison compared truth_test asked tested in_word among predicate_part predicate not_word negation conjunction expr after more_exprs exprs for_length as_type operands when_clause more_when_clauses when_clauses else_clause arms cases more_idents idents column_list alias select_value more_select_values select_values all_columns select_list named_table derived_table table_ref on_condition joined_on comma_item cross_join left_join inner_join from_item more_from_items first_item from_items from_clause filter select_word select row more_rows rows values_word values query direction sort_specification more_sort_specifications sort_specifications order_clause order_by ordered_query insert_source insertion into_table insert_word insert dml not_null primary_key column_constraint constraints column more_columns columns parameter more_parameters parameters table_definition create_table returns_type return_value body function_definition create_function create_word created ddl unended statement
+unfolding same_kind bracketed ident varchar_length plain_type varchar data_type constant literal dotted column_name named function_call aggregate function case_expression primary unary_sign factor operator term sum comparison_sign comparison compared truth_test asked tested in_word among predicate_part predicate not_word negation conjunction expr after more_exprs exprs for_length as_type all_rows argument operands when_clause more_when_clauses when_clauses else_clause arms cases more_idents idents column_list alias select_value more_select_values select_values all_columns select_list named_table derived_table table_ref on_condition joined_on comma_item cross_join left_join inner_join from_item more_from_items first_item from_items from_clause filter more_column_names column_names group_clause group_by having grouping select_word select row more_rows rows values_word values query direction sort_specification more_sort_specifications sort_specifications order_clause order_by ordered_query insert_source insertion into_table insert_word insert dml not_null primary_key column_constraint constraints column more_columns columns parameter more_parameters parameters table_definition create_table returns_type return_value body function_definition create_function create_word created ddl unended statement
 expr_rows_hold = record {
   or_is_loosest = refl;
   bars_are_additive = refl;
@@ -475,6 +562,10 @@ expr_rows_hold = record {
   length_is_read = refl;
   cast_is_read = refl;
   words_are_read = refl;
+  qualifier_is_read = refl;
+  counts_are_read = refl;
+  aggregates_are_read = refl;
+  an_argument_is_wanted = refl;
   stops_at_second_comparison = refl;
   when_is_wanted = refl;
   from_is_wanted = refl;

@@ -1,8 +1,10 @@
 -- Expressions: ISO/IEC 9075-2, 6.4 (a call of a function), 6.6 (names), 6.12 (CASE), 6.13 (CAST), 6.26 to 6.39
--- (value expressions) and 8.2 to 8.8 (predicates).
+-- (value expressions), 8.2 to 8.8 (predicates) and 10.9 (aggregate functions).
 use Rattle.std.specs.Prelude.{List, [], ◌∷◌, ◌++◌, Option, Some, None}
 use Rattle.sql_grammar.specs.declared.chain_level.ChainLevel.{ChainLevel}
 use Rattle.sql_grammar.specs.declared.chain_level.ChainLevel.TheVariants as level
+use Rattle.sql_grammar.specs.declared.function_word.Function.{Function}
+use Rattle.sql_grammar.specs.declared.function_word.Function.TheVariants as function_of
 use Rattle.sql_grammar.specs.declared.function_word.FunctionWord.{FunctionWord}
 use Rattle.sql_grammar.specs.declared.function_word.FunctionWord.TheVariants as function_word
 use Rattle.sql_lex.specs.declared.token.Kind.{Kind}
@@ -11,6 +13,8 @@ use Rattle.sql_lex.specs.declared.token.Token.{Token}
 use Rattle.sql_lex.specs.declared.word.Word.{Word}
 use Rattle.sql_lex.specs.declared.word.Word.TheVariants as w
 use Rattle.sql_lex.specs.declared.sign.Sign.TheVariants as s
+use Rattle.sql_values.specs.declared.fold.FoldKind.{FoldKind}
+use Rattle.sql_values.specs.declared.fold.FoldKind.TheVariants as fold
 use Rattle.sql_values.specs.declared.operators.Comparison.{Comparison}
 use Rattle.sql_values.specs.declared.operators.Comparison.TheVariants as cmp
 use Rattle.sql_values.specs.declared.operators.Operator.TheVariants as op
@@ -58,7 +62,15 @@ qualified qualifier name = record { qualifier = Some qualifier; name = name }
 unfoldable pub dotted : G Ident
 dotted = sign s.Period ~> ident
 
--- column := name ['.' name], and a call: name '(' [e {',' e}] ')'
+abbrev pub column_name_of : Ident → Option Ident → ColumnName
+column_name_of name None = unqualified name
+column_name_of qualifier (Some name) = qualified qualifier name
+
+-- column := name ['.' name]
+unfoldable pub column_name : G ColumnName
+column_name = (λ p. column_name_of p.0 p.1) => ident ~ optional dotted
+
+-- the same, and a call: name '(' [e {',' e}] ')'
 unfoldable pub named : G Expr
 named =
     (λ p. followed (λ i. e.Name (unqualified i)) p.1 p.0) => ident
@@ -72,16 +84,38 @@ named =
 abbrev pub operation_of : Token × (Operation × List Expr) → Expr
 operation_of p = e.Operation (anchor_of p.0) p.1.0 p.1.1
 
+abbrev pub aggregate_word : FoldKind → Word
+aggregate_word fold.Count = w.Count
+aggregate_word fold.Sum = w.Sum
+aggregate_word fold.Avg = w.Avg
+aggregate_word fold.Min = w.Min
+aggregate_word fold.Max = w.Max
+
 abbrev pub word_of : FunctionWord → Word
 word_of function_word.Coalesce = w.Coalesce
 word_of function_word.Modulo = w.Mod
 word_of function_word.CharLength = w.CharLength
 word_of function_word.Substring = w.Substring
 word_of function_word.Cast = w.Cast
+word_of (function_word.Aggregate f) = aggregate_word f
+
+-- what such a word stands for, with its operands
+abbrev pub applied : Anchor → Function × List Expr → Expr
+applied anchor (function_of.Operation o, xs) = e.Operation anchor o xs
+applied anchor (function_of.Aggregate f, xs) = e.Aggregate anchor f xs
 
 -- a word and its operands in brackets
 unfoldable pub function_call : FunctionWord → G Expr
-function_call f = operation_of => word (word_of f) ~ bracketed (Operands f)
+function_call f = (λ p. applied (anchor_of p.0) p.1) => word (word_of f) ~ bracketed (Operands f)
+
+-- an aggregate function
+unfoldable pub aggregate : G Expr
+aggregate =
+    function_call (function_word.Aggregate fold.Count)
+    or function_call (function_word.Aggregate fold.Sum)
+    or function_call (function_word.Aggregate fold.Avg)
+    or function_call (function_word.Aggregate fold.Min)
+    or function_call (function_word.Aggregate fold.Max)
 
 unfoldable pub function : G Expr
 function =
@@ -90,6 +124,7 @@ function =
     or function_call function_word.CharLength
     or function_call function_word.Substring
     or function_call function_word.Cast
+    or aggregate
 
 -- CASE cases END
 unfoldable pub case_expression : G Expr
@@ -273,13 +308,29 @@ for_length = if_one => optional (after (kind.Word w.For))
 unfoldable pub as_type : G DataType
 as_type = word w.As ~> data_type
 
--- what stands in the brackets after a word: its operation, and its operands
-unfoldable pub operands : FunctionWord → G (Operation × List Expr)
-operands function_word.Coalesce = (λ xs. (operation.Coalesce, xs)) => exprs
-operands function_word.Modulo = (λ p. (operation.Modulo, p.0 ∷ only p.1)) => expr ~ after (kind.Sign s.Comma)
-operands function_word.CharLength = (λ x. (operation.CharLength, only x)) => expr
-operands function_word.Substring = (λ p. (operation.Substring, p.0 ∷ p.1.0 ∷ p.1.1)) => expr ~ after (kind.Word w.From) ~ for_length
-operands function_word.Cast = (λ p. (operation.Cast p.1, only p.0)) => expr ~ as_type
+-- '*', of which COUNT counts the rows
+unfoldable pub all_rows : G (List Expr)
+all_rows = (λ t. []) => sign s.Asterisk
+
+-- the argument of an aggregate: of COUNT(*) none, else one
+unfoldable pub argument : FoldKind → G (List Expr)
+argument fold.Count = all_rows or only => expr
+argument fold.Sum = only => expr
+argument fold.Avg = only => expr
+argument fold.Min = only => expr
+argument fold.Max = only => expr
+
+abbrev pub calls : Operation → List Expr → Function × List Expr
+calls o xs = (function_of.Operation o, xs)
+
+-- what stands in the brackets after a word: what the word stands for, and its operands
+unfoldable pub operands : FunctionWord → G (Function × List Expr)
+operands function_word.Coalesce = (λ xs. calls operation.Coalesce xs) => exprs
+operands function_word.Modulo = (λ p. calls operation.Modulo (p.0 ∷ only p.1)) => expr ~ after (kind.Sign s.Comma)
+operands function_word.CharLength = (λ x. calls operation.CharLength (only x)) => expr
+operands function_word.Substring = (λ p. calls operation.Substring (p.0 ∷ p.1.0 ∷ p.1.1)) => expr ~ after (kind.Word w.From) ~ for_length
+operands function_word.Cast = (λ p. calls (operation.Cast p.1) (only p.0)) => expr ~ as_type
+operands (function_word.Aggregate f) = (λ xs. (function_of.Aggregate f, xs)) => argument f
 
 -- ---- between CASE and END
 

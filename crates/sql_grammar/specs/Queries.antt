@@ -1,10 +1,11 @@
--- Queries: ISO/IEC 9075-2, 7.3 (VALUES), 7.5 to 7.10 (FROM and joined tables), 7.12 (WHERE), 7.16
--- (SELECT), 10.10 and 14.3 (ORDER BY).
+-- Queries: ISO/IEC 9075-2, 7.3 (VALUES), 7.5 to 7.10 (FROM and joined tables), 7.12 (WHERE), 7.13
+-- (GROUP BY), 7.14 (HAVING), 7.16 (SELECT), 10.10 and 14.3 (ORDER BY).
 use Rattle.std.specs.Prelude.{Bool, true, false, List, ◌∷◌, Option, Some, None}
 use Rattle.sql_lex.specs.declared.token.Kind.TheVariants as kind
 use Rattle.sql_lex.specs.declared.word.Word.TheVariants as w
 use Rattle.sql_lex.specs.declared.sign.Sign.TheVariants as s
 use Rattle.syntax_trees.specs.declared.anchor.Anchor.{Anchor}
+use Rattle.syntax_trees.specs.declared.anchor.ColumnName.{ColumnName}
 use Rattle.syntax_trees.specs.declared.anchor.Ident.{Ident}
 use Rattle.syntax_trees.specs.declared.expr.Expr.{Expr}
 use Rattle.syntax_trees.specs.declared.query.FromItem.{FromItem}
@@ -24,7 +25,7 @@ use Rattle.syntax_trees.specs.declared.query.Values.{Values}
 use Rattle.token_grammar.specs.Grammar.{optional, many}
 use Rattle.token_grammar.specs.Notation.{word, sign, ◌~◌, ◌~>◌, ◌or◌, ◌=>◌}
 use Rattle.sql_grammar.specs.Trees.{G, anchor_of, if_any, only, bracketed, ident, Exprs, Subquery, Names}
-use Rattle.sql_grammar.specs.Expressions.{expr, after}
+use Rattle.sql_grammar.specs.Expressions.{column_name, expr, after}
 
 -- ---- names that are written for tables and columns
 
@@ -127,15 +128,44 @@ from_clause = word w.From ~> from_items
 unfoldable pub filter : G (Option Expr)
 filter = optional (after (kind.Word w.Where))
 
+-- {',' column}
+unfoldable pub more_column_names : G (List ColumnName)
+more_column_names = many (sign s.Comma ~> column_name)
+
+unfoldable pub column_names : G (List ColumnName)
+column_names = (λ p. p.0 ∷ p.1) => column_name ~ more_column_names
+
+-- GROUP BY column {',' column}
+unfoldable pub group_clause : G (List ColumnName)
+group_clause = word w.Group ~> word w.By ~> column_names
+
+unfoldable pub group_by : G (List ColumnName)
+group_by = if_any => optional group_clause
+
+-- [HAVING e]
+unfoldable pub having : G (Option Expr)
+having = optional (after (kind.Word w.Having))
+
+-- [GROUP BY column {',' column}] [HAVING e]
+unfoldable pub grouping : G (List ColumnName × Option Expr)
+grouping = group_by ~ having
+
 unfoldable pub select_word : G Anchor
 select_word = anchor_of => word w.Select
 
-abbrev pub select_of : Anchor × (List SelectItem × (List FromItem × Option Expr)) → Select
-select_of p = roll-Select (record { anchor = p.0; items = p.1.0; from = p.1.1.0; filter = p.1.1.1 })
+abbrev pub select_of : Anchor × (List SelectItem × (List FromItem × (Option Expr × (List ColumnName × Option Expr)))) → Select
+select_of p = roll-Select (record {
+  anchor = p.0;
+  items = p.1.0;
+  from = p.1.1.0;
+  filter = p.1.1.1.0;
+  group_by = p.1.1.1.1.0;
+  having = p.1.1.1.1.1;
+})
 
--- SELECT list FROM items [WHERE e]
+-- SELECT list FROM items [WHERE e] [GROUP BY column {',' column}] [HAVING e]
 unfoldable pub select : G Select
-select = select_of => select_word ~ select_list ~ from_clause ~ filter
+select = select_of => select_word ~ select_list ~ from_clause ~ filter ~ grouping
 
 unfoldable pub row : G ValueRow
 row = value_row.Row => bracketed Exprs

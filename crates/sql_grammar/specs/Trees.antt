@@ -1,6 +1,7 @@
 -- What stands in constructs, the trees that rules leave, and the rules that all others share:
 -- ISO/IEC 9075-2, 5.4 (names) and 6.1 (data types).
 use Rattle.std.specs.Prelude.{ℤ, List, [], ◌∷◌, Option, Some, None}
+use Rattle.sql_grammar.specs.declared.function_word.Function.{Function}
 use Rattle.sql_grammar.specs.declared.function_word.FunctionWord.{FunctionWord}
 use Rattle.sql_lex.specs.declared.token.Kind.{Kind}
 use Rattle.sql_lex.specs.declared.token.Kind.TheVariants as kind
@@ -44,7 +45,7 @@ Tree Length = Anchor × ℤ
 Tree Arguments = List Expr
 Tree Exprs = List Expr
 Tree Bracketed = Expr
-Tree (Operands f) = Operation × List Expr
+Tree (Operands f) = Function × List Expr
 Tree Subquery = Query
 Tree Names = List Ident
 Tree Cases = Operation × List Expr

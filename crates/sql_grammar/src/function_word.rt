@@ -1,5 +1,8 @@
 //! The words whose operands stand in brackets after them.
 
+use sql_values::FoldKind;
+use syntax_trees::Operation;
+
 /// A word whose operands stand in brackets after it.
 #[derive(Clone, Copy, Debug, PartialEq, Eq)]
 pub enum FunctionWord {
@@ -13,4 +16,15 @@ pub enum FunctionWord {
     Substring,
     /// CAST (6.13).
     Cast,
+    /// The word of an aggregate function (10.9).
+    Aggregate(FoldKind),
+}
+
+/// What such a word stands for.
+#[derive(Debug, Drop)]
+pub enum Function {
+    /// An operation of its operands.
+    Operation(Operation),
+    /// An aggregate of its argument.
+    Aggregate(FoldKind),
 }

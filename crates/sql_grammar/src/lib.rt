@@ -6,7 +6,7 @@ mod chain_level;
 mod function_word;
 
 pub use chain_level::ChainLevel;
-pub use function_word::FunctionWord;
+pub use function_word::{Function, FunctionWord};
 use token_grammar::{Ending, Part};
 
 /// The statements of a script, each with its `;`. It stands for their grammar in contracts; no code

@@ -1,8 +1,9 @@
 -- A query without faults has a plan.
-use Rattle.std.proofs.Common.{◌≡◌, refl, sym, ap, ◌∙◌, subst, arith, ℕ, suc, true, not, ◌&&◌, List, [], ◌∷◌, ◌++◌, map, length, Option, None, ◌==◌, nat_eq}
+use Rattle.std.proofs.Common.{◌≡◌, refl, sym, ap, ◌∙◌, subst, arith, ℕ, suc, Bool, true, false, not, ◌&&◌, List, [], ◌∷◌, ◌++◌, map, length, Option, None, ◌==◌, nat_eq}
 use Rattle.std.proofs.lemmas.Bool.{and_parts, and_from}
 use Rattle.std.proofs.lemmas.Bool.Decides.{nat_tests}
 use Rattle.syntax_trees.specs.declared.anchor.Anchor.{Anchor}
+use Rattle.syntax_trees.specs.declared.anchor.ColumnName.{ColumnName}
 use Rattle.syntax_trees.specs.declared.expr.Expr.{Expr}
 use Rattle.syntax_trees.specs.declared.query.FromItem.{FromItem, roll-FromItem, fold-roll-FromItem}
 use Rattle.syntax_trees.specs.declared.query.FromItem.TheFolds.{map-FromItem, map-Query, map-TableRef, map-Select, ind-Query}
@@ -17,15 +18,16 @@ use Rattle.syntax_trees.specs.declared.query.ValueRow.{ValueRow}
 use Rattle.syntax_trees.specs.declared.query.ValueRow.TheVariants.{Row}
 use Rattle.row_types.specs.declared.sort_key.SortKey.{SortKey}
 use Rattle.bound_trees.specs.declared.expr.BoundExpr.{BoundExpr}
+use Rattle.bound_trees.specs.declared.query.BoundFromItem.{BoundFromItem}
 use Rattle.bound_trees.specs.declared.query.BoundQuery.{BoundQuery}
 use Rattle.bound_trees.specs.declared.query.BoundRow.{BoundRow}
 use Rattle.bound_trees.specs.declared.query.BoundSelect.{BoundSelect}
-use Rattle.rel_algebra.specs.Tree.{count, Rows, NoRow, MoreRows}
+use Rattle.rel_algebra.specs.Tree.{count, From, Rows, NoRow, MoreRows}
 use Rattle.rel_algebra.specs.Joins.{rows_width}
 use Rattle.rel_algebra.specs.Plain.{all_even, planned, planned_all, planned_from, planned_rows}
 use Rattle.catalog_store.specs.Catalog.{Catalog}
 use Rattle.catalog_store.specs.Planning.{AllPlanned}
-use Rattle.catalog_store.specs.View.{exprs_of, rows_of, from_of, item_of}
+use Rattle.catalog_store.specs.View.{exprs_of, rows_of, from_of, item_of, selected as view}
 use Rattle.catalog_store.proofs.Laws.{planned_trees, query_of-Select, query_of-Values, query_of-Ordered, select_of-parts}
 use Rattle.name_faults.specs.Faults.{fault_if, noted}
 use Rattle.name_faults.proofs.Laws.{is_free}
@@ -34,23 +36,32 @@ use Rattle.name_kinds.specs.declared.kind.Kind.{Kind}
 use Rattle.name_kinds.specs.declared.kind.Head.{Head}
 use Rattle.name_kinds.specs.Kinds.{in_turn, joined_row}
 use Rattle.names_in_sight.specs.Sight.{Seen, inside}
-use Rattle.sql_names.specs.declared.from.Opened.{Opened}
-use Rattle.sql_names.specs.declared.values.TypedRows.{TypedRows}
+use Rattle.typed_parts.specs.declared.aggregates.Parts.{Parts}
+use Rattle.typed_parts.specs.declared.from.Opened.{Opened}
+use Rattle.typed_parts.specs.declared.select.Listed.{Listed}
+use Rattle.typed_parts.specs.declared.values.TypedRows.{TypedRows}
 use Rattle.sql_names.specs.Binds.{HasPlan}
-use Rattle.sql_names.specs.From.{nothing_open, put_comma, put_cross, put_inner, put_left, on_test, with_item, row_level}
+use Rattle.typed_parts.specs.From.{nothing_open, put_comma, put_cross, with_item, row_level, list_level}
+use Rattle.sql_names.specs.From.{put_inner, put_left, on_test}
+use Rattle.typed_parts.specs.Grouping.{is_grouped}
+use Rattle.typed_parts.specs.Typed.{no_parts}
 use Rattle.sql_names.specs.Names.{Judge, inner, all_of, judge_all}
-use Rattle.sql_names.specs.Order.{judge_ordered, ordered_by, keys_of, in_order_of}
-use Rattle.sql_names.specs.Queries.{QueryJudge, FromJudge, RefJudge, from_step, query_step, ref_step, select_step, from_judge, query_judge, ref_judge, select_judge, judge_query, selected, parts}
-use Rattle.sql_names.specs.Turns.{each_noted}
-use Rattle.sql_names.specs.ValueRows.{anchor_of_row, row_faults, row_of, judged_row, one_row, with_row, no_rows, width_of, judged_rows, judged_values}
+use Rattle.typed_parts.specs.Order.{ordered_by, keys_of, in_order_of}
+use Rattle.sql_names.specs.Order.{judge_ordered}
+use Rattle.typed_parts.specs.Typed.{first_parts}
+use Rattle.typed_parts.specs.Selects.{grouping_bound, select_typed}
+use Rattle.sql_names.specs.Queries.{QueryJudge, FromJudge, RefJudge, from_step, query_step, ref_step, select_step, from_judge, query_judge, ref_judge, select_judge, judge_query, selected, rowed, list_and_having}
+use Rattle.typed_parts.specs.Turns.{each_noted}
+use Rattle.typed_parts.specs.ValueRows.{anchor_of_row, row_faults, row_of, with_row, no_rows, width_of}
+use Rattle.sql_names.specs.ValueRows.{judged_row, one_row, judged_rows, judged_values}
 use Rattle.sql_names.proofs.Covers.{front_nil, back_nil, no_fault, equal}
 use Rattle.sql_names.proofs.Planning.{PlannedItems, PlannedSource, from-planned, with-comma, with-cross, with-inner, with-left, table-planned, derived-planned}
 
 -- ---- lengths
 
-as-many : (s : Seen) (js : List Judge) → length (all_of s js).value.trees ≡ length (all_of s js).value.heads
-as-many s [] = refl
-as-many s (j ∷ js) = ap (λ n. suc n) (as-many s js)
+as-many : (s : Seen) (p : Parts) (js : List Judge) → length (all_of s p js).value.value.trees ≡ length (all_of s p js).value.value.heads
+as-many s p [] = refl
+as-many s p (j ∷ js) = ap (λ n. suc n) (as-many s (j s p).value.parts js)
 
 joined-length : (ks : List Kind) (hs : List Head) → length (joined_row ks hs) ≡ length ks
 joined-length [] hs = refl
@@ -83,7 +94,7 @@ module _ (known : Catalog) (at : Anchor) (targets : List Kind) (s : Seen) where
       let kinds = in_turn ks so.value.heads ++ in_turn targets so.value.heads in
       let asked = back_nil so.faults (row_faults at targets ks so.value.heads) p in
       let many = front_nil (fault_if (not (length so.value.heads == length ks)) WrongCount (anchor_of_row at so.value.heads)) kinds asked in
-      counted known so.value.trees ∙ as-many s (map inner es) ∙ equal (length so.value.heads) (length ks) (no_fault _ _ (anchor_of_row at so.value.heads) many)
+      counted known so.value.trees ∙ as-many s no_parts (map inner es) ∙ equal (length so.value.heads) (length ks) (no_fault _ _ (anchor_of_row at so.value.heads) many)
 
   rows-even : (rs : List ValueRow) (so : TypedRows) (n : ℕ) → length so.kinds ≡ n → all_even n (rows_of known so.rows) ≡ true → (each_noted (one_row at targets s) so rs).faults ≡ []
       → all_even n (rows_of known (each_noted (one_row at targets s) so rs).value.rows) ≡ true
@@ -137,15 +148,34 @@ module _ (known : Catalog) (all : AllPlanned known) where
       let rest = each_noted (λ o (k : FromJudge). k s o) first.value js in
       opened-fit s js first.value fs.1 (fs.0 s so q (front_nil first.faults rest.faults p)) (back_nil first.faults rest.faults p)
 
-  select-planned : (at : Anchor) (items : List SelectItem) (filter : Option Expr) (targets : List Kind) (s : Seen) (so : Opened) → PlannedItems known so.from
-      → HasPlan known (selected at items filter targets s so).value.tree
-  select-planned at items filter targets s so q =
-      let found = (parts targets items filter (inside (row_level so) s)).value in
-      let select : BoundSelect = record { items = found.outputs.trees; from = so.from; conjuncts = found.conjuncts } in
+  -- a list over FROM or over its groups
+  selected-planned : (grouped : Bool) (keys : ℕ) (parts : Parts) (having list conjuncts : List BoundExpr) (from : From) → planned_from from ≡ true
+      → planned (view known (grouping_bound grouped keys parts having) (exprs_of known list) from (exprs_of known conjuncts)) ≡ true
+  selected-planned false keys parts having list conjuncts from q =
+      and_from (planned_all (exprs_of known list)) (planned_from from && planned_all (exprs_of known conjuncts)) (planned_trees known all list)
+      (and_from (planned_from from) (planned_all (exprs_of known conjuncts)) q (planned_trees known all conjuncts))
+  selected-planned true keys parts having list conjuncts from q =
+      let lists = planned_all (exprs_of known having) && planned_all (exprs_of known list) in
+      let groups = planned_all (exprs_of known parts.trees) && lists in
+      and_from (planned_from from) (planned_all (exprs_of known conjuncts) && groups) q
+      (and_from (planned_all (exprs_of known conjuncts)) groups (planned_trees known all conjuncts)
+      (and_from (planned_all (exprs_of known parts.trees)) lists (planned_trees known all parts.trees)
+      (and_from (planned_all (exprs_of known having)) (planned_all (exprs_of known list)) (planned_trees known all having) (planned_trees known all list))))
+
+  typed-planned : (at : Anchor) (from : List BoundFromItem) (conjuncts : List BoundExpr) (grouped : Bool) (keys : ℕ) (l : Listed) → PlannedItems known from
+      → HasPlan known (select_typed at from conjuncts grouped keys l).tree
+  typed-planned at from conjuncts grouped keys l q =
+      let select : BoundSelect = record { items = l.outputs.trees; from = from; conjuncts = conjuncts; grouping = grouping_bound grouped keys l.outputs.parts l.having } in
       ap planned (query_of-Select known select ∙ select_of-parts known select)
-      ∙ and_from (planned_all (exprs_of known found.outputs.trees)) (planned_from (from_of (map (item_of known) so.from)) && planned_all (exprs_of known found.conjuncts))
-      (planned_trees known all found.outputs.trees)
-      (and_from (planned_from (from_of (map (item_of known) so.from))) (planned_all (exprs_of known found.conjuncts)) (from-planned (map (item_of known) so.from) q) (planned_trees known all found.conjuncts))
+      ∙ selected-planned grouped keys l.outputs.parts l.having l.outputs.trees conjuncts (from_of (map (item_of known) from)) (from-planned (map (item_of known) from) q)
+
+  select-planned : (at : Anchor) (items : List SelectItem) (filter : Option Expr) (group_by : List ColumnName) (having : Option Expr) (targets : List Kind) (s : Seen) (so : Opened)
+      → PlannedItems known so.from → HasPlan known (selected at items filter group_by having targets s so).value.tree
+  select-planned at items filter group_by having targets s so q =
+      let row = (rowed filter group_by (inside (row_level so) s)).value in
+      let grouped = is_grouped items group_by having in
+      typed-planned at so.from row.conjuncts grouped (length row.grouping.keys)
+      (list_and_having targets items having (first_parts row.grouping.trees) (inside (list_level so row.grouping.keys grouped) s)).value q
 
   -- ---- the induction
 
@@ -211,7 +241,7 @@ module _ (known : Catalog) (all : AllPlanned known) where
   select-layer y targets s p =
       let js = map from_judge (map (λ (i : ShownFrom). i.0) y.from) in
       let so = each_noted (λ o (j : FromJudge). j s o) nothing_open js in
-      select-planned y.anchor y.items y.filter targets s so.value (opened-fit s js nothing_open (shown-fit y.from) tt (front_nil so.faults (selected y.anchor y.items y.filter targets s so.value).faults p))
+      select-planned y.anchor y.items y.filter y.group_by y.having targets s so.value (opened-fit s js nothing_open (shown-fit y.from) tt (front_nil so.faults (selected y.anchor y.items y.filter y.group_by y.having targets s so.value).faults p))
 
   pub query_fits : (q : Query) → QueryFits (query_judge q)
   query_fits =

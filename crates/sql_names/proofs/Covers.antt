@@ -8,7 +8,7 @@ use Rattle.catalog_store.specs.Calls.{CallPlace, AllFit, names_called}
 use Rattle.name_faults.specs.declared.fault.FaultKind.{FaultKind}
 use Rattle.name_faults.specs.Faults.{fault_if}
 use Rattle.catalog_store.specs.declared.entry.Head.{Head}
-use Rattle.sql_names.specs.Names.{head_in, head_named}
+use Rattle.typed_parts.specs.Typed.{head_in, head_named}
 use Rattle.sql_names.specs.Heights.{height_of, height_named, greatest_height}
 
 -- the calls name what is used, and fit below each height above that

@@ -1,6 +1,5 @@
 -- The laws on which upper crates stand.
 pub use Rattle.sql_names.proofs.Covers.{front_nil, back_nil, no_fault}
 pub use Rattle.sql_names.proofs.Fitting.{fitting}
-pub use Rattle.sql_names.proofs.Steps.{unrolled, next}
 pub use Rattle.sql_names.proofs.Asked.{query_planned, ordered_planned}
 pub use Rattle.sql_names.proofs.Rows.{plain, plains, expr_plain, exprs_plain, plain_query, query_plain}

@@ -16,27 +16,28 @@ use Rattle.name_faults.specs.declared.notes.Notes.{Notes}
 use Rattle.name_faults.specs.Faults.{Noted, taken, ◌>>=◌}
 use Rattle.name_kinds.specs.declared.kind.Kind.{Kind}
 use Rattle.names_in_sight.specs.Sight.{Seen}
-use Rattle.sql_names.specs.declared.from.Opened.{Opened}
-use Rattle.sql_names.specs.declared.typed.Sourced.{Sourced}
-use Rattle.sql_names.specs.declared.typed.TypedQuery.{TypedQuery}
-use Rattle.sql_names.specs.From.{nothing_open, derived_source, put_comma, put_cross, put_inner, put_left}
+use Rattle.typed_parts.specs.declared.from.Opened.{Opened}
+use Rattle.typed_parts.specs.declared.typed.Sourced.{Sourced}
+use Rattle.typed_parts.specs.declared.typed.TypedQuery.{TypedQuery}
+use Rattle.typed_parts.specs.From.{nothing_open, derived_source, put_comma, put_cross}
+use Rattle.sql_names.specs.From.{put_inner, put_left}
 use Rattle.sql_names.specs.Queries.{QueryJudge, FromJudge, RefJudge, from_step, query_step, ref_step, select_step, from_judge, ref_judge, query_judge, select_judge, judge_query, opened_of, selected}
-use Rattle.sql_names.proofs.Turns.{each-map, then-notes}
+use Rattle.typed_parts.proofs.Laws.{each-map, then-notes}
 
-pub select-layer : (s : Select) (ts : List Kind) (outer : Seen) → select_judge s ts outer ≡ (opened_of s.from outer >>= selected s.anchor s.items s.filter ts outer)
+pub select-layer : (s : Select) (ts : List Kind) (outer : Seen) → select_judge s ts outer ≡ (opened_of s.from outer >>= selected s.anchor s.items s.filter s.group_by s.having ts outer)
 select-layer s ts outer =
     ap (λ (j : QueryJudge). j ts outer) (fold_out-Select FromJudge QueryJudge RefJudge QueryJudge from_step query_step ref_step select_step s)
-    ∙ ap (λ z. z >>= selected s.anchor s.items s.filter ts outer) (each-map (λ so (j : FromJudge). j outer so) from_judge nothing_open s.from)
+    ∙ ap (λ z. z >>= selected s.anchor s.items s.filter s.group_by s.having ts outer) (each-map (λ so (j : FromJudge). j outer so) from_judge nothing_open s.from)
 
 pub select-value : (s : Select) (ts : List Kind) (outer : Seen) (so : Opened) (q : TypedQuery) → so ≡ (opened_of s.from outer).value
-    → q ≡ (selected s.anchor s.items s.filter ts outer so).value → q ≡ (select_judge s ts outer).value
+    → q ≡ (selected s.anchor s.items s.filter s.group_by s.having ts outer so).value → q ≡ (select_judge s ts outer).value
 select-value s ts outer so q e p =
-    p ∙ ap (λ z. (selected s.anchor s.items s.filter ts outer z).value) e ∙ ap (λ (x : Noted TypedQuery). x.value) (sym (select-layer s ts outer))
+    p ∙ ap (λ z. (selected s.anchor s.items s.filter s.group_by s.having ts outer z).value) e ∙ ap (λ (x : Noted TypedQuery). x.value) (sym (select-layer s ts outer))
 
 pub select-notes : (s : Select) (ts : List Kind) (outer : Seen) (so : Opened) (n n1 n2 : Notes) → n1 ≡ taken n (opened_of s.from outer) → so ≡ (opened_of s.from outer).value
-    → n2 ≡ taken n1 (selected s.anchor s.items s.filter ts outer so) → n2 ≡ taken n (select_judge s ts outer)
+    → n2 ≡ taken n1 (selected s.anchor s.items s.filter s.group_by s.having ts outer so) → n2 ≡ taken n (select_judge s ts outer)
 select-notes s ts outer so n n1 n2 p e q =
-    then-notes n n1 n2 (opened_of s.from outer) (selected s.anchor s.items s.filter ts outer) so p e q ∙ ap (λ z. taken n z) (sym (select-layer s ts outer))
+    then-notes n n1 n2 (opened_of s.from outer) (selected s.anchor s.items s.filter s.group_by s.having ts outer) so p e q ∙ ap (λ z. taken n z) (sym (select-layer s ts outer))
 
 -- ---- items of FROM
 

@@ -1,5 +1,4 @@
 pub mod Steps
-pub mod Turns
 pub mod Layers
 pub mod Covers
 pub mod Calls

@@ -6,8 +6,8 @@ use Rattle.bound_trees.specs.declared.query.BoundQuery.{BoundQuery}
 use Rattle.catalog_store.specs.Catalog.{Catalog}
 use Rattle.catalog_store.specs.View.{query_of}
 use Rattle.name_faults.specs.Faults.{Noted, least}
-use Rattle.sql_names.specs.declared.fault.NameFault.{NameFault}
-use Rattle.sql_names.specs.declared.fault.NameFault.TheVariants as fault
+use Rattle.typed_parts.specs.declared.fault.NameFault.{NameFault}
+use Rattle.typed_parts.specs.declared.fault.NameFault.TheVariants as fault
 
 abbrev pub Binds : {A : Type 0} → Noted A → Result A NameFault → Type 0
 Binds noted (Ok b) = (noted.faults ≡ []) × (b ≡ noted.value)

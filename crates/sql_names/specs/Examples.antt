@@ -2,11 +2,17 @@
 use Rattle.std.specs.Prelude.{ℕ, ◌+◌, pos, true, false, ◌≡◌, List, [], ◌∷◌, None, Some, codes}
 use Rattle.sql_values.specs.declared.value.SqlType.{SqlType}
 use Rattle.sql_values.specs.declared.value.SqlType.TheVariants as type
+use Rattle.sql_values.specs.declared.fold.FoldKind.{FoldKind}
+use Rattle.sql_values.specs.declared.fold.FoldKind.TheVariants.{Count, Sum, Max}
 use Rattle.sql_values.specs.declared.operators.Comparison.TheVariants.{Equals}
+use Rattle.sql_values.specs.declared.operators.Operator.TheVariants.{Add}
+use Rattle.sql_values.specs.declared.value.Value.TheVariants.{Bool as Truth}
 use Rattle.syntax_trees.specs.declared.anchor.Anchor.{Anchor}
+use Rattle.syntax_trees.specs.declared.anchor.ColumnName.{ColumnName}
 use Rattle.syntax_trees.specs.declared.anchor.Ident.{Ident}
 use Rattle.syntax_trees.specs.declared.expr.ChainOperator.{ChainOperator}
 use Rattle.syntax_trees.specs.declared.expr.ChainOperator.TheVariants.{And}
+use Rattle.syntax_trees.specs.declared.expr.ChainOperator.TheVariants as link
 use Rattle.syntax_trees.specs.declared.expr.Literal.TheVariants as literal
 use Rattle.syntax_trees.specs.declared.expr.Operation.{Operation as OperationOf}
 use Rattle.syntax_trees.specs.declared.expr.Operation.TheVariants.{Minus, Compare}
@@ -24,17 +30,17 @@ use Rattle.bound_trees.specs.declared.query.BoundSource.TheVariants as source
 use Rattle.catalog_store.specs.Catalog.{Catalog, TableObject, FunctionObject, missing}
 use Rattle.name_faults.specs.declared.fault.Fault.{Fault}
 use Rattle.name_faults.specs.declared.fault.FaultKind.{FaultKind}
-use Rattle.name_faults.specs.declared.fault.FaultKind.TheVariants.{UnknownName, DuplicateName, TypeMismatch, WrongCount}
+use Rattle.name_faults.specs.declared.fault.FaultKind.TheVariants.{UnknownName, DuplicateName, TypeMismatch, WrongCount, NotPermitted}
 use Rattle.name_faults.specs.Faults.{Noted, least}
 use Rattle.name_kinds.specs.Conjuncts.{conjuncts_of}
 use Rattle.name_kinds.specs.declared.kind.Kind.{Kind}
 use Rattle.name_kinds.specs.declared.kind.Kind.TheVariants.{Integer, Text}
 use Rattle.names_in_sight.specs.declared.output.Output.{Output}
 use Rattle.names_in_sight.specs.Sight.{at_top}
-use Rattle.sql_names.specs.declared.typed.TypedQuery.{TypedQuery}
+use Rattle.typed_parts.specs.declared.typed.TypedQuery.{TypedQuery}
 use Rattle.sql_names.specs.Order.{judge_ordered}
 use Rattle.sql_names.specs.Queries.{judge_query}
-use Rattle.sql_names.specs.Written.{Expr, Literal, Name, Call, Operation, Chain, NoLink, MoreLinks, exprs, Item, All, Value, Query, Select, Values, From, Comma, Cross, Inner, Left, Ref, Table, Derived, froms, query_of}
+use Rattle.sql_names.specs.Written.{Expr, Literal, Name, Call, Operation, Aggregate, Chain, NoLink, MoreLinks, exprs, Item, All, Value, Query, Grouped, Select, Values, From, Comma, Cross, Inner, Left, Ref, Table, Derived, froms, query_of}
 
 abbrev pub at : ℕ → Anchor
 at token = record { token = token; line = 1; column = token }
@@ -198,7 +204,7 @@ abbrev pub table_at : List ℕ → BoundSource
 table_at n = source.Table n
 
 abbrev pub bound_names : BoundQuery
-bound_names = query.Select (record { items = bound.Column 0 0 ∷ bound.Column 0 1 ∷ []; from = from.Comma (table_at (codes "S")) ∷ []; conjuncts = [] })
+bound_names = query.Select (record { items = bound.Column 0 0 ∷ bound.Column 0 1 ∷ []; from = from.Comma (table_at (codes "S")) ∷ []; conjuncts = []; grouping = None })
 
 pub record OrderByOutputColumns : Type 0 where
   pub unknown : (ordered two_names (by_name (codes "A") 70 ∷ [])).faults ≡ fault UnknownName 70 ∷ []
@@ -225,7 +231,7 @@ conjuncts = select (item (qualified (codes "D") 1 (codes "P")) ∷ [])
     (t ∷ Inner (derived once 60 (called (codes "P") 62 ∷ [])) (chain (equal (qualified (codes "T") 70 (codes "A")) 73 (name (codes "P") 74)) And 75 (equal (qualified (codes "T") 76 (codes "K")) 79 (name (codes "P") 80))) ∷ [])
 
 abbrev pub bound_once : BoundQuery
-bound_once = query.Select (record { items = bound.Column 0 0 ∷ []; from = from.Comma (table_at (codes "T")) ∷ []; conjuncts = [] })
+bound_once = query.Select (record { items = bound.Column 0 0 ∷ []; from = from.Comma (table_at (codes "T")) ∷ []; conjuncts = []; grouping = None })
 
 abbrev pub output : List ℕ → Kind → Output
 output n kind = record { name = Some n; kind = kind }
@@ -236,6 +242,7 @@ pub record BindsByPlaceInFrom : Type 0 where
     items = columns;
     from = from.Comma (table_at (codes "S")) ∷ from.Comma (table_at (codes "T")) ∷ from.Left (table_at (codes "S")) (conjuncts_of (equal_columns 0 2)) ∷ [];
     conjuncts = [];
+    grouping = None;
   })
   pub names : (judged joined).value.columns
       ≡ output (codes "A") Integer ∷ output (codes "B") Text ∷ output (codes "K") Integer ∷ output (codes "A") Integer ∷ output (codes "A") Integer ∷ output (codes "B") Text ∷ []
@@ -243,4 +250,91 @@ pub record BindsByPlaceInFrom : Type 0 where
     items = bound.Column 0 2 ∷ [];
     from = from.Comma (table_at (codes "T")) ∷ from.Inner (source.Derived bound_once) (conjuncts_of (bound.Operation word_of.And (equal_columns 1 2 ∷ equal_columns 0 2 ∷ []))) ∷ [];
     conjuncts = [];
+    grouping = None;
   })
+
+-- ---- groups
+
+-- an aggregate of an argument, and COUNT(*)
+abbrev pub aggregate : FoldKind → ℕ → Expr → Expr
+aggregate kind token argument = Aggregate (at token) kind (exprs (argument ∷ []))
+
+abbrev pub count_all : ℕ → Expr
+count_all token = Aggregate (at token) Count (exprs [])
+
+-- a column of GROUP BY, and one behind the name of its item
+abbrev pub by : List ℕ → ℕ → ColumnName
+by n token = record { qualifier = None; name = called n token }
+
+abbrev pub of_item : List ℕ → ℕ → List ℕ → ColumnName
+of_item q token n = record { qualifier = Some (called q token); name = called n (token + 2) }
+
+abbrev pub grouped : List Item → List From → List ColumnName → Query
+grouped is fs columns = Grouped (at 0) is (froms fs) None columns None
+
+abbrev pub having_of : List Item → List From → List ColumnName → Expr → Query
+having_of is fs columns having = Grouped (at 0) is (froms fs) None columns (Some having)
+
+pub record GroupedQueries : Type 0 where
+  pub other_column : Only (grouped (item (name (codes "A") 1) ∷ item (aggregate Sum 3 (name (codes "A") 5)) ∷ []) (t ∷ []) (by (codes "K") 80 ∷ [])) NotPermitted 1
+  pub grouping_column : Free (grouped (item (name (codes "K") 1) ∷ item (aggregate Sum 3 (name (codes "A") 5)) ∷ []) (t ∷ []) (by (codes "K") 80 ∷ []))
+  pub beside_an_aggregate : Only (select (item (name (codes "K") 1) ∷ item (aggregate Sum 3 (name (codes "A") 5)) ∷ []) (t ∷ [])) NotPermitted 1
+  pub in_an_expression : Only (select (item (chain (aggregate Sum 1 (name (codes "A") 3)) (link.Value Add) 5 (name (codes "A") 6)) ∷ []) (t ∷ [])) NotPermitted 6
+  pub aggregate_in_aggregate : Only (select (item (aggregate Sum 1 (aggregate Sum 3 (name (codes "A") 5))) ∷ []) (t ∷ [])) NotPermitted 3
+  pub aggregate_in_where : Only (select_where (item (number 1) ∷ []) (t ∷ []) (equal (aggregate Sum 70 (name (codes "A") 72)) 74 (number 75))) NotPermitted 70
+  pub aggregate_in_where_of_groups : Only (Grouped (at 0) (item (count_all 1) ∷ []) (froms (t ∷ [])) (Some (equal (count_all 70) 74 (number 75))) (by (codes "K") 80 ∷ []) None) NotPermitted 70
+  pub aggregate_in_on : Only (select (item (number 1) ∷ []) (t ∷ Inner (table (codes "S") 60) (equal (aggregate Max 62 (name (codes "K") 64)) 66 (number 67)) ∷ [])) NotPermitted 62
+  pub aggregate_in_values : Only (Values (at 0) (exprs (aggregate Sum 2 (number 4) ∷ []) ∷ [])) NotPermitted 2
+  pub all_columns : Only (grouped (star 1 ∷ []) (t ∷ []) (by (codes "K") 80 ∷ [])) NotPermitted 1
+  pub all_grouping_columns : Free (grouped (star 1 ∷ []) (t ∷ []) (by (codes "A") 80 ∷ by (codes "K") 82 ∷ []))
+  pub having_alone : Only (having_of (item (name (codes "K") 1) ∷ []) (t ∷ []) [] (equal (number 90) 91 (number 92))) NotPermitted 1
+  pub having_alone_of_one_group : Free (having_of (item (number 1) ∷ []) (t ∷ []) [] (equal (count_all 90) 94 (number 95)))
+  pub other_column_in_having : Only (having_of (item (number 1) ∷ []) (t ∷ []) (by (codes "K") 80 ∷ []) (equal (name (codes "K") 90) 91 (name (codes "A") 92))) NotPermitted 92
+  pub having_of_any_kind : Only (having_of (item (number 1) ∷ []) (t ∷ []) [] (count_all 90)) TypeMismatch 90
+  pub behind_its_item : Free (grouped (item (qualified (codes "T") 1 (codes "A")) ∷ []) (t ∷ []) (by (codes "A") 80 ∷ []))
+  pub without_its_item : Free (grouped (item (name (codes "K") 1) ∷ []) (t ∷ s ∷ []) (of_item (codes "T") 80 (codes "K") ∷ []))
+  pub of_another_item : Only (grouped (item (qualified (codes "T") 1 (codes "A")) ∷ []) (t ∷ s ∷ []) (of_item (codes "S") 80 (codes "A") ∷ [])) NotPermitted 1
+  pub of_an_unknown_table : Only (grouped (item (name (codes "Z") 1) ∷ []) (Comma (table (codes "V") 60) ∷ []) (by (codes "Z") 80 ∷ [])) UnknownName 60
+  pub other_of_an_unknown_table : Least (grouped (item (name (codes "Y") 1) ∷ []) (Comma (table (codes "V") 60) ∷ []) (by (codes "Z") 80 ∷ [])) NotPermitted 1
+  pub unknown_grouping_column : Only (grouped (item (number 1) ∷ []) (t ∷ []) (by (codes "Z") 80 ∷ [])) UnknownName 80
+  pub grouping_column_of_two_items : Only (grouped (item (number 1) ∷ []) (t ∷ s ∷ []) (by (codes "A") 80 ∷ [])) DuplicateName 80
+  pub grouping_column_twice : Free (grouped (item (name (codes "K") 1) ∷ []) (t ∷ []) (by (codes "K") 80 ∷ by (codes "K") 82 ∷ []))
+  pub sum_of_texts : Only (select (item (aggregate Sum 1 (text 3)) ∷ []) (t ∷ [])) TypeMismatch 3
+  pub kind_of_max : Only (select (item (word Minus 1 (aggregate Max 2 (name (codes "B") 4) ∷ [])) ∷ []) (s ∷ [])) TypeMismatch 2
+  pub kind_of_count : Free (select (item (word Minus 1 (aggregate Count 2 (name (codes "B") 4) ∷ [])) ∷ []) (s ∷ []))
+  pub kind_behind_a_fault : Only (select (item (word Minus 1 (aggregate Max 2 (name (codes "Z") 4) ∷ [])) ∷ []) (s ∷ [])) UnknownName 4
+
+-- SELECT K, SUM(A), COUNT(*) FROM T WHERE A = K GROUP BY A, K HAVING MAX(A) = K
+abbrev pub two_and_one : Query
+two_and_one =
+    Grouped (at 0) (item (name (codes "K") 1) ∷ item (aggregate Sum 3 (name (codes "A") 5)) ∷ item (count_all 8) ∷ []) (froms (t ∷ []))
+    (Some (equal (name (codes "A") 70) 71 (name (codes "K") 72))) (by (codes "A") 80 ∷ by (codes "K") 82 ∷ []) (Some (equal (aggregate Max 90 (name (codes "A") 92)) 94 (name (codes "K") 95)))
+
+-- SELECT COUNT(*) FROM T
+abbrev pub counted : Query
+counted = select (item (count_all 1) ∷ []) (t ∷ [])
+
+abbrev pub unnamed : Kind → Output
+unnamed kind = record { name = None; kind = kind }
+
+pub record BindsByPlaceInGroup : Type 0 where
+  -- two grouping columns, two aggregates of the list, and one of HAVING
+  pub tree : (judged two_and_one).value.tree ≡ query.Select (record {
+    items = bound.Column 0 1 ∷ bound.Column 0 2 ∷ bound.Column 0 3 ∷ [];
+    from = from.Comma (table_at (codes "T")) ∷ [];
+    conjuncts = conjuncts_of (equal_columns 1 0);
+    grouping = Some (record {
+      keys = 2;
+      parts = bound.Column 0 1 ∷ bound.Column 0 0 ∷ bound.Column 0 1 ∷ bound.Literal (Truth true) ∷ bound.Column 0 1 ∷ [];
+      aggregates = Sum ∷ Count ∷ Max ∷ [];
+      having = conjuncts_of (equal_columns 4 1);
+    });
+  })
+  pub names : (judged two_and_one).value.columns ≡ output (codes "K") Integer ∷ unnamed Integer ∷ unnamed Integer ∷ []
+  pub of_one_group : (judged counted).value.tree ≡ query.Select (record {
+    items = bound.Column 0 0 ∷ [];
+    from = from.Comma (table_at (codes "T")) ∷ [];
+    conjuncts = [];
+    grouping = Some (record { keys = 0; parts = bound.Literal (Truth true) ∷ []; aggregates = Count ∷ []; having = [] });
+  })
+  pub of_no_group : (judged once).value.tree ≡ bound_once

@@ -1,4 +1,3 @@
-pub mod Turns
 pub mod Names
 pub mod ValueRows
 pub mod Lists

@@ -1,41 +1,18 @@
--- The rows of VALUES. ISO/IEC 9075-2, 7.3 (table value constructor) and 9.2 (store assignment).
-use Rattle.std.specs.Prelude.{ℕ, ◌==◌, not, List, [], ◌∷◌, ◌++◌, map, length, replicate, None}
+-- The rows of VALUES, each judged with the kinds of those above. ISO/IEC 9075-2, 7.3 (table value constructor).
+use Rattle.std.specs.Prelude.{List, ◌++◌}
 use Rattle.syntax_trees.specs.declared.anchor.Anchor.{Anchor}
 use Rattle.syntax_trees.specs.declared.query.Values.{Values}
 use Rattle.syntax_trees.specs.declared.query.ValueRow.{ValueRow}
 use Rattle.syntax_trees.specs.declared.query.ValueRow.TheVariants.{Row}
-use Rattle.bound_trees.specs.declared.expr.BoundExpr.{BoundExpr}
-use Rattle.bound_trees.specs.declared.query.BoundRow.{BoundRow}
-use Rattle.bound_trees.specs.declared.query.BoundQuery.TheVariants as bound
-use Rattle.name_faults.specs.declared.fault.Fault.{Fault}
-use Rattle.name_faults.specs.declared.fault.FaultKind.TheVariants.{WrongCount}
-use Rattle.name_faults.specs.Faults.{Noted, as_value, fault_if}
+use Rattle.name_faults.specs.Faults.{Noted, as_value}
 use Rattle.name_kinds.specs.declared.kind.Kind.{Kind}
-use Rattle.name_kinds.specs.declared.kind.Kind.TheVariants.{Null}
-use Rattle.name_kinds.specs.declared.kind.Head.{Head}
-use Rattle.name_kinds.specs.Kinds.{in_turn, joined_row}
-use Rattle.names_in_sight.specs.declared.output.Output.{Output}
 use Rattle.names_in_sight.specs.Sight.{Seen}
-use Rattle.sql_names.specs.declared.typed.Operands.{Operands}
-use Rattle.sql_names.specs.declared.typed.TypedQuery.{TypedQuery}
-use Rattle.sql_names.specs.declared.values.TypedRows.{TypedRows}
+use Rattle.typed_parts.specs.declared.typed.Operands.{Operands}
+use Rattle.typed_parts.specs.declared.typed.TypedQuery.{TypedQuery}
+use Rattle.typed_parts.specs.declared.values.TypedRows.{TypedRows}
+use Rattle.typed_parts.specs.Turns.{each_noted}
+use Rattle.typed_parts.specs.ValueRows.{row_faults, with_row, width_of, no_rows, values_typed}
 use Rattle.sql_names.specs.Names.{judge_all}
-use Rattle.sql_names.specs.Turns.{each_noted}
-
--- ---- a row
-
-abbrev pub row_of : List BoundExpr → BoundRow
-row_of es = record { values = es }
-
--- a row's first expression; a row without one has another token
-abbrev pub anchor_of_row : Anchor → List Head → Anchor
-anchor_of_row other [] = other
-anchor_of_row other (h ∷ hs) = h.at
-
--- So many as there are columns, each of its column's kind so far, and of the kind of what it is stored into.
-abbrev pub row_faults : Anchor → List Kind → List Kind → List Head → List Fault
-row_faults at targets kinds hs =
-    fault_if (not (length hs == length kinds)) WrongCount (anchor_of_row at hs) ++ (in_turn kinds hs ++ in_turn targets hs)
 
 abbrev pub row_with : Anchor → List Kind → List Kind → Noted Operands → Noted Operands
 row_with at targets kinds so = record { value = so.value; faults = so.faults ++ row_faults at targets kinds so.value.heads; uses = so.uses }
@@ -43,38 +20,11 @@ row_with at targets kinds so = record { value = so.value; faults = so.faults ++ 
 abbrev pub judged_row : Anchor → List Kind → Seen → List Kind → ValueRow → Noted Operands
 judged_row at targets seen kinds (Row es) = row_with at targets kinds (judge_all es seen)
 
--- ---- rows
-
--- one row more, whose kinds stand above those below it
-abbrev pub with_row : TypedRows → Operands → TypedRows
-with_row so o = record { kinds = joined_row so.kinds o.heads; rows = so.rows ++ row_of o.trees ∷ [] }
-
 abbrev pub one_row : Anchor → List Kind → Seen → TypedRows → ValueRow → Noted TypedRows
 one_row at targets seen so r = as_value (with_row so) (judged_row at targets seen so.kinds r)
 
-abbrev pub length_of : ValueRow → ℕ
-length_of (Row es) = length es
-
--- how many expressions the first row has
-abbrev pub width_of : List ValueRow → ℕ
-width_of [] = 0
-width_of (r ∷ rs) = length_of r
-
--- columns of which no value is known yet
-abbrev pub no_rows : ℕ → TypedRows
-no_rows width = record { kinds = replicate width Null; rows = [] }
-
 abbrev pub judged_rows : List Kind → Values → Seen → Noted TypedRows
 judged_rows targets v seen = each_noted (one_row v.anchor targets seen) (no_rows (width_of v.rows)) v.rows
-
--- ---- VALUES as a query
-
-abbrev pub unnamed : Kind → Output
-unnamed kind = record { name = None; kind = kind }
-
--- its columns have no names
-abbrev pub values_typed : Anchor → TypedRows → TypedQuery
-values_typed at v = record { at = at; columns = map unnamed v.kinds; tree = bound.Values v.rows }
 
 abbrev pub judged_values : List Kind → Values → Seen → Noted TypedQuery
 judged_values targets v seen = as_value (values_typed v.anchor) (judged_rows targets v seen)

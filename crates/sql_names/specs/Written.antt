@@ -1,5 +1,6 @@
 -- Expressions and queries written out as plain trees, for worked rows: which tree of the code each stands for.
 use Rattle.std.specs.Prelude.{List, [], ◌∷◌, map, Option, Some, None}
+use Rattle.sql_values.specs.declared.fold.FoldKind.{FoldKind}
 use Rattle.syntax_trees.specs.declared.anchor.Anchor.{Anchor}
 use Rattle.syntax_trees.specs.declared.anchor.ColumnName.{ColumnName}
 use Rattle.syntax_trees.specs.declared.anchor.Ident.{Ident}
@@ -25,6 +26,7 @@ mutual
     Name : ColumnName → Expr
     Call : Ident → Exprs → Expr
     Operation : Anchor → OperationOf → Exprs → Expr
+    Aggregate : Anchor → FoldKind → Exprs → Expr
     Chain : Expr → Links → Expr
 
   pub data Exprs : Type 0 where
@@ -41,6 +43,7 @@ abbrev mutual
   expr_of (Name c) = roll-Expr (Expr-F.Name c)
   expr_of (Call i es) = roll-Expr (Expr-F.Call i (exprs_of es))
   expr_of (Operation at operation es) = roll-Expr (Expr-F.Operation at operation (exprs_of es))
+  expr_of (Aggregate at kind es) = roll-Expr (Expr-F.Aggregate at kind (exprs_of es))
   expr_of (Chain e ls) = roll-Expr (Expr-F.Chain (expr_of e) (links_of ls))
 
   pub exprs_of : Exprs → List Tree
@@ -64,7 +67,8 @@ pub data Item : Type 0 where
 
 mutual
   pub data Query : Type 0 where
-    Select : Anchor → List Item → Froms → Option Expr → Query
+    -- the list, FROM, WHERE, GROUP BY and HAVING
+    Grouped : Anchor → List Item → Froms → Option Expr → List ColumnName → Option Expr → Query
     Values : Anchor → List Exprs → Query
 
   pub data Froms : Type 0 where
@@ -94,8 +98,8 @@ row_of es = Row (exprs_of es)
 
 abbrev mutual
   pub query_of : Query → QueryTree
-  query_of (Select at is fs filter) =
-      roll-Query (Query-F.Select (roll-Select (record { anchor = at; items = map item_of is; from = froms_of fs; filter = filter_of filter })))
+  query_of (Grouped at is fs filter columns having) =
+      roll-Query (Query-F.Select (roll-Select (record { anchor = at; items = map item_of is; from = froms_of fs; filter = filter_of filter; group_by = columns; having = filter_of having })))
   query_of (Values at rows) = roll-Query (Query-F.Values (record { anchor = at; rows = map row_of rows }))
 
   pub froms_of : Froms → List FromItem
@@ -115,3 +119,7 @@ abbrev mutual
 abbrev pub froms : List From → Froms
 froms [] = NoFrom
 froms (f ∷ fs) = MoreFroms f (froms fs)
+
+-- without GROUP BY and HAVING
+abbrev pub Select : Anchor → List Item → Froms → Option Expr → Query
+Select at is fs filter = Grouped at is fs filter [] None

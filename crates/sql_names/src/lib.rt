@@ -2,26 +2,18 @@
 //! with its names resolved.
 #![tactic(auto, using(name_faults::proofs::Laws::noted_append))]
 
-ghost use Rattle.sql_names.specs.Examples.{NamesInJoins, NamesOfDerivedTables, OrderByOutputColumns, BindsByPlaceInFrom};
+ghost use Rattle.sql_names.specs.Examples.{NamesInJoins, NamesOfDerivedTables, OrderByOutputColumns, BindsByPlaceInFrom, GroupedQueries, BindsByPlaceInGroup};
 
 mod expr;
-mod fault;
 mod from;
 mod list;
 mod order;
-mod parts;
 mod query;
-mod typed;
 mod values;
 
 pub use expr::bind_expr;
-pub use fault::NameFault;
-pub use from::{Opened, table_named};
-pub use list::Outputs;
 pub use order::{bind_ordered, bind_query};
-pub use query::{Selected, bind_typed};
-pub use typed::{Operands, Sourced, Typed, TypedQuery};
-pub use values::TypedRows;
+pub use query::bind_typed;
 
 /// Names over several items of FROM, in the list, in WHERE and in ON: each fault at its place.
 pub fn names_in_joins()
@@ -41,4 +33,16 @@ pub fn order_by_output_columns()
 /// A column is bound by its place in FROM's row; in ON by that in the row since the last comma.
 pub fn binds_by_place_in_from()
     ensures { BindsByPlaceInFrom }
+{}
+
+/// Where aggregates stand, and which columns the list and HAVING of a grouped query name: each
+/// fault at its place.
+pub fn grouped_queries()
+    ensures { GroupedQueries }
+{}
+
+/// In a group a grouping column is bound by its place among these, and an aggregate by the place of
+/// its argument among the parts.
+pub fn binds_by_place_in_group()
+    ensures { BindsByPlaceInGroup }
 {}

@@ -2,61 +2,72 @@
 
 ghost use Rattle.std.specs.Prelude.{◌≡◌, [], IfOk, OnOk};
 ghost use Rattle.name_faults.specs.Faults.{taken};
-ghost use Rattle.names_in_sight.specs.Sight.{seen_by, inside};
-ghost use Rattle.sql_names.specs.From.{row_level};
+ghost use Rattle.names_in_sight.specs.Sight.{seen_by, level_by, inside};
+ghost use Rattle.typed_parts.specs.From.{row_level};
+ghost use Rattle.typed_parts.specs.Grouping.{is_grouped as spec_grouped};
 ghost use Rattle.sql_names.specs.Queries as spec;
 ghost use Rattle.sql_names.specs.Queries.{from_judge, ref_judge, select_judge, judge_query, opened_of};
 
-use crate::from::{
-    Opened, derived_source, nothing_open, put_comma, put_cross, put_inner, put_left, row_level,
-    table_named, table_source,
-};
-use crate::list::{Outputs, bind_filter, bind_list};
-use crate::typed::{Sourced, TypedQuery};
+use crate::from::{put_inner, put_left};
+use crate::list::{bind_filter, bind_having, bind_list};
 use crate::values::bind_values;
-use bound_trees::{BoundExpr, BoundQuery, BoundSelect};
 use name_faults::Notes;
 use name_kinds::Kind;
-use names_in_sight::{Sight, entered};
+use names_in_sight::{Level, Sight, entered};
 use sql_values::NoMemory;
-use sqlite_items::Items;
 use std::alloc::Global;
-use syntax_trees::{Anchor, FromItem, Ident, Query, Select, TableRef};
+use syntax_trees::{FromItem, Query, Select, TableRef};
+use typed_parts::{
+    Grouping, Listed, Opened, Parts, Rowed, Sourced, TypedQuery, bind_grouping, bind_table,
+    derived_source, is_grouped, list_level, nothing_open, parts_of_keys, put_comma, put_cross,
+    row_level, select_typed,
+};
 
-/// The list and the condition of a SELECT.
-#[derive(Drop)]
-pub struct Selected {
-    pub outputs: Outputs,
-    pub conjuncts: Items<BoundExpr>,
+// The condition of WHERE and the grouping columns.
+fn bind_rowed(
+    alloc: Global,
+    select: &Select,
+    sight: &Sight<'_>,
+    notes: &mut Notes,
+) -> Result<Rowed, NoMemory>
+    ensures value { IfOk result (λ r. r ≡ (spec.rowed select.now.filter select.now.group_by (seen_by sight.now)).value) }
+    ensures notes { OnOk result (notes.new ≡ taken notes.old (spec.rowed select.now.filter select.now.group_by (seen_by sight.now))) }
+{
+    let conjuncts = bind_filter(alloc, &select.filter, sight, notes)?;
+    let grouping = bind_grouping(alloc, select.group_by.as_slice(), sight, notes)?;
+    Ok(Rowed {
+        conjuncts,
+        grouping,
+    })
 }
 
-// The list and the condition.
-fn bind_parts(
+// The list, and then HAVING.
+fn bind_listed(
     alloc: Global,
     select: &Select,
     targets: &[Kind],
+    parts: Parts,
     sight: &Sight<'_>,
     notes: &mut Notes,
-) -> Result<Selected, NoMemory>
-    ensures value { IfOk result (λ s. s ≡ (spec.parts targets.now select.now.items select.now.filter (seen_by sight.now)).value) }
-    ensures notes { OnOk result (notes.new ≡ taken notes.old (spec.parts targets.now select.now.items select.now.filter (seen_by sight.now))) }
+) -> Result<Listed, NoMemory>
+    ensures value { IfOk result (λ l. l ≡ (spec.list_and_having targets.now select.now.items select.now.having parts (seen_by sight.now)).value) }
+    ensures notes { OnOk result (notes.new ≡ taken notes.old (spec.list_and_having targets.now select.now.items select.now.having parts (seen_by sight.now))) }
 {
-    let outputs = bind_list(alloc, select.items.as_slice(), targets, sight, notes)?;
-    let conjuncts = bind_filter(alloc, &select.filter, sight, notes)?;
-    Ok(Selected { outputs, conjuncts })
+    let mut outputs = bind_list(alloc, select.items.as_slice(), targets, parts, sight, notes)?;
+    let having = bind_having(alloc, &select.having, sight, &mut outputs.parts, notes)?;
+    Ok(Listed { outputs, having })
 }
 
-// The list and the condition, with the columns of FROM in sight.
-fn bind_inside(
+// The condition of WHERE and the grouping columns, with the columns of FROM in sight.
+fn bind_row(
     alloc: Global,
     select: &Select,
     opened: &Opened,
-    targets: &[Kind],
     outside: &Sight<'_>,
     notes: &mut Notes,
-) -> Result<Selected, NoMemory>
-    ensures value { IfOk result (λ s. s ≡ (spec.parts targets.now select.now.items select.now.filter (inside (row_level opened.now) (seen_by outside.now))).value) }
-    ensures notes { OnOk result (notes.new ≡ taken notes.old (spec.parts targets.now select.now.items select.now.filter (inside (row_level opened.now) (seen_by outside.now)))) }
+) -> Result<Rowed, NoMemory>
+    ensures value { IfOk result (λ r. r ≡ (spec.rowed select.now.filter select.now.group_by (inside (row_level opened.now) (seen_by outside.now))).value) }
+    ensures notes { OnOk result (notes.new ≡ taken notes.old (spec.rowed select.now.filter select.now.group_by (inside (row_level opened.now) (seen_by outside.now)))) }
 {
     let levels = entered(alloc, row_level(opened), outside.levels)?;
     let sight = Sight {
@@ -64,22 +75,55 @@ fn bind_inside(
         variables: outside.variables,
         catalog: outside.catalog,
     };
-    bind_parts(alloc, select, targets, &sight, notes)
+    bind_rowed(alloc, select, &sight, notes)
 }
 
-fn select_typed(at: Anchor, opened: Opened, parts: Selected) -> TypedQuery
-    ensures { result ≡ spec.select_typed at opened.from parts }
+// The list and HAVING, with what they see of FROM.
+fn bind_level(
+    alloc: Global,
+    select: &Select,
+    level: Level<'_>,
+    targets: &[Kind],
+    parts: Parts,
+    outside: &Sight<'_>,
+    notes: &mut Notes,
+) -> Result<Listed, NoMemory>
+    ensures value { IfOk result (λ l. l ≡ (spec.list_and_having targets.now select.now.items select.now.having parts (inside (level_by level.entry) (seen_by outside.now))).value) }
+    ensures notes { OnOk result (notes.new ≡ taken notes.old (spec.list_and_having targets.now select.now.items select.now.having parts (inside (level_by level.entry) (seen_by outside.now)))) }
 {
-    let Selected { outputs, conjuncts } = parts;
-    TypedQuery {
-        at,
-        columns: outputs.columns,
-        tree: BoundQuery::Select(BoundSelect {
-            items: outputs.trees,
-            from: opened.from,
-            conjuncts,
-        }),
-    }
+    let levels = entered(alloc, level, outside.levels)?;
+    let sight = Sight {
+        levels: levels.as_slice(),
+        variables: outside.variables,
+        catalog: outside.catalog,
+    };
+    bind_listed(alloc, select, targets, parts, &sight, notes)
+}
+
+// The list and HAVING over FROM's row or its groups.
+fn bind_grouped(
+    alloc: Global,
+    select: &Select,
+    opened: Opened,
+    row: Rowed,
+    targets: &[Kind],
+    outside: &Sight<'_>,
+    notes: &mut Notes,
+) -> Result<TypedQuery, NoMemory>
+    ensures value { IfOk result (λ q. q ≡ (spec.list_typed select.now.anchor select.now.items select.now.having (spec_grouped select.now.items select.now.group_by select.now.having) targets.now (seen_by outside.now) opened row).value) }
+    ensures notes { OnOk result (notes.new ≡ taken notes.old (spec.list_typed select.now.anchor select.now.items select.now.having (spec_grouped select.now.items select.now.group_by select.now.having) targets.now (seen_by outside.now) opened row)) }
+{
+    let grouped = is_grouped(select);
+    let Rowed {
+        conjuncts,
+        grouping,
+    } = row;
+    let Grouping { keys, trees } = grouping;
+    let level = list_level(&opened, keys.as_slice(), grouped);
+    let parts = parts_of_keys(alloc, trees);
+    let list = bind_level(alloc, select, level, targets, parts, outside, notes)?;
+    let count = keys.len();
+    Ok(select_typed(select.anchor, opened.from, conjuncts, grouped, count, list))
 }
 
 // A SELECT over what FROM brings in sight.
@@ -91,26 +135,12 @@ fn bind_opened(
     outside: &Sight<'_>,
     notes: &mut Notes,
 ) -> Result<TypedQuery, NoMemory>
-    ensures value { IfOk result (λ q. q ≡ (spec.selected select.now.anchor select.now.items select.now.filter targets.now (seen_by outside.now) opened).value) }
-    ensures notes { OnOk result (notes.new ≡ taken notes.old (spec.selected select.now.anchor select.now.items select.now.filter targets.now (seen_by outside.now) opened)) }
+    ensures value { IfOk result (λ q. q ≡ (spec.selected select.now.anchor select.now.items select.now.filter select.now.group_by select.now.having targets.now (seen_by outside.now) opened).value) }
+    ensures notes { OnOk result (notes.new ≡ taken notes.old (spec.selected select.now.anchor select.now.items select.now.filter select.now.group_by select.now.having targets.now (seen_by outside.now) opened)) }
 {
-    let parts = bind_inside(alloc, select, &opened, targets, outside, notes)?;
-    Ok(select_typed(select.anchor, opened, parts))
-}
-
-// A table, by its name.
-fn bind_table(
-    alloc: Global,
-    ident: &Ident,
-    alias: &Option<Ident>,
-    outside: &Sight<'_>,
-    notes: &mut Notes,
-) -> Result<Sourced, NoMemory>
-    ensures value { IfOk result (λ s. s ≡ (spec.table_judge ident.now alias.now (seen_by outside.now)).value) }
-    ensures notes { OnOk result (notes.new ≡ taken notes.old (spec.table_judge ident.now alias.now (seen_by outside.now))) }
-{
-    let table = table_named(&ident.name, outside.catalog);
-    table_source(alloc, ident, alias, table, &mut notes.least)
+    let row = bind_row(alloc, select, &opened, outside, notes)?;
+    let query = bind_grouped(alloc, select, opened, row, targets, outside, notes)?;
+    Ok(query)
 }
 
 /// A query with its names resolved, and what is noted on the way. Its columns are stored into what

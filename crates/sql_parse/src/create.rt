@@ -7,7 +7,7 @@ ghost use Rattle.sql_grammar.specs.Trees as trees;
 ghost use Rattle.sql_grammar.specs.Definitions as definitions;
 ghost use Rattle.sql_grammar.specs.Sql.{rules};
 
-use query_parse::{after, anchor_in, data_type, ident, only};
+use expr_parse::{ListItem, after, anchor_in, comma_list, data_type, ident};
 use sql_lex::{Kind, Sign, Word};
 use sqlite_items::Items;
 use std::alloc::Global;
@@ -85,19 +85,24 @@ fn column(alloc: Global, input: &mut Input<'_>, room: u32) -> Result<Column, Par
     })
 }
 
+// The columns of a table.
+struct TableColumns;
+
+impl ListItem for TableColumns {
+    type Tree = Column;
+
+    ghost item = { definitions.column };
+
+    fn read(alloc: Global, input: &mut Input<'_>, room: u32) -> Result<Column, ParseError> {
+        column(alloc, input, room)
+    }
+}
+
 #[tactic(auto, unfolding(sql_grammar::specs::Definitions::columns, sql_grammar::specs::Definitions::more_columns))]
 fn columns(alloc: Global, input: &mut Input<'_>, room: u32) -> Result<Items<Column>, ParseError>
     ensures { Reads (reading rules room definitions.columns input.old.rest.now) result input.new.rest.now }
 {
-    let first = column(alloc, input, room)?;
-    let mut found = only(alloc, first)?;
-    'more: while input.eat(Kind::Sign(Sign::Comma)) {
-        match column(alloc, input, room) {
-            Ok(next) => found.push(next)?,
-            Err(error) => return Err(error),
-        }
-    }
-    Ok(found)
+    comma_list::<TableColumns>(alloc, input, room)
 }
 
 #[tactic(auto, unfolding(sql_grammar::specs::Trees::bracketed))]
@@ -147,6 +152,19 @@ fn parameter(input: &mut Input<'_>, room: u32) -> Result<Parameter, ParseError>
     Ok(Parameter { name, data_type })
 }
 
+// The parameters of a function.
+struct FunctionParameters;
+
+impl ListItem for FunctionParameters {
+    type Tree = Parameter;
+
+    ghost item = { definitions.parameter };
+
+    fn read(_alloc: Global, input: &mut Input<'_>, room: u32) -> Result<Parameter, ParseError> {
+        parameter(input, room)
+    }
+}
+
 #[tactic(auto, unfolding(sql_grammar::specs::Definitions::parameters, sql_grammar::specs::Definitions::more_parameters))]
 fn parameters(
     alloc: Global,
@@ -155,15 +173,7 @@ fn parameters(
 ) -> Result<Items<Parameter>, ParseError>
     ensures { Reads (reading rules room definitions.parameters input.old.rest.now) result input.new.rest.now }
 {
-    let first = parameter(input, room)?;
-    let mut found = only(alloc, first)?;
-    'more: while input.eat(Kind::Sign(Sign::Comma)) {
-        match parameter(input, room) {
-            Ok(next) => found.push(next)?,
-            Err(error) => return Err(error),
-        }
-    }
-    Ok(found)
+    comma_list::<FunctionParameters>(alloc, input, room)
 }
 
 #[tactic(auto, unfolding(sql_grammar::specs::Definitions::parameters, sql_grammar::specs::Definitions::parameter, sql_grammar::specs::Trees::ident))]

@@ -6,7 +6,8 @@ ghost use Rattle.token_grammar.specs.Reads.{Reads};
 ghost use Rattle.sql_grammar.specs.Writing as writing;
 ghost use Rattle.sql_grammar.specs.Sql.{rules};
 
-use query_parse::{anchor_in, ident, values};
+use expr_parse::{anchor_in, ident};
+use query_parse::values;
 use sql_lex::{Kind, Word};
 use std::alloc::Global;
 use syntax_trees::{Anchor, Ident, Insert, Query};

@@ -1,7 +1,7 @@
 //! Expressions. What only has operands is one node, a word with its operands.
 
 use crate::{Anchor, ColumnName, DataType, Ident};
-use sql_values::{Comparison, Operator, Text};
+use sql_values::{Comparison, FoldKind, Operator, Text};
 use sqlite_items::{Boxed, Items};
 use std::mem::size_of;
 
@@ -86,6 +86,8 @@ pub enum Expr {
     /// A word with its operands. Its anchor is the word, the sign or the comparison's operator; of
     /// IN, also with NOT, it is IN, and of IS it is IS.
     Operation(Anchor, Operation, Items<Expr>),
+    /// An aggregate function (10.9) with its argument; COUNT(*) has none. Its anchor is its word.
+    Aggregate(Anchor, FoldKind, Items<Expr>),
     /// A chain of operators, read from the left, with at least one. Its anchor is the first
     /// operator.
     Chain(Boxed<Expr>, Items<Link>),

@@ -1,6 +1,6 @@
 //! Queries.
 
-use crate::{Anchor, Expr, Ident};
+use crate::{Anchor, ColumnName, Expr, Ident};
 use sqlite_items::{Boxed, Items};
 
 /// A query expression (ISO/IEC 9075-2, 7.17).
@@ -26,7 +26,8 @@ pub enum ValueRow {
     Row(Items<Expr>),
 }
 
-/// `SELECT items FROM tables [WHERE condition]` (ISO/IEC 9075-2, 7.16).
+/// `SELECT items FROM tables [WHERE condition] [GROUP BY columns] [HAVING condition]` (ISO/IEC
+/// 9075-2, 7.16).
 #[cycle(query)]
 #[derive(Drop)]
 pub struct Select {
@@ -38,6 +39,10 @@ pub struct Select {
     pub from: Items<FromItem>,
     /// The condition of WHERE. Without WHERE there is none.
     pub filter: Option<Expr>,
+    /// The columns of GROUP BY (7.13), of which there are none without GROUP BY.
+    pub group_by: Items<ColumnName>,
+    /// The condition of HAVING (7.14). Without HAVING there is none.
+    pub having: Option<Expr>,
 }
 
 /// An item of a select list (ISO/IEC 9075-2, 7.16).

@@ -1,8 +1,9 @@
 use Rattle.std.proofs.Common.{ap, refl, [], ◌∷◌, None}
 use Rattle.std.specs.Prelude.{codes}
+use Rattle.sql_values.specs.declared.fold.FoldKind.TheVariants.{Sum, Max}
 use Rattle.name_faults.specs.Faults.{Noted, least}
 use Rattle.psm_names.specs.declared.statement.BoundStmt.{BoundStmt}
-use Rattle.sql_names.specs.Examples.{null, name, call}
+use Rattle.sql_names.specs.Examples.{null, number, name, call, aggregate}
 use Rattle.psm_names.specs.Examples.{integer, new_parameter}
 use Rattle.psm_names.proofs.Rows.{select-row, values-row, insert-row, function-row}
 use Rattle.psm_names.proofs.each_fault_at_its_place.Goals as goal
@@ -31,5 +32,7 @@ returns c = record {
   no_key = refl;
   taken_before_no_key = refl;
   length_of_a_column = refl;
+  aggregate_in_a_result = ap (λ (x : Noted BoundStmt). least x.faults) (function-row (codes "G") [] (integer 8) (aggregate Sum 10 (number 12)));
+  aggregate_in_a_row = ap (λ (x : Noted BoundStmt). least x.faults) (insert-row (codes "T") ((null 5 ∷ aggregate Max 7 (number 9) ∷ []) ∷ []));
   free = refl;
 }

@@ -1,10 +1,8 @@
-use Rattle.std.proofs.Common.{map, sym, ap, ◌∙◌}
-use Rattle.rel_algebra.specs.Emit.{top, plan}
-use Rattle.rel_algebra.specs.Tree.{Select}
-use Rattle.catalog_store.specs.View.{exprs_of, from_of, item_of}
-use Rattle.catalog_store.specs.Widths.{width_in}
-use Rattle.catalog_store.proofs.Laws.{select_of-parts}
+use Rattle.std.proofs.Common.{map}
+use Rattle.rel_algebra.specs.PlanView.{tree_of}
+use Rattle.catalog_store.specs.View.{from_of, item_of}
 use Rattle.query_plan.proofs.Joining.{standing_first, standing_next, standing_whole, standing_nothing, derived_from}
+use Rattle.query_plan.proofs.Queries.{select_there}
 use Rattle.query_plan.proofs.+query.Goals as goal
 
 pub from::draft_from-loop-item-init : goal.from::draft_from-loop-item-init
@@ -34,7 +32,6 @@ from::draft_source-returns-in_ok-settled-in-Derived t c =
 pub plans::plan_select-returns : goal.plans::plan_select-returns
 plans::plan_select-returns t c =
     let k = c.args.catalog.now in
-    let s = c.args.select.now in
-    c.in_ok-selected.ensures (from_of (map (item_of k) c.as_slice.result.now)) c.in_ok-draft.ensures
-    ∙ (λ j. plan (Select (exprs_of k (c.as_slice-items.ensures j)) (from_of (map (item_of k) (c.as_slice.ensures j))) (exprs_of k (c.as_slice-2.ensures j))) (width_in k) (top 0))
-    ∙ ap (λ q. plan q (width_in k) (top 0)) (sym (select_of-parts k s))
+    let from = c.as_slice.result.now in
+    select_there k c.args.select.now c.as_slice-items.result.now c.as_slice-conjuncts.result.now from (tree_of c.in_ok-plan_over.field-0) c.as_slice.ensures c.as_slice-items.ensures
+    c.as_slice-conjuncts.ensures (c.in_ok-plan_over.ensures (from_of (map (item_of k) from)) c.in_ok-rows.ensures)

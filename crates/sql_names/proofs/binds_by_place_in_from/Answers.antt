@@ -1,7 +1,7 @@
 use Rattle.std.proofs.Common.{ap, []}
 use Rattle.name_faults.specs.Faults.{Noted}
 use Rattle.names_in_sight.specs.Sight.{at_top}
-use Rattle.sql_names.specs.declared.typed.TypedQuery.{TypedQuery}
+use Rattle.typed_parts.specs.declared.typed.TypedQuery.{TypedQuery}
 use Rattle.sql_names.specs.Examples.{catalog, joined, conjuncts}
 use Rattle.sql_names.proofs.Rows.{query_plain}
 use Rattle.sql_names.proofs.binds_by_place_in_from.Goals as goal

@@ -3,7 +3,7 @@ use Rattle.std.specs.Prelude.{codes}
 use Rattle.syntax_trees.specs.declared.expr.Operation.TheVariants.{Minus}
 use Rattle.name_faults.specs.Faults.{Noted, least}
 use Rattle.names_in_sight.specs.Sight.{at_top}
-use Rattle.sql_names.specs.declared.typed.TypedQuery.{TypedQuery}
+use Rattle.typed_parts.specs.declared.typed.TypedQuery.{TypedQuery}
 use Rattle.sql_names.specs.Examples.{number, text, name, qualified, word, item, table, aliased, select, select_where, t, s, on_x, catalog}
 use Rattle.sql_names.specs.Written.{Comma, Cross, Inner, Left}
 use Rattle.sql_names.proofs.Rows.{query_plain}

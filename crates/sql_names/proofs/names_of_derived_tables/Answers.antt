@@ -3,7 +3,7 @@ use Rattle.std.specs.Prelude.{codes}
 use Rattle.syntax_trees.specs.declared.expr.Operation.TheVariants.{Minus}
 use Rattle.name_faults.specs.Faults.{Noted, least}
 use Rattle.names_in_sight.specs.Sight.{at_top}
-use Rattle.sql_names.specs.declared.typed.TypedQuery.{TypedQuery}
+use Rattle.typed_parts.specs.declared.typed.TypedQuery.{TypedQuery}
 use Rattle.sql_names.specs.Examples.{number, text, name, qualified, word, item, named, star, derived, select, twice, once, t, s, called, at, catalog}
 use Rattle.sql_names.specs.Written.{Select, Values, Comma, exprs, froms}
 use Rattle.sql_names.proofs.Rows.{query_plain}

@@ -2,9 +2,9 @@ use Rattle.std.proofs.Common.{ap, [], ◌∷◌}
 use Rattle.std.specs.Prelude.{codes}
 use Rattle.name_faults.specs.Faults.{Noted, ◌>>=◌}
 use Rattle.names_in_sight.specs.Sight.{at_top}
-use Rattle.sql_names.specs.declared.typed.TypedQuery.{TypedQuery}
+use Rattle.typed_parts.specs.declared.typed.TypedQuery.{TypedQuery}
 use Rattle.sql_names.specs.Examples.{catalog, two_names, two_of_one_name, by_name}
-use Rattle.sql_names.specs.Order.{ordered_by}
+use Rattle.typed_parts.specs.Order.{ordered_by}
 use Rattle.sql_names.proofs.Rows.{query_plain}
 use Rattle.sql_names.proofs.order_by_output_columns.Goals as goal
 

@@ -1,13 +1,9 @@
-use Rattle.std.proofs.Common.{sym, ◌∙◌}
-use Rattle.std.proofs.lemmas.Result.{IfOk-weaker}
-use borrow.Author.Tests.{eqb-true}
 use Rattle.row_types.specs.OuterRows.{outer_rows}
 use Rattle.rel_algebra.specs.Plan.{collected, finished}
-use Rattle.plan_exec.proofs.Nodes.{none_passed}
+use Rattle.plan_exec.proofs.Receiving.{given_whole}
 use Rattle.plan_exec.proofs.ends.settled_passed.Goals as goal
 
-pub returns-then-is_empty-clause-rows : goal.returns-then-is_empty-clause-rows
-returns-then-is_empty-clause-rows g c =
-    IfOk-weaker c.settled.result _ _
-    (λ rows h. h ∙ sym (none_passed c.args.nodes.now (outer_rows c.args.outer.now) c.args.args.now (finished (collected c.args.rows)) (eqb-true _ _ (sym c.is_empty.ensures ∙ c.if-is_empty.true))))
-    c.settled.ensures.rows
+pub returns-then-takes_whole-clause-rows : goal.returns-then-takes_whole-clause-rows
+returns-then-takes_whole-clause-rows g c =
+    given_whole c.args.nodes.now (outer_rows c.args.outer.now) c.args.args.now c.args.into c.in_ok-list.list (finished (collected c.args.rows))
+    (c.takes_whole.ensures.nodes c.if-takes_whole.true) (c.takes_whole.ensures.list c.if-takes_whole.true) c.in_ok-list.ensures.rows

@@ -31,5 +31,5 @@ from_rows-loop-item-preserved t c =
 
 pub select-returns : goal.select-returns
 select-returns t c =
-    select_ends c.args.catalog.now c.args.query.now c.as_slice.result.now c.in_ok-rows.rows c.as_slice-2.result.now c.args.frame.now c.args.world.now c.from_rows.new.world c.records_of.new.world c.records_of.result
-    c.as_slice.ensures c.as_slice-2.ensures c.in_ok-rows.ensures c.records_of.ensures
+    select_ends c.args.catalog.now c.args.query.now c.as_slice.result.now c.in_ok-rows.rows c.as_slice-2.result.now c.args.frame.now c.args.world.now c.from_rows.new.world c.made_of.new.world c.made_of.result
+    c.as_slice.ensures c.as_slice-2.ensures c.in_ok-rows.ensures c.made_of.ensures

@@ -5,7 +5,7 @@ use Rattle.sql_grammar.specs.Sql as g
 use Rattle.sql_grammar.specs.Queries.{joined_on, comma_item, cross_join, left_join, inner_join, from_item, more_from_items, first_item, from_items}
 use Rattle.token_grammar.specs.Reading.{mapped}
 use Rattle.token_grammar.proofs.Laws.{each_step, each_smaller}
-use Rattle.query_parse.proofs.Begun.{after_first}
+use Rattle.expr_parse.proofs.Laws.{after_first}
 use Rattle.query_parse.proofs.queries.+queries.Goals as goal
 
 pub from_items-more-init : goal.from_items-more-init

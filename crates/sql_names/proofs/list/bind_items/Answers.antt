@@ -1,7 +1,7 @@
 use Rattle.std.proofs.Common.{◌∙◌, arith}
 use Rattle.names_in_sight.specs.Sight.{seen_by}
 use Rattle.sql_names.specs.Lists.{one_item}
-use Rattle.sql_names.proofs.Turns.{each-value, each-notes}
+use Rattle.typed_parts.proofs.Laws.{each-value, each-notes}
 use Rattle.sql_names.proofs.list.bind_items.Goals as goal
 
 pub loop-item-preserved : goal.loop-item-preserved

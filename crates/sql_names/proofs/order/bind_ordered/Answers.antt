@@ -1,8 +1,8 @@
 use Rattle.std.proofs.Common.{rules, []}
 use Rattle.names_in_sight.specs.Sight.{seen_by}
-use Rattle.sql_names.specs.Order.{ordered_by}
+use Rattle.typed_parts.specs.Order.{ordered_by}
 use Rattle.sql_names.specs.Queries.{judge_query}
-use Rattle.sql_names.proofs.Turns.{then-notes}
+use Rattle.typed_parts.proofs.Laws.{then-notes}
 use Rattle.sql_names.proofs.order.bind_ordered.Goals as goal
 
 pub returns-clause-notes : goal.returns-clause-notes

@@ -2,7 +2,7 @@ use Rattle.std.proofs.Common.{rules, ◌∙◌, arith}
 use Rattle.names_in_sight.specs.Sight.{seen_by}
 use Rattle.sql_names.specs.Queries.{from_judge}
 use Rattle.sql_names.proofs.Layers.{select-value, select-notes, comma-notes, cross-notes, inner-notes, left-notes, derived-notes}
-use Rattle.sql_names.proofs.Turns.{each-value, each-notes}
+use Rattle.typed_parts.proofs.Laws.{each-value, each-notes}
 use Rattle.sql_names.proofs.query.+query.Goals as goal
 
 pub bind_from-loop-item-preserved : goal.bind_from-loop-item-preserved

@@ -1,7 +1,7 @@
 use Rattle.std.proofs.Common.{◌≡◌, drop}
 use Rattle.name_faults.specs.Faults.{taken}
 use Rattle.names_in_sight.specs.Sight.{seen_by}
-use Rattle.sql_names.specs.Turns.{each_noted}
+use Rattle.typed_parts.specs.Turns.{each_noted}
 use Rattle.sql_names.specs.Queries.{from_judge, opened_of}
 use Rattle.sql_names.proofs.query.+query.Given as goal
 

@@ -1,7 +1,7 @@
 use Rattle.std.proofs.Common.{◌∙◌, arith}
 use Rattle.names_in_sight.specs.Sight.{seen_by}
 use Rattle.sql_names.specs.ValueRows.{one_row}
-use Rattle.sql_names.proofs.Turns.{each-value, each-notes}
+use Rattle.typed_parts.proofs.Laws.{each-value, each-notes}
 use Rattle.sql_names.proofs.values.bind_rows.Goals as goal
 
 pub loop-row-preserved : goal.loop-row-preserved

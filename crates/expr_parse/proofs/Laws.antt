@@ -1,0 +1,2 @@
+-- The laws that other crates' proofs use.
+pub use Rattle.expr_parse.proofs.Begun.{after_first}

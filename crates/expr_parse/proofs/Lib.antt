@@ -1,0 +1,4 @@
+pub mod Ranks
+pub mod Begun
+pub mod Lone
+pub mod Laws

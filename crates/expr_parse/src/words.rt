@@ -1,0 +1,417 @@
+//! Words and signs of expressions that hold no expression themselves.
+
+ghost use Rattle.std.specs.Prelude.{◌≡◌, ◌&&◌, ◌∷◌, [], drop, false, true, ℕ, Ok};
+ghost use Rattle.sql_grammar.specs.declared.function_word.FunctionWord.TheVariants as function_words;
+ghost use Rattle.sql_lex.specs.declared.sign.Sign.TheVariants as signs;
+ghost use Rattle.sql_lex.specs.declared.token.Kind.TheVariants as kinds;
+ghost use Rattle.syntax_trees.specs.declared.expr.Expr.TheVariants as tree;
+ghost use Rattle.token_grammar.specs.Grammar.{optional};
+ghost use Rattle.token_grammar.specs.Notation.{◌=>◌};
+ghost use Rattle.token_grammar.specs.Reading.{begins, first, mapped, reading};
+ghost use Rattle.token_grammar.specs.Reads.{Reads};
+ghost use Rattle.sql_grammar.specs.Trees as trees;
+ghost use Rattle.sql_grammar.specs.Expressions as expressions;
+ghost use Rattle.sql_grammar.specs.Sql.{rules};
+
+use crate::place::{anchor, anchor_in, choice, ident};
+use crate::types::data_type;
+use sql_grammar::{ChainLevel, FunctionWord};
+use sql_lex::{Kind, Sign, Word};
+use sql_values::{Comparison, FoldKind, Operator};
+use syntax_trees::{Anchor, ChainOperator, DataType, Ident, Literal, Operation, TruthTest};
+use token_grammar::{Input, ParseError, number_in, text_in};
+
+// TRUE, FALSE, UNKNOWN or NULL, with its anchor.
+#[tactic(auto, unfolding(sql_grammar::specs::Expressions::constant))]
+fn constant(input: &mut Input<'_>, room: u32) -> Result<(Literal, Anchor), ParseError>
+    ensures { Reads (reading rules room expressions.constant input.old.rest.now) result input.new.rest.now }
+{
+    let anchor = anchor(input);
+    if input.eat(Kind::Word(Word::True)) {
+        return Ok((Literal::True, anchor));
+    }
+    if input.eat(Kind::Word(Word::False)) {
+        return Ok((Literal::False, anchor));
+    }
+    if input.eat(Kind::Word(Word::Unknown)) {
+        return Ok((Literal::Unknown, anchor));
+    }
+    input.expect(Kind::Word(Word::Null))?;
+    Ok((Literal::Null, anchor))
+}
+
+/// A literal, with its anchor.
+#[tactic(auto, unfolding(sql_grammar::specs::Expressions::literal))]
+pub(crate) fn literal(input: &mut Input<'_>, room: u32) -> Result<(Literal, Anchor), ParseError>
+    ensures { Reads (reading rules room expressions.literal input.old.rest.now) result input.new.rest.now }
+{
+    if input.sees(Kind::Number) {
+        let token = input.expect(Kind::Number)?;
+        return Ok((Literal::Number(number_in(token)), anchor_in(token)));
+    }
+    if input.sees(Kind::Text) {
+        let token = input.expect(Kind::Text)?;
+        return Ok((Literal::Text(text_in(token).copied()?), anchor_in(token)));
+    }
+    constant(input, room)
+}
+
+/// Whether a literal begins.
+#[tactic(auto, unfolding(sql_grammar::specs::Expressions::literal, sql_grammar::specs::Expressions::constant))]
+pub(crate) fn begins_literal(input: &Input<'_>) -> bool
+    ensures { result ≡ begins (first expressions.literal) input.now.rest.now }
+{
+    input.sees_any(&[
+        Kind::Number,
+        Kind::Text,
+        Kind::Word(Word::True),
+        Kind::Word(Word::False),
+        Kind::Word(Word::Unknown),
+        Kind::Word(Word::Null),
+    ])
+}
+
+/// Whether a literal stands here before a comma or a closing bracket: then the expression that is
+/// read here is that literal. Rows of VALUES are made of these mostly, and to read one level by
+/// level tests the same two tokens some twenty times.
+pub(crate) fn is_lone_literal(input: &Input<'_>) -> bool
+    ensures here { result ≡ (begins (kinds.Sign signs.Comma ∷ kinds.Sign signs.RightParen ∷ []) (drop 1 input.now.rest.now) && begins (first expressions.literal) input.now.rest.now) }
+    ensures alone { result ≡ true → (room : ℕ) → reading rules room expressions.expr input.now.rest.now ≡ mapped (λ p. tree.Literal p.1 p.0) (reading rules room expressions.literal input.now.rest.now) }
+{
+    let mut after = Input { rest: input.rest };
+    after.take();
+    after.sees_any(&[Kind::Sign(Sign::Comma), Kind::Sign(Sign::RightParen)])
+        && begins_literal(input)
+}
+
+#[tactic(auto, unfolding(sql_grammar::specs::Expressions::unary_sign))]
+fn unary_sign(input: &mut Input<'_>, room: u32) -> Result<(Operation, Anchor), ParseError>
+    ensures { Reads (reading rules room expressions.unary_sign input.old.rest.now) result input.new.rest.now }
+{
+    let anchor = anchor(input);
+    if input.eat(Kind::Sign(Sign::Plus)) {
+        return Ok((Operation::Plus, anchor));
+    }
+    input.expect(Kind::Sign(Sign::Minus))?;
+    Ok((Operation::Minus, anchor))
+}
+
+/// A sign, with its anchor, if one stands here.
+#[tactic(auto, unfolding(sql_grammar::specs::Expressions::unary_sign))]
+pub(crate) fn if_sign(
+    input: &mut Input<'_>,
+    room: u32,
+) -> Result<Option<(Operation, Anchor)>, ParseError>
+    ensures { Reads (reading rules room (optional expressions.unary_sign) input.old.rest.now) result input.new.rest.now }
+{
+    if input.sees_any(&[Kind::Sign(Sign::Plus), Kind::Sign(Sign::Minus)]) {
+        Ok(Some(unary_sign(input, room)?))
+    } else {
+        Ok(None)
+    }
+}
+
+/// NOT, with its anchor, if it stands here.
+#[tactic(auto, unfolding(sql_grammar::specs::Expressions::not_word))]
+pub(crate) fn if_not(
+    input: &mut Input<'_>,
+    room: u32,
+) -> Result<Option<(Operation, Anchor)>, ParseError>
+    ensures { Reads (reading rules room (optional expressions.not_word) input.old.rest.now) result input.new.rest.now }
+{
+    let anchor = anchor(input);
+    if input.eat(Kind::Word(Word::Not)) {
+        Ok(Some((Operation::Not, anchor)))
+    } else {
+        Ok(None)
+    }
+}
+
+#[tactic(auto, unfolding(sql_grammar::specs::Expressions::comparison_sign))]
+fn comparison_sign(input: &mut Input<'_>, room: u32) -> Result<(Comparison, Anchor), ParseError>
+    ensures { Reads (reading rules room expressions.comparison_sign input.old.rest.now) result input.new.rest.now }
+{
+    choice(
+        input,
+        room,
+        Kind::Sign(Sign::Equals),
+        Comparison::Equals,
+        &[
+            (Kind::Sign(Sign::NotEquals), Comparison::NotEquals),
+            (Kind::Sign(Sign::LessThan), Comparison::LessThan),
+            (
+                Kind::Sign(Sign::LessThanOrEquals),
+                Comparison::LessThanOrEquals,
+            ),
+            (Kind::Sign(Sign::GreaterThan), Comparison::GreaterThan),
+            (
+                Kind::Sign(Sign::GreaterThanOrEquals),
+                Comparison::GreaterThanOrEquals,
+            ),
+        ],
+    )
+}
+
+/// A comparison, with its anchor.
+#[tactic(auto, unfolding(sql_grammar::specs::Expressions::comparison))]
+pub(crate) fn comparison(
+    input: &mut Input<'_>,
+    room: u32,
+) -> Result<(Operation, Anchor), ParseError>
+    ensures { Reads (reading rules room expressions.comparison input.old.rest.now) result input.new.rest.now }
+{
+    let compared = comparison_sign(input, room)?;
+    Ok((Operation::Compare(compared.0), compared.1))
+}
+
+/// Whether a comparison and what it compares with begin.
+#[tactic(auto, unfolding(sql_grammar::specs::Expressions::compared, sql_grammar::specs::Expressions::comparison, sql_grammar::specs::Expressions::comparison_sign))]
+pub(crate) fn begins_compared(input: &Input<'_>) -> bool
+    ensures { result ≡ begins (first expressions.compared) input.now.rest.now }
+{
+    input.sees_any(&[
+        Kind::Sign(Sign::Equals),
+        Kind::Sign(Sign::NotEquals),
+        Kind::Sign(Sign::LessThan),
+        Kind::Sign(Sign::LessThanOrEquals),
+        Kind::Sign(Sign::GreaterThan),
+        Kind::Sign(Sign::GreaterThanOrEquals),
+    ])
+}
+
+// NULL, TRUE, FALSE or UNKNOWN as what IS asks for, with its anchor.
+#[tactic(auto, unfolding(sql_grammar::specs::Expressions::truth_test))]
+fn truth_test(input: &mut Input<'_>, room: u32) -> Result<(TruthTest, Anchor), ParseError>
+    ensures { Reads (reading rules room expressions.truth_test input.old.rest.now) result input.new.rest.now }
+{
+    choice(
+        input,
+        room,
+        Kind::Word(Word::Null),
+        TruthTest::Null,
+        &[
+            (Kind::Word(Word::True), TruthTest::True),
+            (Kind::Word(Word::False), TruthTest::False),
+            (Kind::Word(Word::Unknown), TruthTest::Unknown),
+        ],
+    )
+}
+
+// What IS asks for, or IS NOT.
+#[tactic(auto, unfolding(sql_grammar::specs::Expressions::asked))]
+fn asked(input: &mut Input<'_>, room: u32) -> Result<Operation, ParseError>
+    ensures { Reads (reading rules room expressions.asked input.old.rest.now) result input.new.rest.now }
+{
+    let not = if_not(input, room)?;
+    let test = truth_test(input, room)?;
+    Ok(is_or_not(not, test.0))
+}
+
+fn is_or_not(not: Option<(Operation, Anchor)>, test: TruthTest) -> Operation
+    ensures { result ≡ expressions.is_or_not not test }
+{
+    match not {
+        None => Operation::Is(test),
+        Some(_) => Operation::IsNot(test),
+    }
+}
+
+/// IS and what it asks for, with its anchor.
+#[tactic(auto, unfolding(sql_grammar::specs::Expressions::tested))]
+pub(crate) fn tested(input: &mut Input<'_>, room: u32) -> Result<(Operation, Anchor), ParseError>
+    ensures { Reads (reading rules room expressions.tested input.old.rest.now) result input.new.rest.now }
+{
+    let token = input.expect(Kind::Word(Word::Is))?;
+    let anchor = anchor_in(token);
+    let operation = asked(input, room)?;
+    Ok((operation, anchor))
+}
+
+/// IN or NOT IN, with the anchor of IN.
+#[tactic(auto, unfolding(sql_grammar::specs::Expressions::in_word))]
+pub(crate) fn in_word(input: &mut Input<'_>, room: u32) -> Result<(Operation, Anchor), ParseError>
+    ensures { Reads (reading rules room expressions.in_word input.old.rest.now) result input.new.rest.now }
+{
+    if input.sees(Kind::Word(Word::In)) {
+        let token = input.expect(Kind::Word(Word::In))?;
+        return Ok((Operation::In, anchor_in(token)));
+    }
+    input.expect(Kind::Word(Word::Not))?;
+    let token = input.expect(Kind::Word(Word::In))?;
+    Ok((Operation::NotIn, anchor_in(token)))
+}
+
+/// An operator of a level, with its anchor.
+#[tactic(auto, unfolding(sql_grammar::specs::Expressions::operator))]
+pub(crate) fn operator(
+    input: &mut Input<'_>,
+    room: u32,
+    level: ChainLevel,
+) -> Result<(ChainOperator, Anchor), ParseError>
+    ensures { Reads (reading rules room (expressions.operator level) input.old.rest.now) result input.new.rest.now }
+{
+    match level {
+        ChainLevel::Or => choice(input, room, Kind::Word(Word::Or), ChainOperator::Or, &[]),
+        ChainLevel::And => choice(input, room, Kind::Word(Word::And), ChainOperator::And, &[]),
+        ChainLevel::Additive => choice(
+            input,
+            room,
+            Kind::Sign(Sign::Plus),
+            ChainOperator::Value(Operator::Add),
+            &[
+                (
+                    Kind::Sign(Sign::Minus),
+                    ChainOperator::Value(Operator::Subtract),
+                ),
+                (
+                    Kind::Sign(Sign::Concatenation),
+                    ChainOperator::Value(Operator::Concatenate),
+                ),
+            ],
+        ),
+        ChainLevel::Multiplicative => choice(
+            input,
+            room,
+            Kind::Sign(Sign::Asterisk),
+            ChainOperator::Value(Operator::Multiply),
+            &[(
+                Kind::Sign(Sign::Solidus),
+                ChainOperator::Value(Operator::Divide),
+            )],
+        ),
+    }
+}
+
+/// Whether a link of a level begins.
+#[tactic(auto, unfolding(sql_grammar::specs::Expressions::operator))]
+pub(crate) fn begins_link(input: &Input<'_>, level: ChainLevel) -> bool
+    ensures { result ≡ begins (first (expressions.link_at level)) input.now.rest.now }
+{
+    match level {
+        ChainLevel::Or => input.sees(Kind::Word(Word::Or)),
+        ChainLevel::And => input.sees(Kind::Word(Word::And)),
+        ChainLevel::Additive => input.sees_any(&[
+            Kind::Sign(Sign::Plus),
+            Kind::Sign(Sign::Minus),
+            Kind::Sign(Sign::Concatenation),
+        ]),
+        ChainLevel::Multiplicative => {
+            input.sees_any(&[Kind::Sign(Sign::Asterisk), Kind::Sign(Sign::Solidus)])
+        }
+    }
+}
+
+fn aggregate_word(kind: FoldKind) -> Word
+    ensures { result ≡ expressions.aggregate_word kind }
+{
+    match kind {
+        FoldKind::Count => Word::Count,
+        FoldKind::Sum => Word::Sum,
+        FoldKind::Avg => Word::Avg,
+        FoldKind::Min => Word::Min,
+        FoldKind::Max => Word::Max,
+    }
+}
+
+/// The word of a function, as it is spelled.
+pub(crate) fn word_of(function: FunctionWord) -> Word
+    ensures { result ≡ expressions.word_of function }
+{
+    match function {
+        FunctionWord::Coalesce => Word::Coalesce,
+        FunctionWord::Modulo => Word::Mod,
+        FunctionWord::CharLength => Word::CharLength,
+        FunctionWord::Substring => Word::Substring,
+        FunctionWord::Cast => Word::Cast,
+        FunctionWord::Aggregate(kind) => aggregate_word(kind),
+    }
+}
+
+// The aggregate whose word stands here, or MAX where none does.
+#[tactic(auto, unfolding(sql_grammar::specs::Expressions::aggregate, sql_grammar::specs::Expressions::function_call))]
+fn aggregate_kind(input: &Input<'_>) -> FoldKind
+    ensures { (room : ℕ) → reading rules room expressions.aggregate input.now.rest.now ≡ reading rules room (expressions.function_call (function_words.Aggregate result)) input.now.rest.now }
+{
+    if input.sees(Kind::Word(Word::Count)) {
+        return FoldKind::Count;
+    }
+    if input.sees(Kind::Word(Word::Sum)) {
+        return FoldKind::Sum;
+    }
+    if input.sees(Kind::Word(Word::Avg)) {
+        return FoldKind::Avg;
+    }
+    if input.sees(Kind::Word(Word::Min)) {
+        return FoldKind::Min;
+    }
+    FoldKind::Max
+}
+
+/// The function whose word stands here, or MAX where none does: what is read here as a function is
+/// a call of it.
+#[tactic(auto, unfolding(sql_grammar::specs::Expressions::function, sql_grammar::specs::Expressions::function_call))]
+pub(crate) fn function_word(input: &Input<'_>) -> FunctionWord
+    ensures { (room : ℕ) → reading rules room expressions.function input.now.rest.now ≡ reading rules room (expressions.function_call result) input.now.rest.now }
+{
+    if input.sees(Kind::Word(Word::Coalesce)) {
+        return FunctionWord::Coalesce;
+    }
+    if input.sees(Kind::Word(Word::Mod)) {
+        return FunctionWord::Modulo;
+    }
+    if input.sees(Kind::Word(Word::CharLength)) {
+        return FunctionWord::CharLength;
+    }
+    if input.sees(Kind::Word(Word::Substring)) {
+        return FunctionWord::Substring;
+    }
+    if input.sees(Kind::Word(Word::Cast)) {
+        return FunctionWord::Cast;
+    }
+    FunctionWord::Aggregate(aggregate_kind(input))
+}
+
+/// A period and the name after it.
+#[tactic(auto, unfolding(sql_grammar::specs::Expressions::dotted))]
+pub(crate) fn dotted(input: &mut Input<'_>, room: u32) -> Result<Ident, ParseError>
+    ensures { Reads (reading rules room expressions.dotted input.old.rest.now) result input.new.rest.now }
+{
+    input.expect(Kind::Sign(Sign::Period))?;
+    ident(input, room)
+}
+
+/// The same, if it stands here.
+#[tactic(auto, unfolding(sql_grammar::specs::Expressions::dotted))]
+pub(crate) fn if_dotted(input: &mut Input<'_>, room: u32) -> Result<Option<Ident>, ParseError>
+    ensures { Reads (reading rules room (optional expressions.dotted) input.old.rest.now) result input.new.rest.now }
+{
+    if input.sees(Kind::Sign(Sign::Period)) {
+        Ok(Some(dotted(input, room)?))
+    } else {
+        Ok(None)
+    }
+}
+
+/// Whether the argument that stands here is the `*` of COUNT. Any other is an expression.
+#[tactic(auto, unfolding(sql_grammar::specs::Expressions::argument, sql_grammar::specs::Expressions::all_rows))]
+pub(crate) fn is_all_rows(input: &Input<'_>, kind: FoldKind) -> bool
+    ensures all { result ≡ true → (room : ℕ) → reading rules room (expressions.argument kind) input.now.rest.now ≡ Ok ([], drop 1 input.now.rest.now) }
+    ensures one { result ≡ false → (room : ℕ) → reading rules room (expressions.argument kind) input.now.rest.now ≡ reading rules room (trees.only => expressions.expr) input.now.rest.now }
+{
+    match kind {
+        FoldKind::Count => input.sees(Kind::Sign(Sign::Asterisk)),
+        FoldKind::Sum => false,
+        FoldKind::Avg => false,
+        FoldKind::Min => false,
+        FoldKind::Max => false,
+    }
+}
+
+/// AS with the type after it.
+#[tactic(auto, unfolding(sql_grammar::specs::Expressions::as_type))]
+pub(crate) fn as_type(input: &mut Input<'_>, room: u32) -> Result<DataType, ParseError>
+    ensures { Reads (reading rules room expressions.as_type input.old.rest.now) result input.new.rest.now }
+{
+    input.expect(Kind::Word(Word::As))?;
+    data_type(input, room)
+}

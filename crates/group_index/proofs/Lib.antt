@@ -1,0 +1,4 @@
+pub mod Places
+pub mod OfGroups
+pub mod Entries
+pub mod Indexed

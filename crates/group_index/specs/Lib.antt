@@ -1,0 +1,4 @@
+pub mod Kept
+pub mod Folded
+pub mod Examples
+pub mod Indexed

@@ -1,0 +1,15 @@
+use Rattle.std.proofs.Common.{ap, []}
+use Rattle.name_faults.specs.Faults.{Noted}
+use Rattle.names_in_sight.specs.Sight.{at_top}
+use Rattle.typed_parts.specs.declared.typed.TypedQuery.{TypedQuery}
+use Rattle.sql_names.specs.Examples.{catalog, two_and_one, counted, once}
+use Rattle.sql_names.proofs.Rows.{query_plain}
+use Rattle.sql_names.proofs.binds_by_place_in_group.Goals as goal
+
+pub returns : goal.returns
+returns c = record {
+  tree = ap (λ (x : Noted TypedQuery). x.value.tree) (query_plain two_and_one [] (at_top catalog));
+  names = ap (λ (x : Noted TypedQuery). x.value.columns) (query_plain two_and_one [] (at_top catalog));
+  of_one_group = ap (λ (x : Noted TypedQuery). x.value.tree) (query_plain counted [] (at_top catalog));
+  of_no_group = ap (λ (x : Noted TypedQuery). x.value.tree) (query_plain once [] (at_top catalog));
+}

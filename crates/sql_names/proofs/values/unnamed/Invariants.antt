@@ -1,6 +1,0 @@
-use Rattle.std.proofs.Common.{◌≡◌, map, take}
-use Rattle.sql_names.specs.ValueRows.{unnamed}
-use Rattle.sql_names.proofs.values.unnamed.Given as goal
-
-abbrev pub invariant-loop-kind : goal.invariant-loop-kind
-invariant-loop-kind l = l.columns ≡ map unnamed (take l.kind-index l.kinds)

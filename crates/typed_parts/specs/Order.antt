@@ -1,0 +1,38 @@
+-- The columns of ORDER BY. ISO/IEC 9075-2, 10.10 (sort specification list) and 14.3 (cursor specification).
+use Rattle.std.specs.Prelude.{ℕ, true, List, [], ◌∷◌, ◌++◌}
+use Rattle.syntax_trees.specs.declared.anchor.Ident.{Ident}
+use Rattle.syntax_trees.specs.declared.query.SortSpecification.{SortSpecification}
+use Rattle.row_types.specs.declared.sort_key.SortKey.{SortKey}
+use Rattle.bound_trees.specs.declared.query.BoundQuery.{BoundQuery}
+use Rattle.bound_trees.specs.declared.query.BoundQuery.TheVariants as bound
+use Rattle.name_faults.specs.declared.fault.FaultKind.TheVariants.{UnknownName, DuplicateName}
+use Rattle.name_faults.specs.Faults.{Noted, give, ◌>>◌, as_value, fault_if}
+use Rattle.names_in_sight.specs.declared.output.Output.{Output}
+use Rattle.names_in_sight.specs.declared.output.Hit.{Hit}
+use Rattle.names_in_sight.specs.declared.output.Hit.TheVariants.{Nowhere, Once, Twice}
+use Rattle.names_in_sight.specs.Columns.{hits}
+use Rattle.typed_parts.specs.declared.typed.TypedQuery.{TypedQuery}
+use Rattle.typed_parts.specs.Turns.{each_noted}
+
+-- the place of the one output column of a name
+abbrev pub place_at : Ident → Hit → Noted ℕ
+place_at i Nowhere = fault_if true UnknownName i.anchor >> give 0
+place_at i (Once place kind) = give place
+place_at i Twice = fault_if true DuplicateName i.anchor >> give 0
+
+abbrev pub sort_key : SortSpecification → ℕ → SortKey
+sort_key s place = record { place = place; descending = s.descending }
+
+abbrev pub one_key : List Output → List SortKey → SortSpecification → Noted (List SortKey)
+one_key columns so s = as_value (λ place. so ++ sort_key s place ∷ []) (place_at s.name (hits s.name.name columns))
+
+abbrev pub keys_of : List Output → List SortSpecification → Noted (List SortKey)
+keys_of columns order = each_noted (one_key columns) [] order
+
+-- a query without ORDER BY is itself
+abbrev pub in_order_of : BoundQuery → List SortKey → BoundQuery
+in_order_of query [] = query
+in_order_of query (k ∷ ks) = bound.Ordered query (k ∷ ks)
+
+abbrev pub ordered_by : List SortSpecification → TypedQuery → Noted BoundQuery
+ordered_by order q = as_value (in_order_of q.tree) (keys_of q.columns order)

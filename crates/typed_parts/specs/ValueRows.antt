@@ -1,0 +1,61 @@
+-- The rows of VALUES, and what is asked of each. ISO/IEC 9075-2, 7.3 (table value constructor) and 9.2 (store assignment).
+use Rattle.std.specs.Prelude.{ℕ, ◌==◌, not, List, [], ◌∷◌, ◌++◌, map, length, replicate, None}
+use Rattle.syntax_trees.specs.declared.anchor.Anchor.{Anchor}
+use Rattle.syntax_trees.specs.declared.query.ValueRow.{ValueRow}
+use Rattle.syntax_trees.specs.declared.query.ValueRow.TheVariants.{Row}
+use Rattle.bound_trees.specs.declared.expr.BoundExpr.{BoundExpr}
+use Rattle.bound_trees.specs.declared.query.BoundRow.{BoundRow}
+use Rattle.bound_trees.specs.declared.query.BoundQuery.TheVariants as bound
+use Rattle.name_faults.specs.declared.fault.Fault.{Fault}
+use Rattle.name_faults.specs.declared.fault.FaultKind.TheVariants.{WrongCount}
+use Rattle.name_faults.specs.Faults.{fault_if}
+use Rattle.name_kinds.specs.declared.kind.Kind.{Kind}
+use Rattle.name_kinds.specs.declared.kind.Kind.TheVariants.{Null}
+use Rattle.name_kinds.specs.declared.kind.Head.{Head}
+use Rattle.name_kinds.specs.Kinds.{in_turn, joined_row}
+use Rattle.names_in_sight.specs.declared.output.Output.{Output}
+use Rattle.typed_parts.specs.declared.typed.Operands.{Operands}
+use Rattle.typed_parts.specs.declared.typed.TypedQuery.{TypedQuery}
+use Rattle.typed_parts.specs.declared.values.TypedRows.{TypedRows}
+
+-- ---- a row
+
+abbrev pub row_of : List BoundExpr → BoundRow
+row_of es = record { values = es }
+
+-- a row's first expression; a row without one has another token
+abbrev pub anchor_of_row : Anchor → List Head → Anchor
+anchor_of_row other [] = other
+anchor_of_row other (h ∷ hs) = h.at
+
+-- So many as there are columns, each of its column's kind so far, and of the kind of what it is stored into.
+abbrev pub row_faults : Anchor → List Kind → List Kind → List Head → List Fault
+row_faults at targets kinds hs =
+    fault_if (not (length hs == length kinds)) WrongCount (anchor_of_row at hs) ++ (in_turn kinds hs ++ in_turn targets hs)
+
+-- ---- rows
+
+-- one row more, whose kinds stand above those below it
+abbrev pub with_row : TypedRows → Operands → TypedRows
+with_row so o = record { kinds = joined_row so.kinds o.heads; rows = so.rows ++ row_of o.trees ∷ [] }
+
+abbrev pub length_of : ValueRow → ℕ
+length_of (Row es) = length es
+
+-- how many expressions the first row has
+abbrev pub width_of : List ValueRow → ℕ
+width_of [] = 0
+width_of (r ∷ rs) = length_of r
+
+-- columns of which no value is known yet
+abbrev pub no_rows : ℕ → TypedRows
+no_rows width = record { kinds = replicate width Null; rows = [] }
+
+-- ---- VALUES as a query
+
+abbrev pub unnamed : Kind → Output
+unnamed kind = record { name = None; kind = kind }
+
+-- its columns have no names
+abbrev pub values_typed : Anchor → TypedRows → TypedQuery
+values_typed at v = record { at = at; columns = map unnamed v.kinds; tree = bound.Values v.rows }

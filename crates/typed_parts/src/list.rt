@@ -1,0 +1,151 @@
+//! Output columns (ISO/IEC 9075-2, 7.16).
+
+ghost use Rattle.std.specs.Prelude.{◌≡◌, IfOk, OnOk, map};
+ghost use Rattle.name_faults.specs.Faults.{taken};
+ghost use Rattle.names_in_sight.specs.Sight.{level_by};
+ghost use Rattle.typed_parts.specs.Lists as spec;
+
+use crate::aggregates::Parts;
+use crate::parts::bind_found;
+use crate::typed::Typed;
+use bound_trees::BoundExpr;
+use name_faults::Notes;
+use name_kinds::Head;
+use names_in_sight::{Item, Level, Output, column_of, copied};
+use sql_values::{Name, NoMemory};
+use sqlite_items::Items;
+use std::alloc::Global;
+use syntax_trees::{Anchor, Expr, Ident};
+
+/// The output columns so far, what is known of each, and what it is bound to, and the parts of the
+/// group so far.
+#[derive(Drop)]
+pub struct Outputs {
+    pub columns: Items<Output>,
+    pub heads: Items<Head>,
+    pub trees: Items<BoundExpr>,
+    pub parts: Parts,
+}
+
+/// No output column, with the parts of the group so far.
+pub fn no_outputs(alloc: Global, parts: Parts) -> Outputs
+    ensures { result ≡ spec.no_outputs parts }
+{
+    Outputs {
+        columns: Items::new(alloc),
+        heads: Items::new(alloc),
+        trees: Items::new(alloc),
+        parts,
+    }
+}
+
+/// One output column more.
+pub fn add_output(so: &mut Outputs, name: Option<Name>, typed: Typed) -> Result<(), NoMemory>
+    ensures { OnOk result (so.new ≡ spec.with_output so.old name (record { value = typed; parts = so.old.parts })) }
+{
+    so.columns.push(Output {
+        name,
+        kind: typed.head.kind,
+    })?;
+    so.heads.push(typed.head)?;
+    so.trees.push(typed.tree)?;
+    Ok(())
+}
+
+fn next(place: usize) -> Result<usize, NoMemory>
+    ensures { IfOk result (λ n. n ≡ spec.next place) }
+{
+    match place.checked_add(1) {
+        Some(place) => Ok(place),
+        None => Err(NoMemory),
+    }
+}
+
+// The next column of the row, which is judged at the `*`.
+fn star_column(
+    at: Anchor,
+    level: &Level<'_>,
+    column: &Output,
+    place: usize,
+    so: &mut Outputs,
+    notes: &mut Notes,
+) -> Result<usize, NoMemory>
+    ensures value { IfOk result (λ n. spec.placed n so.new ≡ (spec.star_column at (level_by level.now) (spec.placed place so.old) column.now).value) }
+    ensures notes { OnOk result (notes.new ≡ taken notes.old (spec.star_column at (level_by level.now) (spec.placed place so.old) column.now)) }
+{
+    let found = column_of(0, place, column.kind, level.grouped, level.keys);
+    let typed = bind_found(at, found, notes);
+    add_output(so, copied(&column.name)?, typed)?;
+    next(place)
+}
+
+// The columns of an item in a row that begins at another column.
+fn star_item(
+    at: Anchor,
+    level: &Level<'_>,
+    item: &Item,
+    so: &mut Outputs,
+    notes: &mut Notes,
+) -> Result<(), NoMemory>
+    ensures value { OnOk result (so.new ≡ (spec.star_item at (level_by level.now) so.old item.now).value) }
+    ensures notes { OnOk result (notes.new ≡ taken notes.old (spec.star_item at (level_by level.now) so.old item.now)) }
+{
+    let columns = item.columns.as_slice();
+    let mut place = item.first.saturating_sub(level.base);
+    for column in columns {
+        place = star_column(at, level, column, place, so, notes)?;
+    }
+    Ok(())
+}
+
+fn star_items(
+    at: Anchor,
+    level: &Level<'_>,
+    so: &mut Outputs,
+    notes: &mut Notes,
+) -> Result<(), NoMemory>
+    ensures value { OnOk result (so.new ≡ (spec.star_items at (level_by level.now) so.old level.now.items.now).value) }
+    ensures notes { OnOk result (notes.new ≡ taken notes.old (spec.star_items at (level_by level.now) so.old level.now.items.now)) }
+{
+    for item in level.items {
+        star_item(at, level, item, so, notes)?;
+    }
+    Ok(())
+}
+
+/// `*`: the columns of all items of the innermost query, in FROM's order.
+pub fn star(
+    at: Anchor,
+    levels: &[Level<'_>],
+    so: &mut Outputs,
+    notes: &mut Notes,
+) -> Result<(), NoMemory>
+    ensures value { OnOk result (so.new ≡ (spec.star at (map level_by levels.now) so.old).value) }
+    ensures notes { OnOk result (notes.new ≡ taken notes.old (spec.star at (map level_by levels.now) so.old)) }
+{
+    match levels {
+        [level, ..] => star_items(at, level, so, notes),
+        [] => Ok(()),
+    }
+}
+
+// The name that an expression has by itself.
+fn own_name(expr: &Expr) -> Result<Option<Name>, NoMemory>
+    ensures { IfOk result (λ n. n ≡ spec.own_name expr.now) }
+{
+    match expr {
+        Expr::Name(column) => Ok(Some(column.name.name.copied()?)),
+        Expr::Literal(_, _) | Expr::Call(_, _) | Expr::Aggregate(_, _, _) => Ok(None),
+        Expr::Operation(_, _, _) | Expr::Chain(_, _) => Ok(None),
+    }
+}
+
+/// The name that is written, or its own.
+pub fn title(alias: &Option<Ident>, expr: &Expr) -> Result<Option<Name>, NoMemory>
+    ensures { IfOk result (λ n. n ≡ spec.titled alias.now (spec.own_name expr.now)) }
+{
+    match alias {
+        Some(ident) => Ok(Some(ident.name.copied()?)),
+        None => own_name(expr),
+    }
+}
