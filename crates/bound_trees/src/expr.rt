@@ -3,6 +3,7 @@
 ghost use Rattle.std.specs.Prelude.{◌≡◌};
 ghost use Rattle.bound_trees.specs.Operands.{takes};
 
+use crate::BoundQuery;
 use sql_values::{Comparison, Name, Operator, SqlType, Value};
 use sqlite_items::{Boxed, Items};
 
@@ -79,6 +80,12 @@ pub enum BoundExpr {
     Chain(Boxed<BoundExpr>, Items<BoundLink>),
     /// A call of a function, by its name, with its arguments (10.4).
     Call(Name, Items<BoundExpr>),
+    /// A scalar subquery (7.19): the value of its one row, NULL where it has none.
+    Single(Boxed<BoundQuery>),
+    /// EXISTS (8.10): whether the query has a row.
+    Exists(Boxed<BoundQuery>),
+    /// IN over a query (8.4): the left side, and the query, which has one column.
+    In(Boxed<BoundExpr>, Boxed<BoundQuery>),
 }
 
 /// An operator and what stands right of it.

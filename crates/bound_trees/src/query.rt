@@ -6,13 +6,15 @@ use sql_values::{FoldKind, Name};
 use sqlite_items::{Boxed, Items};
 
 /// A row of VALUES (ISO/IEC 9075-2, 7.3).
+#[cycle(bound)]
 #[derive(Drop)]
-pub struct BoundRow {
-    pub values: Items<BoundExpr>,
+pub enum BoundRow {
+    /// Its values, of which there is at least one.
+    Row(Items<BoundExpr>),
 }
 
 /// A query (7.17).
-#[cycle(query)]
+#[cycle(bound)]
 #[derive(Drop)]
 pub enum BoundQuery {
     Select(BoundSelect),
@@ -24,7 +26,7 @@ pub enum BoundQuery {
 
 /// An item of FROM, and how it is joined to those before it (7.5 and 7.10). A comma joins what
 /// stands before it with all that stands from there on to the next one.
-#[cycle(query)]
+#[cycle(bound)]
 #[derive(Drop)]
 pub enum BoundFromItem {
     /// The first, or one after a comma.
@@ -38,7 +40,7 @@ pub enum BoundFromItem {
 }
 
 /// Where the rows of an item of FROM come from (7.6).
-#[cycle(query)]
+#[cycle(bound)]
 #[derive(Drop)]
 pub enum BoundSource {
     /// A table, by its name.
@@ -51,6 +53,7 @@ pub enum BoundSource {
 /// grouping columns, and then the arguments of the aggregates, which are those of the select list
 /// from left to right and then those of HAVING. The row of a group has its grouping columns and then
 /// its finished aggregates, so that each part and what becomes of it stand at one place.
+#[cycle(bound)]
 #[derive(Drop)]
 pub struct BoundGrouping {
     /// How many of the parts are grouping columns.
@@ -66,7 +69,7 @@ pub struct BoundGrouping {
 /// A query over FROM (7.16): the select list, FROM, the top conjuncts of WHERE, and how it is
 /// grouped, where it is. In WHERE, and in the list of a query that is not grouped, the row is that
 /// of all of FROM; in the list and in HAVING of a grouped one it is the row of a group.
-#[cycle(query)]
+#[cycle(bound)]
 #[derive(Drop)]
 pub struct BoundSelect {
     pub items: Items<BoundExpr>,

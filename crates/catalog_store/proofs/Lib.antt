@@ -1,7 +1,9 @@
+pub mod Layers
 pub mod Trees
-pub mod Called
+pub mod Kept
 pub mod Named
 pub mod Sound
+pub mod LastingTrees
 pub mod Lasting
 pub mod Planned
 pub mod Dropped

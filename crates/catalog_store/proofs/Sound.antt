@@ -6,8 +6,9 @@ use Rattle.std.specs.Map.{lookup}
 use Rattle.catalog_store.specs.declared.entry.Object.{Object as HeldObject}
 use Rattle.catalog_store.specs.declared.entry.Object.TheVariants.{Table, Function as FunctionRecord}
 use Rattle.rel_algebra.specs.Tree.{Expr, Function as FunctionTree}
-use Rattle.catalog_store.specs.Catalog.{Object, FunctionObject, Catalog, object_named}
-use Rattle.catalog_store.specs.Calls.{CallPlace, AllFit, calls_in}
+use Rattle.rel_algebra.specs.Plain.{planned_expr}
+use Rattle.catalog_store.specs.Catalog.{Object, TableObject, FunctionObject, Catalog, object_named}
+use Rattle.catalog_store.specs.Uses.{calls, reads, Uses, AllFit, uses_in}
 use Rattle.catalog_store.specs.Entries.{object_of, entry_of, with_all, ObjectFits, Stands, AreSound}
 use Rattle.catalog_store.proofs.Named.{bytes_swap, named_kept, named_after, named_more}
 use Rattle.catalog_store.proofs.Trees.{Same, same_tree, fit_in_both}
@@ -40,29 +41,35 @@ kept_in_all name known (e ∷ es) o h = kept_in_all name (grown known e) es o (n
 
 -- ---- an object that fits stands for the same in the whole
 
-same_calls : (known : Catalog) (es : List Held) (height : ℕ) (cs : List CallPlace) → AllFit known height cs → Same known (with_all known es) cs
-same_calls known es height [] fit = tt
-same_calls known es height (c ∷ cs) fit =
-    (kept_in_all c.name known es (FunctionObject fit.0.function) fit.0.stands ∙ sym fit.0.stands, same_calls known es height cs fit.1)
+same_uses : (known : Catalog) (es : List Held) (height : ℕ) (us : Uses) → AllFit known height us → Same known (with_all known es) us
+same_uses known es height [] fit = tt
+same_uses known es height (calls name n ∷ us) fit =
+    (kept_in_all name known es (FunctionObject fit.0.function) fit.0.stands ∙ sym fit.0.stands, same_uses known es height us fit.1)
+same_uses known es height (reads name ∷ us) fit =
+    (kept_in_all name known es (TableObject fit.0.row_type) fit.0.stands ∙ sym fit.0.stands, same_uses known es height us fit.1)
 
--- an object stands for the same where its calls do
-abbrev pub SameCalls : Catalog → Catalog → HeldObject → Type 0
-SameCalls known more (Table row_type) = Unit {0}
-SameCalls known more (FunctionRecord r) = Same known more (calls_in r.body)
+-- an object stands for the same where what it uses does
+abbrev pub SameUses : Catalog → Catalog → HeldObject → Type 0
+SameUses known more (Table row_type) = Unit {0}
+SameUses known more (FunctionRecord r) = Same known more (uses_in r.body)
 
-pub same_object : (known more : Catalog) (o : HeldObject) → SameCalls known more o → object_of more o ≡ object_of known o
+pub same_object : (known more : Catalog) (o : HeldObject) → SameUses known more o → object_of more o ≡ object_of known o
 same_object known more (Table row_type) s = refl
 same_object known more (FunctionRecord r) s =
     ap (λ (tree : Expr). FunctionObject (record { parameters = r.head.parameters; returns = r.head.returns; height = r.head.height; uses = r.head.uses; routine = FunctionTree false r.head.parameters r.head.returns tree }))
     (same_tree known more r.body s)
 
-pub same_fits : (known more : Catalog) (o : HeldObject) → SameCalls known more o → ObjectFits known o → ObjectFits more o
+pub same_fits : (known more : Catalog) (o : HeldObject) → SameUses known more o → ObjectFits known o → ObjectFits more o
 same_fits known more (Table row_type) s fits = fits
-same_fits known more (FunctionRecord r) s fits = record { calls = fit_in_both known more r.head.height (calls_in r.body) s fits.calls; uses = fits.uses }
+same_fits known more (FunctionRecord r) s fits = record {
+  all = fit_in_both known more r.head.height (uses_in r.body) s fits.all;
+  uses = fits.uses;
+  planned = ap planned_expr (same_tree known more r.body s) ∙ fits.planned;
+}
 
-pub same_in_all : (known : Catalog) (es : List Held) (o : HeldObject) → ObjectFits known o → SameCalls known (with_all known es) o
+pub same_in_all : (known : Catalog) (es : List Held) (o : HeldObject) → ObjectFits known o → SameUses known (with_all known es) o
 same_in_all known es (Table row_type) fits = tt
-same_in_all known es (FunctionRecord r) fits = same_calls known es r.head.height (calls_in r.body) fits.calls
+same_in_all known es (FunctionRecord r) fits = same_uses known es r.head.height (uses_in r.body) fits.all
 
 -- ---- look-up
 

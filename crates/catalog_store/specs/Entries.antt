@@ -1,13 +1,14 @@
 -- Which plain catalog the entries in memory stand for, and when they fit. ISO/IEC 9075-2, 4.17
 -- (schemas) and 10.4 (routine invocation).
-use Rattle.std.specs.Prelude.{◌≡◌, ℕ, false, List, [], ◌∷◌, ◌++◌, None, Some, IsTrue}
+use Rattle.std.specs.Prelude.{◌≡◌, ℕ, true, false, List, [], ◌∷◌, ◌++◌, None, Some, IsTrue}
 use Rattle.row_types.specs.Rows.{has_key_columns}
 use Rattle.rel_algebra.specs.Tree.{Function as FunctionTree}
 use Rattle.catalog_store.specs.declared.entry.Object.{Object as HeldObject}
 use Rattle.catalog_store.specs.declared.entry.Object.TheVariants.{Table, Function as FunctionRecord}
 use Rattle.catalog_store.specs.declared.entry.RoutineRecord.{RoutineRecord}
 use Rattle.catalog_store.specs.Catalog.{Function, Object, TableObject, FunctionObject, Entry, Catalog, object_named}
-use Rattle.catalog_store.specs.Calls.{AllFit, calls_in, names_called}
+use Rattle.rel_algebra.specs.Plain.{planned_expr}
+use Rattle.catalog_store.specs.Uses.{AllFit, uses_in, names_used, SameNames}
 use Rattle.catalog_store.specs.Kept.{IsKept}
 use Rattle.catalog_store.specs.View.{tree_of}
 
@@ -37,11 +38,12 @@ with_all known (e ∷ es) = with_all (known ++ entry_of known e.0 e.1 ∷ []) es
 abbrev pub plain : List (List ℕ × HeldObject) → Catalog
 plain es = with_all [] es
 
--- a function fits a catalog: so does each call in its body, below the function's height, and its
--- head says which functions it calls
+-- A function fits a catalog where each call in its body does, below the function's height, and each
+-- table that its body reads; its head says which names its body uses, and its body has a plan.
 pub record FunctionFits (known : Catalog) (r : RoutineRecord) : Type 0 where
-  pub calls : AllFit known r.head.height (calls_in r.body)
-  pub uses : r.head.uses ≡ names_called (calls_in r.body)
+  pub all : AllFit known r.head.height (uses_in r.body)
+  pub uses : SameNames r.head.uses (names_used (uses_in r.body))
+  pub planned : planned_expr (tree_of known r.body) ≡ true
 
 -- an object fits a catalog; a table does where its key columns are columns of its own
 abbrev pub ObjectFits : Catalog → HeldObject → Type 0

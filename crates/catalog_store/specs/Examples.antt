@@ -1,15 +1,25 @@
 -- Worked rows, which hold by computation.
-use Rattle.std.specs.Prelude.{ℕ, true, false, pos, ◌≡◌, List, [], ◌∷◌, None, Some, codes}
+use Rattle.std.specs.Prelude.{ℕ, true, false, pos, ◌≡◌, List, [], ◌∷◌, ◌++◌, None, Some, codes}
 use Rattle.sql_values.specs.declared.value.Value.TheVariants.{Int, Bool as Truth}
 use Rattle.sql_values.specs.declared.value.SqlType.TheVariants.{Integer}
 use Rattle.sql_values.specs.declared.operators.Operator.TheVariants.{Add}
-use Rattle.rel_algebra.specs.Tree.{Expr, Literal, Column, Chain, Call, NoLink, MoreLinks, NoExpr, MoreExprs, Function as FunctionTree, From, Table, Cross, Inner, LeftOuter, Select, Grouped, Count}
+use Rattle.rel_algebra.specs.Tree.{Expr, Literal, Column, Chain, Call, NoLink, MoreLinks, NoExpr, MoreExprs, Function as FunctionTree, From, Table, Cross, Inner, LeftOuter, Select, Grouped, Count, Single}
 use Rattle.rel_algebra.specs.World.{World, Gives, no_self, no_frame}
 use Rattle.rel_algebra.specs.Meaning.{ev}
 use Rattle.catalog_store.specs.Catalog.{TableObject, FunctionObject, Entry, Catalog, object_named, routine_named, missing}
 use Rattle.catalog_store.specs.Users.{users_of, without}
+use Rattle.bound_trees.specs.declared.expr.BoundExpr.{BoundExpr}
 use Rattle.bound_trees.specs.declared.expr.BoundExpr.TheVariants as bound
-use Rattle.catalog_store.specs.View.{after_comma, crossing, matching, matching_or_nulls, from_of, selected}
+use Rattle.bound_trees.specs.declared.query.BoundFromItem.TheVariants as item
+use Rattle.bound_trees.specs.declared.query.BoundGrouping.{BoundGrouping, roll-BoundGrouping}
+use Rattle.bound_trees.specs.declared.query.BoundQuery.TheVariants as query
+use Rattle.bound_trees.specs.declared.query.BoundSelect.{BoundSelect, roll-BoundSelect}
+use Rattle.bound_trees.specs.declared.query.BoundSource.TheVariants as source
+use Rattle.catalog_store.specs.declared.entry.Object.TheVariants.{Function as FunctionRecord}
+use Rattle.catalog_store.specs.declared.entry.RoutineRecord.{RoutineRecord}
+use Rattle.catalog_store.specs.Entries.{entry_of}
+use Rattle.catalog_store.specs.Uses.{calls, reads, uses_in, names_used, SameNames}
+use Rattle.catalog_store.specs.View.{after_comma, crossing, matching, matching_or_nulls, from_of, selected, tree_of}
 
 -- CREATE TABLE T (K INTEGER PRIMARY KEY)
 abbrev pub table : Entry
@@ -49,6 +59,8 @@ pub record ObjectsByName : Type 0 where
 pub record UsersOfNames : Type 0 where
   pub used : users_of (codes "ONE") known ≡ 1
   pub unused : users_of (codes "TWO") known ≡ 0
+  -- nothing reads the table
+  pub unread : users_of (codes "T") known ≡ 0
   -- a function isn't among its own users
   pub itself : users_of (codes "ONE") (entry (codes "ONE") 1 (codes "ONE" ∷ []) (number 1) ∷ []) ≡ 0
 
@@ -73,8 +85,34 @@ pub record ItemsFromTheLeft : Type 0 where
 -- A select over FROM T without WHERE.
 pub record GroupedOrNot : Type 0 where
   -- SELECT COUNT(*): the list is that of the group's row
-  pub grouped : selected known (Some (record { keys = 0; parts = bound.Literal (Truth true) ∷ []; aggregates = Count ∷ []; having = [] }))
+  pub grouped : selected (Some (record { keys = 0; parts = MoreExprs (Literal (Truth true)) NoExpr; aggregates = Count ∷ []; having = NoExpr }))
       (MoreExprs (Column 0 0) NoExpr) (table_at (codes "T")) NoExpr
       ≡ Grouped (Table (codes "T")) NoExpr 0 (MoreExprs (Literal (Truth true)) NoExpr) (Count ∷ []) NoExpr (MoreExprs (Column 0 0) NoExpr)
   -- SELECT K: without a grouping the list is that of the row of FROM
-  pub plain : selected known None (MoreExprs (Column 0 0) NoExpr) (table_at (codes "T")) NoExpr ≡ Select (MoreExprs (Column 0 0) NoExpr) (Table (codes "T")) NoExpr
+  pub plain : selected None (MoreExprs (Column 0 0) NoExpr) (table_at (codes "T")) NoExpr ≡ Select (MoreExprs (Column 0 0) NoExpr) (Table (codes "T")) NoExpr
+
+-- SELECT COUNT(*) FROM T
+abbrev pub all_rows : BoundGrouping
+all_rows = roll-BoundGrouping (record { keys = 0; parts = bound.Literal (Truth true) ∷ []; aggregates = Count ∷ []; having = [] })
+
+abbrev pub count_of_rows : BoundSelect
+count_of_rows =
+    roll-BoundSelect (record { items = bound.Column 0 0 ∷ []; from = item.Comma (source.Table (codes "T")) ∷ []; conjuncts = []; grouping = Some all_rows })
+
+-- HOW_MANY (): RETURN (SELECT COUNT(*) FROM T)
+abbrev pub how_many_body : BoundExpr
+how_many_body = bound.Single (query.Select count_of_rows)
+
+abbrev pub how_many : RoutineRecord
+how_many = record { head = record { parameters = []; returns = Integer; height = 1; uses = codes "T" ∷ [] }; body = how_many_body; plan = None }
+
+-- A body that reads a table uses it.
+pub record TablesInBodies : Type 0 where
+  pub reading : uses_in how_many_body ≡ reads (codes "T") ∷ []
+  pub head : SameNames how_many.head.uses (names_used (uses_in how_many_body))
+  pub users : users_of (codes "T") (known ++ entry_of known (codes "HOW_MANY") (FunctionRecord how_many) ∷ []) ≡ 1
+  -- NEXT() IN (SELECT COUNT(*) FROM T), from left to right
+  pub both : uses_in (bound.In (bound.Call (codes "NEXT") []) (query.Select count_of_rows)) ≡ calls (codes "NEXT") 0 ∷ reads (codes "T") ∷ []
+  -- the tree that a call of HOW_MANY runs
+  pub tree : tree_of known how_many_body
+      ≡ Single (Grouped (Table (codes "T")) NoExpr 0 (MoreExprs (Literal (Truth true)) NoExpr) (Count ∷ []) NoExpr (MoreExprs (Column 0 0) NoExpr))

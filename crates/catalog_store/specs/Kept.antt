@@ -1,11 +1,12 @@
 -- The plan that is kept with a function: what the emitter makes of its body, its parameters the arguments. ISO/IEC 9075-2, 10.4 (routine
 -- invocation).
 use Rattle.std.specs.Prelude.{◌≡◌, false, List, [], ◌∷◌, length, Option, Some, None}
-use Rattle.rel_algebra.specs.declared.plan.Node.{Node}
-use Rattle.rel_algebra.specs.declared.plan.Node.TheVariants as node
+use Rattle.rel_algebra.specs.declared.plan.Node.{Node, out-Node}
+use Rattle.rel_algebra.specs.declared.plan.Node.TheOpen.{Node-F}
+use Rattle.rel_algebra.specs.declared.plan.Plan.{Plan}
 use Rattle.rel_algebra.specs.Tree.{Function as FunctionTree}
-use Rattle.rel_algebra.specs.Plan.{Scalars, Nodes, no_node, extend_by}
-use Rattle.rel_algebra.specs.PlanView.{scalar_of, scalars_of}
+use Rattle.rel_algebra.specs.Plan.{Scalar, Scalars, Kind, PlanTree, Nodes, no_node, extend_by, apply_by}
+use Rattle.rel_algebra.specs.PlanView.{scalar_of, scalars_of, kind_of, tree_of as plan_tree_of}
 use Rattle.rel_algebra.specs.Emit.{Emitted, emit_body, top}
 use Rattle.catalog_store.specs.declared.entry.FunctionPlan.{FunctionPlan}
 use Rattle.catalog_store.specs.declared.entry.RoutineRecord.{RoutineRecord}
@@ -18,11 +19,20 @@ abbrev pub extended : Scalars → Option Nodes → Option Nodes
 extended ss None = None
 extended ss (Some rest) = Some (extend_by ss rest)
 
+abbrev pub applied : Scalar → Kind → PlanTree → Option Nodes → Option Nodes
+applied when kind inner None = None
+applied when kind inner (Some rest) = Some (apply_by when kind inner rest)
+
+-- a run with this node more below it, if it adds columns
+abbrev pub with_below : Node-F Node Plan → Option Nodes → Option Nodes
+with_below (Node-F.Extend ss) rest = extended (scalars_of ss) rest
+with_below (Node-F.Apply s k inner) rest = applied (scalar_of s) (kind_of k) (plan_tree_of inner) rest
+with_below _ rest = None
+
 -- the run of nodes that a list of nodes is, where each of them adds columns
 abbrev pub run_of : List Node → Option Nodes
 run_of [] = Some no_node
-run_of (node.Extend ss ∷ ns) = extended (scalars_of ss) (run_of ns)
-run_of (_ ∷ ns) = None
+run_of (n ∷ ns) = with_below (out-Node n) (run_of ns)
 
 -- a plan in memory is this emission
 pub record IsPlan (p : FunctionPlan) (e : Emitted) : Type 0 where

@@ -1,6 +1,6 @@
 pub mod Catalog
+pub mod Uses
 pub mod View
-pub mod Calls
 pub mod Widths
 pub mod Kept
 pub mod Entries

@@ -1,22 +1,21 @@
 -- Which plain tree a bound tree stands for: a call stands for the tree of the function that it
 -- names.
-use Rattle.std.specs.Prelude.{List, [], ◌∷◌, map, length, if◌then◌else◌, Option, Some, None}
+use Rattle.std.specs.Prelude.{ℕ, List, [], ◌∷◌, map, length, if◌then◌else◌, Option, Some, None}
 use Rattle.sql_values.specs.declared.operators.Operator.{Operator}
 use Rattle.sql_values.specs.declared.value.Value.TheVariants.{Null}
 use Rattle.bound_trees.specs.Operands.{takes}
 use Rattle.bound_trees.specs.declared.expr.BoundOperation.{BoundOperation}
 use Rattle.bound_trees.specs.declared.expr.BoundOperation.TheVariants as bound
 use Rattle.bound_trees.specs.declared.expr.BoundExpr.{BoundExpr, fold-BoundExpr}
-use Rattle.bound_trees.specs.declared.expr.BoundExpr.TheOpen.{BoundExpr-F, BoundLink-F}
+use Rattle.bound_trees.specs.declared.expr.BoundExpr.TheOpen.{BoundExpr-F, BoundFromItem-F, BoundQuery-F, BoundRow-F, BoundSource-F, BoundGrouping-F, BoundLink-F, BoundSelect-F}
 use Rattle.bound_trees.specs.declared.expr.BoundLink.{BoundLink, fold-BoundLink}
 use Rattle.bound_trees.specs.declared.query.BoundFromItem.{BoundFromItem, fold-BoundFromItem}
 use Rattle.bound_trees.specs.declared.query.BoundQuery.{BoundQuery, fold-BoundQuery}
-use Rattle.bound_trees.specs.declared.query.BoundFromItem.TheOpen.{BoundFromItem-F, BoundQuery-F, BoundSource-F, BoundSelect-F}
-use Rattle.bound_trees.specs.declared.query.BoundGrouping.{BoundGrouping}
-use Rattle.bound_trees.specs.declared.query.BoundRow.{BoundRow}
+use Rattle.bound_trees.specs.declared.query.BoundGrouping.{BoundGrouping, fold-BoundGrouping}
+use Rattle.bound_trees.specs.declared.query.BoundRow.{BoundRow, fold-BoundRow}
 use Rattle.bound_trees.specs.declared.query.BoundSelect.{BoundSelect, fold-BoundSelect}
 use Rattle.bound_trees.specs.declared.query.BoundSource.{BoundSource, fold-BoundSource}
-use Rattle.rel_algebra.specs.Tree.{Operation, Negation, Comparing, Opposite, NullTest, TrueTest, FalseTest, AnyOf, Modulo, CharLength, Substring, Cast, Expr, Literal, Column, Variable, Chain, Operate, And, Or, Case, CaseOf, Coalesce, Call, Links, NoLink, MoreLinks, Exprs, NoExpr, MoreExprs, Rows, NoRow, MoreRows, From, Table, Derived, Cross, Inner, LeftOuter, Query, Select, Grouped, Values, Ordered}
+use Rattle.rel_algebra.specs.Tree.{Aggregate, Operation, Negation, Comparing, Opposite, NullTest, TrueTest, FalseTest, AnyOf, Modulo, CharLength, Substring, Cast, Expr, Literal, Column, Variable, Chain, Operate, And, Or, Case, CaseOf, Coalesce, In, Exists, Single, Call, Links, NoLink, MoreLinks, Exprs, NoExpr, MoreExprs, Rows, NoRow, MoreRows, From, Table, Derived, Cross, Inner, LeftOuter, Query, Select, Grouped, Values, Ordered}
 use Rattle.catalog_store.specs.Catalog.{Catalog, routine_named}
 
 -- an operator with the plain tree right of it
@@ -78,35 +77,6 @@ stood as_case_of es = case_of es
 abbrev pub operated : BoundOperation → List Expr → Expr
 operated word es = if takes word (length es) then stood (standing word) es else Literal Null
 
--- one level, with what stands inside already seen as its plain tree
-abbrev pub expr_step : Catalog → BoundExpr-F Expr Link → Expr
-expr_step known (BoundExpr-F.Literal v) = Literal v
-expr_step known (BoundExpr-F.Column level i) = Column level i
-expr_step known (BoundExpr-F.Variable i) = Variable i
-expr_step known (BoundExpr-F.Operation word operands) = operated word operands
-expr_step known (BoundExpr-F.Chain first rest) = Chain first (links rest)
-expr_step known (BoundExpr-F.Call name args) = Call name (routine_named name known) (exprs args)
-
-abbrev pub link_step : BoundLink-F Expr Link → Link
-link_step l = record { operator = l.operator; operand = l.operand }
-
-abbrev pub tree_of : Catalog → BoundExpr → Expr
-tree_of known = fold-BoundExpr Expr Link (expr_step known) link_step
-
-abbrev pub link_of : Catalog → BoundLink → Link
-link_of known = fold-BoundLink Expr Link (expr_step known) link_step
-
-abbrev pub exprs_of : Catalog → List BoundExpr → Exprs
-exprs_of known es = exprs (map (tree_of known) es)
-
-abbrev pub links_of : Catalog → List BoundLink → Links
-links_of known ls = links (map (link_of known) ls)
-
--- the rows of VALUES
-abbrev pub rows_of : Catalog → List BoundRow → Rows
-rows_of known [] = NoRow
-rows_of known (r ∷ rs) = MoreRows (exprs_of known r.values) (rows_of known rs)
-
 -- ---- FROM
 
 -- an item of FROM, by how it is joined to those before it
@@ -162,41 +132,94 @@ abbrev pub from_of : List Joining → From
 from_of [] = nothing
 from_of (i ∷ is) = closed (all_grown (begun i) is)
 
--- ---- queries
+-- the rows of VALUES
+abbrev pub rows : List Exprs → Rows
+rows [] = NoRow
+rows (r ∷ rs) = MoreRows r (rows rs)
 
--- one level, with what stands inside already seen as its plain tree
-abbrev pub source_step : BoundSource-F Joining Query From Query → From
+-- ---- one level, with what stands inside already seen as its plain tree
+
+-- how a query is grouped
+pub record Grouping : Type 0 where
+  pub keys : ℕ
+  pub parts : Exprs
+  pub aggregates : List Aggregate
+  pub having : Exprs
+
+-- a list over FROM and the conjuncts of WHERE, or over its groups
+abbrev pub selected : Option Grouping → Exprs → From → Exprs → Query
+selected None items from conjuncts = Select items from conjuncts
+selected (Some g) items from conjuncts = Grouped from conjuncts g.keys g.parts g.aggregates g.having items
+
+abbrev pub expr_step : Catalog → BoundExpr-F Expr Joining Query Exprs From Link Grouping Query → Expr
+expr_step known (BoundExpr-F.Literal v) = Literal v
+expr_step known (BoundExpr-F.Column level i) = Column level i
+expr_step known (BoundExpr-F.Variable i) = Variable i
+expr_step known (BoundExpr-F.Operation word operands) = operated word operands
+expr_step known (BoundExpr-F.Chain first rest) = Chain first (links rest)
+expr_step known (BoundExpr-F.Call name args) = Call name (routine_named name known) (exprs args)
+expr_step known (BoundExpr-F.Single query) = Single query
+expr_step known (BoundExpr-F.Exists query) = Exists query
+expr_step known (BoundExpr-F.In e query) = In e query
+
+abbrev pub item_step : BoundFromItem-F Expr Joining Query Exprs From Link Grouping Query → Joining
+item_step (BoundFromItem-F.Comma f) = after_comma f
+item_step (BoundFromItem-F.Cross f) = crossing f
+item_step (BoundFromItem-F.Inner f on) = matching f (exprs on)
+item_step (BoundFromItem-F.Left f on) = matching_or_nulls f (exprs on)
+
+abbrev pub query_step : BoundQuery-F Expr Joining Query Exprs From Link Grouping Query → Query
+query_step (BoundQuery-F.Select select) = select
+query_step (BoundQuery-F.Values rs) = Values (rows rs)
+query_step (BoundQuery-F.Ordered query keys) = Ordered query keys
+
+abbrev pub row_step : BoundRow-F Expr Joining Query Exprs From Link Grouping Query → Exprs
+row_step (BoundRow-F.Row es) = exprs es
+
+abbrev pub source_step : BoundSource-F Expr Joining Query Exprs From Link Grouping Query → From
 source_step (BoundSource-F.Table name) = Table name
 source_step (BoundSource-F.Derived query) = Derived query
 
-abbrev pub item_step : Catalog → BoundFromItem-F Joining Query From Query → Joining
-item_step known (BoundFromItem-F.Comma f) = after_comma f
-item_step known (BoundFromItem-F.Cross f) = crossing f
-item_step known (BoundFromItem-F.Inner f on) = matching f (exprs_of known on)
-item_step known (BoundFromItem-F.Left f on) = matching_or_nulls f (exprs_of known on)
+abbrev pub grouping_step : BoundGrouping-F Expr Joining Query Exprs From Link Grouping Query → Grouping
+grouping_step g = record { keys = g.keys; parts = exprs g.parts; aggregates = g.aggregates; having = exprs g.having }
 
--- a list over FROM and the conjuncts of WHERE, or over its groups
-abbrev pub selected : Catalog → Option BoundGrouping → Exprs → From → Exprs → Query
-selected known None items from conjuncts = Select items from conjuncts
-selected known (Some g) items from conjuncts =
-    Grouped from conjuncts g.keys (exprs_of known g.parts) g.aggregates (exprs_of known g.having) items
+abbrev pub link_step : BoundLink-F Expr Joining Query Exprs From Link Grouping Query → Link
+link_step l = record { operator = l.operator; operand = l.operand }
 
-abbrev pub select_step : Catalog → BoundSelect-F Joining Query From Query → Query
-select_step known s = selected known s.grouping (exprs_of known s.items) (from_of s.from) (exprs_of known s.conjuncts)
+abbrev pub select_step : BoundSelect-F Expr Joining Query Exprs From Link Grouping Query → Query
+select_step s = selected s.grouping (exprs s.items) (from_of s.from) (exprs s.conjuncts)
 
-abbrev pub query_step : Catalog → BoundQuery-F Joining Query From Query → Query
-query_step known (BoundQuery-F.Select select) = select
-query_step known (BoundQuery-F.Values rows) = Values (rows_of known rows)
-query_step known (BoundQuery-F.Ordered query keys) = Ordered query keys
+-- ---- whole trees
 
-abbrev pub query_of : Catalog → BoundQuery → Query
-query_of known = fold-BoundQuery Joining Query From Query (item_step known) (query_step known) source_step (select_step known)
+abbrev pub tree_of : Catalog → BoundExpr → Expr
+tree_of known = fold-BoundExpr Expr Joining Query Exprs From Link Grouping Query (expr_step known) item_step query_step row_step source_step link_step grouping_step select_step
 
 abbrev pub item_of : Catalog → BoundFromItem → Joining
-item_of known = fold-BoundFromItem Joining Query From Query (item_step known) (query_step known) source_step (select_step known)
+item_of known = fold-BoundFromItem Expr Joining Query Exprs From Link Grouping Query (expr_step known) item_step query_step row_step source_step link_step grouping_step select_step
+
+abbrev pub query_of : Catalog → BoundQuery → Query
+query_of known = fold-BoundQuery Expr Joining Query Exprs From Link Grouping Query (expr_step known) item_step query_step row_step source_step link_step grouping_step select_step
+
+abbrev pub row_of : Catalog → BoundRow → Exprs
+row_of known = fold-BoundRow Expr Joining Query Exprs From Link Grouping Query (expr_step known) item_step query_step row_step source_step link_step grouping_step select_step
 
 abbrev pub source_of : Catalog → BoundSource → From
-source_of known = fold-BoundSource Joining Query From Query (item_step known) (query_step known) source_step (select_step known)
+source_of known = fold-BoundSource Expr Joining Query Exprs From Link Grouping Query (expr_step known) item_step query_step row_step source_step link_step grouping_step select_step
+
+abbrev pub grouping_of : Catalog → BoundGrouping → Grouping
+grouping_of known = fold-BoundGrouping Expr Joining Query Exprs From Link Grouping Query (expr_step known) item_step query_step row_step source_step link_step grouping_step select_step
+
+abbrev pub link_of : Catalog → BoundLink → Link
+link_of known = fold-BoundLink Expr Joining Query Exprs From Link Grouping Query (expr_step known) item_step query_step row_step source_step link_step grouping_step select_step
 
 abbrev pub select_of : Catalog → BoundSelect → Query
-select_of known = fold-BoundSelect Joining Query From Query (item_step known) (query_step known) source_step (select_step known)
+select_of known = fold-BoundSelect Expr Joining Query Exprs From Link Grouping Query (expr_step known) item_step query_step row_step source_step link_step grouping_step select_step
+
+abbrev pub exprs_of : Catalog → List BoundExpr → Exprs
+exprs_of known es = exprs (map (tree_of known) es)
+
+abbrev pub links_of : Catalog → List BoundLink → Links
+links_of known ls = links (map (link_of known) ls)
+
+abbrev pub rows_of : Catalog → List BoundRow → Rows
+rows_of known rs = rows (map (row_of known) rs)

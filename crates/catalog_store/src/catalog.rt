@@ -19,8 +19,8 @@ use std::marker::Model;
 
 /// Tables and functions by their names, which differ, in the order of their making. Each call in a
 /// function's body names a function that stands before it, is lower, and has as many parameters as
-/// the call has arguments; and the plan of each function is kept, which is what the emitter makes of
-/// its body.
+/// the call has arguments, and each table in FROM stands before it; and the plan of each function is
+/// kept, which is what the emitter makes of its body.
 #[derive(Drop)]
 pub struct Catalog {
     objects: IndexMap<Name, Object>,
@@ -118,8 +118,8 @@ impl Catalog {
         Ok(())
     }
 
-    /// Takes out the entry of a name that no other entry uses. The others keep their order, and
-    /// stand for what they stood for.
+    /// Takes out the entry of a name that no other entry uses, so that no function calls it or reads
+    /// it. The others keep their order, and stand for what they stood for.
     pub fn drop_entry(&mut self, name: &Name)
         requires there { IsSome (object_named name.now self.old) }
         requires unused { users_of name.now self.old ≡ 0 }

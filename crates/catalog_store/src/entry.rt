@@ -12,7 +12,8 @@ use std::marker::Model;
 
 /// What is known of a function beside its body: the types of its parameters, that of its result,
 /// its height (one more than that of the highest function that it calls, and one for a function
-/// that calls none), and the names of the functions that it calls.
+/// that calls none), and the names that its body uses: the functions that it calls and the tables
+/// that it reads, in whatever order and however often.
 #[derive(Drop)]
 pub struct Head {
     pub parameters: Items<SqlType>,
@@ -38,7 +39,8 @@ pub struct RoutineRecord {
 }
 
 /// The plan of a function by itself: its parameters are the arguments. Nodes that add columns to one
-/// row without cells, and the scalar over these that is the function's value.
+/// row without cells, an Extend or an Apply each, and the scalar over these that is the function's
+/// value.
 #[derive(Drop)]
 pub struct FunctionPlan {
     pub nodes: Items<Node>,

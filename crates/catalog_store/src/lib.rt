@@ -11,5 +11,5 @@ pub use catalog::Catalog;
 pub use entry::{Body, FunctionPlan, Head, Object, RoutineRecord};
 pub use names::{
     adding_leaves_the_others, calls_after_a_drop, dropping_leaves_the_others, grouped_or_not,
-    items_from_the_left, objects_by_name, users_of_names,
+    items_from_the_left, objects_by_name, tables_in_bodies, users_of_names,
 };

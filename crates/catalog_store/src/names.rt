@@ -1,6 +1,6 @@
 //! How names keep what they stand for as the catalog changes.
 
-ghost use Rattle.catalog_store.specs.Examples.{ObjectsByName, UsersOfNames, CallsAfterADrop, ItemsFromTheLeft, GroupedOrNot};
+ghost use Rattle.catalog_store.specs.Examples.{ObjectsByName, UsersOfNames, CallsAfterADrop, ItemsFromTheLeft, GroupedOrNot, TablesInBodies};
 ghost use Rattle.catalog_store.specs.Laws.{AddingLeavesOthers, DroppingLeavesOthers};
 
 /// One more entry leaves what every other name stands for, and so the trees that calls run.
@@ -18,7 +18,7 @@ pub fn objects_by_name()
     ensures { ObjectsByName }
 {}
 
-/// The users of a name are the other functions that call it.
+/// The users of a name are the other functions that call it or read it.
 pub fn users_of_names()
     ensures { UsersOfNames }
 {}
@@ -38,4 +38,9 @@ pub fn items_from_the_left()
 /// A select with a grouping is read on the rows of its groups, one without on those of FROM.
 pub fn grouped_or_not()
     ensures { GroupedOrNot }
+{}
+
+/// A function whose body reads a table uses it, as it uses the functions that it calls.
+pub fn tables_in_bodies()
+    ensures { TablesInBodies }
 {}

@@ -4,4 +4,5 @@ pub mod Trees
 pub mod Steps
 pub mod Cases
 pub mod Words
+pub mod Firsts
 pub mod Laws

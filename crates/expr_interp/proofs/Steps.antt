@@ -12,14 +12,14 @@ use Rattle.rel_algebra.specs.Tree.{Expr, Function}
 use Rattle.rel_algebra.specs.World.{World, Frame, Ends, no_self, after, give, outcome, frame_of}
 use Rattle.rel_algebra.specs.Meaning.{ev, ev_args, ev_all, ev_rows, assigned_first, call}
 use Rattle.catalog_store.specs.Catalog.{Catalog}
-use Rattle.catalog_store.specs.View.{tree_of, exprs_of, rows_of}
+use Rattle.catalog_store.specs.View.{tree_of, exprs_of, row_of, rows_of}
 use Rattle.expr_interp.specs.Content.{Content, world_of}
 use Rattle.expr_interp.specs.declared.stop.Stop.{Stop}
 use Rattle.expr_interp.specs.Ending.{Ended}
 use Rattle.expr_interp.specs.Faults.{stopped_by}
 use Rattle.expr_interp.proofs.Stays.{stays_same}
 use Rattle.expr_interp.proofs.Going.{Going, going, goes_on, goes_within, stops_within, gives, one_more, outcome_gives, fault_tells}
-use Rattle.expr_interp.proofs.Trees.{rest, args_at}
+use Rattle.expr_interp.proofs.Trees.{rest, args_at, rows_at}
 
 -- one argument more: its value v was assigned to its parameter as y
 pub args_step : (k : Catalog) (es : List BoundExpr) (types : List SqlType) (i : ℕ) (x : BoundExpr) (rows : List Row) (f : Frame) (old now new : Content) (v y : Value) (vs us : List Value)
@@ -70,16 +70,23 @@ all_step k es i x rows f old now new v vs us whole h is g d front =
     (ev_all (exprs_of k (drop i es)) no_self rows f (world_of now)) whole (ap (λ (xs : List BoundExpr). ev_all (exprs_of k xs) no_self rows f (world_of now)) (rest es i x h is)) g d refl front
 
 -- one row of VALUES more: its values are v
-pub rows_step : (k : Catalog) (rs : List BoundRow) (i : ℕ) (x : BoundRow) (es : List BoundExpr) (f : Frame) (old now new : Content) (v : Row) (vs us : List Row) (whole : Ends (List Row)) →
-    i < length rs → x ≡ get_or rs i x → es ≡ x.values → Going old now (after (ev_rows (rows_of k (drop i rs)) no_self [] f (world_of now)) (λ ts. give (vs ++ ts))) whole →
-    Ended now new (Ok v) (ev_all (exprs_of k es) no_self [] f (world_of now)) → us ≡ vs ++ v ∷ [] →
-    Going old new (after (ev_rows (rows_of k (drop (i + 1) rs)) no_self [] f (world_of new)) (λ ts. give (us ++ ts))) whole
-rows_step k rs i x es f old now new v vs us whole h is of g d front =
-    let more : World → Ends (List Row) = λ w. ev_rows (rows_of k (drop (i + 1) rs)) no_self [] f w in
-    let go : Row → World → Ends (List Row) = λ v w. after (more w) (λ ys. give (v ∷ ys)) in
-    one_more old now new v (Some v) vs us (ev_all (exprs_of k es) no_self [] f (world_of now)) go (more (world_of new)) (ev_rows (rows_of k (drop i rs)) no_self [] f (world_of now)) whole
-    (ap (λ (xs : List BoundRow). ev_rows (rows_of k xs) no_self [] f (world_of now)) (rest rs i x h is)
-    ∙ ap (λ (xs : List BoundExpr). after (ev_all (exprs_of k xs) no_self [] f (world_of now)) go) (sym of)) g d refl front
+pub rows_step : (k : Catalog) (rs : List BoundRow) (i : ℕ) (x : BoundRow) (es : List BoundExpr) (rows : List Row) (f : Frame) (old now new : Content) (v : Row) (vs us : List Row) (whole : Ends (List Row)) →
+    i < length rs → x ≡ get_or rs i x → row_of k x ≡ exprs_of k es → Going old now (after (ev_rows (rows_of k (drop i rs)) no_self rows f (world_of now)) (λ ts. give (vs ++ ts))) whole →
+    Ended now new (Ok v) (ev_all (exprs_of k es) no_self rows f (world_of now)) → us ≡ vs ++ v ∷ [] →
+    Going old new (after (ev_rows (rows_of k (drop (i + 1) rs)) no_self rows f (world_of new)) (λ ts. give (us ++ ts))) whole
+rows_step k rs i x es rows f old now new v vs us whole h is of g d front =
+    let more : World → Ends (List Row) = λ w. ev_rows (rows_of k (drop (i + 1) rs)) no_self rows f w in
+    one_more old now new v (Some v) vs us (ev_all (exprs_of k es) no_self rows f (world_of now)) (λ v w. after (more w) (λ ys. give (v ∷ ys))) (more (world_of new))
+    (ev_rows (rows_of k (drop i rs)) no_self rows f (world_of now)) whole (rows_at k rs i x es rows f (world_of now) h is of) g d refl front
+
+-- the next row of VALUES stops
+pub rows_stop : (k : Catalog) (rs : List BoundRow) (i : ℕ) (x : BoundRow) (es : List BoundExpr) (rows : List Row) (f : Frame) (old now new : Content) (s : Stop) (vs : List Row) (whole : Ends (List Row))
+    (r : Result (List Row) Stop) → i < length rs → x ≡ get_or rs i x → row_of k x ≡ exprs_of k es →
+    Going old now (after (ev_rows (rows_of k (drop i rs)) no_self rows f (world_of now)) (λ ts. give (vs ++ ts))) whole →
+    Ended {A = Row} now new (Err s) (ev_all (exprs_of k es) no_self rows f (world_of now)) → r ≡ Err s → Ended old new r whole
+rows_stop k rs i x es rows f old now new s vs whole r h is of g d answer =
+    stops_within old now new s (ev_all (exprs_of k es) no_self rows f (world_of now)) (λ v w. after (ev_rows (rows_of k (drop (i + 1) rs)) no_self rows f w) (λ ys. give (v ∷ ys)))
+    (ev_rows (rows_of k (drop i rs)) no_self rows f (world_of now)) (λ ts. give (vs ++ ts)) whole r (rows_at k rs i x es rows f (world_of now) h is of) g d answer
 
 -- the value of a body is assigned to the type of the result
 pub body_gives : (tree : Expr) (returns : SqlType) (values : List Value) (frame : Frame) (old new : Content) (v y : Value) → frame ≡ frame_of values →

@@ -156,7 +156,7 @@ case_of_ev : (k : Catalog) (word : BoundOperation) (es : List BoundExpr) (x : Bo
 case_of_ev k word es x rows f w h =
     ap (λ e. ev e no_self rows f w) (cased k word es x h) ∙ case_of_list k x (arms_of es) rows f w (two word es x h)
 
-pub arms_cost : (k : Catalog) (word : BoundOperation) (es : List BoundExpr) (x : BoundExpr) → IsCaseOf word es x → 2 * costs (exprs_of k (arms_of es)) < 2 * cost (operated word (map (tree_of k) es))
+pub arms_cost : (k : Catalog) (word : BoundOperation) (es : List BoundExpr) (x : BoundExpr) → IsCaseOf word es x → 8 * costs (exprs_of k (arms_of es)) < 8 * cost (operated word (map (tree_of k) es))
 arms_cost k word es x h =
     omega (arith, ap cost (cased k word es x h), case_of_costs k x (arms_of es) (two word es x h))
 

@@ -1,6 +1,6 @@
 -- How a run's answer tells the end of an evaluation.
 use Rattle.std.specs.Prelude.{◌≡◌, Result, Ok, Err}
-use Rattle.rel_algebra.specs.World.{World, Ends, Gives, Raises, RunsOut}
+use Rattle.rel_algebra.specs.World.{World, Ends, Gives, Raises, RunsOut, Eval}
 use Rattle.expr_interp.specs.declared.stop.Stop.{Stop}
 use Rattle.expr_interp.specs.declared.stop.Stop.TheVariants.{Raised, Spent, NoMemory}
 use Rattle.expr_interp.specs.Content.{Content, world_of, Stays}
@@ -18,3 +18,7 @@ Tells w (Err NoMemory) e = Unit {0}
 pub record Ended {A : Type 0} (old new : Content) (answer : Result A Stop) (ends : Ends A) : Type 0 where
   pub tells : Tells (world_of new) answer ends
   pub stays : Stays old new
+
+-- an evaluation that leaves each world as it is ends as the answer says
+abbrev pub TellsAnywhere : {A : Type 0} → Result A Stop → Eval A → Type 0
+TellsAnywhere answer e = (w : World) → Tells w answer (e w)

@@ -1,8 +1,10 @@
 -- The rows that an expression sees.
-use Rattle.std.specs.Prelude.{List, map}
-use Rattle.std.specs.Borrow.{Bor}
-use Rattle.row_types.specs.Rows.{Row}
+use Rattle.std.specs.Prelude.{List, [], ◌∷◌}
+use Rattle.row_types.specs.Rows.{Row as Values}
+use Rattle.expr_interp.specs.declared.sight.RowsInSight.{RowsInSight, Row'}
+use Rattle.expr_interp.specs.declared.sight.RowsInSight.TheVariants.{NoRow}
 
--- the rows behind references
-abbrev pub seen : List (Bor Row) → List Row
-seen rows = map (λ row. row.now) rows
+-- the rows, the innermost first
+abbrev pub seen : RowsInSight → List Values
+seen NoRow = []
+seen (Row' row p outer) = row.now ∷ seen outer

@@ -1,19 +1,22 @@
-//! Expressions, run in a world of tables and turns; and what a unit that stops leaves of it.
+//! What expressions and queries are run in, and what stands at their ends: the world of tables and
+//! turns, the frame, the rows in sight, and what words make of values; and what a unit that stops
+//! leaves of the world. No tree is run here.
 #![tactic(auto)]
 
 mod arguments;
-mod expr;
 mod frame;
-mod lists;
+mod sight;
 mod stop;
+mod subqueries;
 mod units;
 mod values;
 mod world;
 
 pub use arguments::Arguments;
-pub use expr::eval;
 pub use frame::Frame;
-pub use lists::{eval_all, eval_rows, holds};
+pub use sight::{RowsInSight, column, under};
 pub use stop::Stop;
+pub use subqueries::{exists, member, single};
 pub use units::leave;
+pub use values::{assign_at, is_false, is_true, operation_value, passes};
 pub use world::World;

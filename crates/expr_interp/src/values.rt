@@ -9,9 +9,7 @@ ghost use Rattle.rel_algebra.specs.Tree.{Opposite};
 ghost use Rattle.rel_algebra.specs.Endings.{ending_of, op_value, is_false as is_false_by, among as among_by};
 ghost use Rattle.catalog_store.specs.View.{standing};
 ghost use Rattle.expr_interp.specs.Words.{passes_by, strict_value};
-ghost use Rattle.rel_algebra.specs.World.{column_of};
 ghost use Rattle.rel_algebra.specs.Meaning.{assigned_first};
-ghost use Rattle.expr_interp.specs.Sight.{seen};
 
 use bound_trees::BoundOperation;
 use sql_values::{
@@ -26,16 +24,6 @@ pub fn value_at(values: &[Value], place: usize) -> Result<Value, NoMemory>
 {
     match values.get(place) {
         Some(value) => value.copied(),
-        None => Ok(Value::Null),
-    }
-}
-
-/// What the row of a level has at a place; NULL where there is none.
-pub fn column(rows: &[&[Value]], level: usize, place: usize) -> Result<Value, NoMemory>
-    ensures { IfOk result (λ v. v ≡ column_of level place (seen rows.now)) }
-{
-    match rows.get(level) {
-        Some(row) => value_at(row, place),
         None => Ok(Value::Null),
     }
 }

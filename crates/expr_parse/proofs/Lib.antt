@@ -1,4 +1,3 @@
-pub mod Ranks
-pub mod Begun
+pub mod FirstItem
 pub mod Lone
 pub mod Laws

@@ -16,7 +16,7 @@ use Rattle.syntax_trees.specs.declared.expr.Operation.{Operation}
 use Rattle.token_grammar.specs.Grammar.{token, nested, both, either, optional, many, staged, map_to}
 use Rattle.token_grammar.specs.Reading.{Outcome, NoSpelling, same_kind, begins, first, next_token, reading, mapped, ◌>>=◌}
 use Rattle.token_grammar.proofs.Laws.{begins-append, apart_stops, many_start, many_stop}
-use Rattle.expr_parse.proofs.Begun.{with_part}
+use Rattle.expr_parse.proofs.FirstItem.{with_part}
 use Rattle.sql_grammar.specs.Sql.{rules}
 use Rattle.sql_grammar.specs.Trees.{G}
 use Rattle.sql_grammar.specs.Expressions.{constant, literal, primary, prefixed, unary_sign, factor, chain, operator, link_by, links_by, chain_by, term, sum, comparison_sign, comparison, compared, tested, in_word, among, predicate_part, predicate, not_word, negation, conjunction, expr}

@@ -1,19 +1,29 @@
-//! The parser of expressions, types and names, by recursive descent. Each function gives what the
-//! grammar's reader gives for its rule, and where it fails leaves the input at the token that does
-//! not go on with what was read.
+//! The parts of the parser that hold no expression themselves: words, signs, names, types, lists
+//! with commas, and the nodes that are made of what was read. Each function that reads gives what
+//! the grammar's reader gives for its rule, and where it fails leaves the input at the token that
+//! does not go on with what was read.
 #![tactic(auto)]
 
+mod begins;
 mod commas;
 mod lists;
 mod names;
 mod place;
 mod types;
-mod value_expr;
 mod words;
 
+pub use begins::{
+    begins_expr, begins_more, begins_predicate_part, begins_query, begins_when_clause,
+};
 pub use commas::{ListItem, comma_list};
-pub use lists::only;
+pub use lists::{
+    applied, begun, calls, cast_to, chained, ended_by, exists_of, if_one, only, pair, predicate_of,
+    prefixed, qualified, subquery, unqualified, with_first,
+};
 pub use names::{alias, column_list, column_names, if_alias};
-pub use place::{anchor_in, ident};
+pub use place::{anchor, anchor_in, ident};
 pub use types::data_type;
-pub use value_expr::{after, bracketed_exprs, expr};
+pub use words::{
+    as_type, begins_compared, begins_link, begins_literal, comparison, dotted, function_word,
+    if_not, if_sign, in_word, is_all_rows, is_lone_literal, literal, operator, tested, word_of,
+};

@@ -21,8 +21,8 @@ pub fn anchor_in(token: &Token) -> Anchor
     }
 }
 
-/// The anchor of what begins at the next token.
-pub(crate) fn anchor(input: &Input<'_>) -> Anchor
+/// The anchor of what begins at the next token. It reads nothing.
+pub fn anchor(input: &Input<'_>) -> Anchor
     ensures { result ≡ trees.anchor_of (next_token input.now.rest.now) }
 {
     match input.rest {

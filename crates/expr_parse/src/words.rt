@@ -40,9 +40,10 @@ fn constant(input: &mut Input<'_>, room: u32) -> Result<(Literal, Anchor), Parse
     Ok((Literal::Null, anchor))
 }
 
-/// A literal, with its anchor.
+/// A literal, with its anchor. On Ok the input stands behind it, else at the token that does not go
+/// on.
 #[tactic(auto, unfolding(sql_grammar::specs::Expressions::literal))]
-pub(crate) fn literal(input: &mut Input<'_>, room: u32) -> Result<(Literal, Anchor), ParseError>
+pub fn literal(input: &mut Input<'_>, room: u32) -> Result<(Literal, Anchor), ParseError>
     ensures { Reads (reading rules room expressions.literal input.old.rest.now) result input.new.rest.now }
 {
     if input.sees(Kind::Number) {
@@ -56,9 +57,9 @@ pub(crate) fn literal(input: &mut Input<'_>, room: u32) -> Result<(Literal, Anch
     constant(input, room)
 }
 
-/// Whether a literal begins.
+/// Whether a literal begins. It reads nothing.
 #[tactic(auto, unfolding(sql_grammar::specs::Expressions::literal, sql_grammar::specs::Expressions::constant))]
-pub(crate) fn begins_literal(input: &Input<'_>) -> bool
+pub fn begins_literal(input: &Input<'_>) -> bool
     ensures { result ≡ begins (first expressions.literal) input.now.rest.now }
 {
     input.sees_any(&[
@@ -73,8 +74,8 @@ pub(crate) fn begins_literal(input: &Input<'_>) -> bool
 
 /// Whether a literal stands here before a comma or a closing bracket: then the expression that is
 /// read here is that literal. Rows of VALUES are made of these mostly, and to read one level by
-/// level tests the same two tokens some twenty times.
-pub(crate) fn is_lone_literal(input: &Input<'_>) -> bool
+/// level tests the same two tokens some twenty times. It reads nothing.
+pub fn is_lone_literal(input: &Input<'_>) -> bool
     ensures here { result ≡ (begins (kinds.Sign signs.Comma ∷ kinds.Sign signs.RightParen ∷ []) (drop 1 input.now.rest.now) && begins (first expressions.literal) input.now.rest.now) }
     ensures alone { result ≡ true → (room : ℕ) → reading rules room expressions.expr input.now.rest.now ≡ mapped (λ p. tree.Literal p.1 p.0) (reading rules room expressions.literal input.now.rest.now) }
 {
@@ -96,12 +97,9 @@ fn unary_sign(input: &mut Input<'_>, room: u32) -> Result<(Operation, Anchor), P
     Ok((Operation::Minus, anchor))
 }
 
-/// A sign, with its anchor, if one stands here.
+/// A sign, with its anchor, if one stands here. Where none stands here nothing is read.
 #[tactic(auto, unfolding(sql_grammar::specs::Expressions::unary_sign))]
-pub(crate) fn if_sign(
-    input: &mut Input<'_>,
-    room: u32,
-) -> Result<Option<(Operation, Anchor)>, ParseError>
+pub fn if_sign(input: &mut Input<'_>, room: u32) -> Result<Option<(Operation, Anchor)>, ParseError>
     ensures { Reads (reading rules room (optional expressions.unary_sign) input.old.rest.now) result input.new.rest.now }
 {
     if input.sees_any(&[Kind::Sign(Sign::Plus), Kind::Sign(Sign::Minus)]) {
@@ -111,12 +109,9 @@ pub(crate) fn if_sign(
     }
 }
 
-/// NOT, with its anchor, if it stands here.
+/// NOT, with its anchor, if it stands here. Where none stands here nothing is read.
 #[tactic(auto, unfolding(sql_grammar::specs::Expressions::not_word))]
-pub(crate) fn if_not(
-    input: &mut Input<'_>,
-    room: u32,
-) -> Result<Option<(Operation, Anchor)>, ParseError>
+pub fn if_not(input: &mut Input<'_>, room: u32) -> Result<Option<(Operation, Anchor)>, ParseError>
     ensures { Reads (reading rules room (optional expressions.not_word) input.old.rest.now) result input.new.rest.now }
 {
     let anchor = anchor(input);
@@ -152,21 +147,19 @@ fn comparison_sign(input: &mut Input<'_>, room: u32) -> Result<(Comparison, Anch
     )
 }
 
-/// A comparison, with its anchor.
+/// A comparison, with its anchor. On Ok the input stands behind it, else at the token that does not
+/// go on.
 #[tactic(auto, unfolding(sql_grammar::specs::Expressions::comparison))]
-pub(crate) fn comparison(
-    input: &mut Input<'_>,
-    room: u32,
-) -> Result<(Operation, Anchor), ParseError>
+pub fn comparison(input: &mut Input<'_>, room: u32) -> Result<(Operation, Anchor), ParseError>
     ensures { Reads (reading rules room expressions.comparison input.old.rest.now) result input.new.rest.now }
 {
     let compared = comparison_sign(input, room)?;
     Ok((Operation::Compare(compared.0), compared.1))
 }
 
-/// Whether a comparison and what it compares with begin.
+/// Whether a comparison and what it compares with begin. It reads nothing.
 #[tactic(auto, unfolding(sql_grammar::specs::Expressions::compared, sql_grammar::specs::Expressions::comparison, sql_grammar::specs::Expressions::comparison_sign))]
-pub(crate) fn begins_compared(input: &Input<'_>) -> bool
+pub fn begins_compared(input: &Input<'_>) -> bool
     ensures { result ≡ begins (first expressions.compared) input.now.rest.now }
 {
     input.sees_any(&[
@@ -216,9 +209,10 @@ fn is_or_not(not: Option<(Operation, Anchor)>, test: TruthTest) -> Operation
     }
 }
 
-/// IS and what it asks for, with its anchor.
+/// IS and what it asks for, with its anchor. On Ok the input stands behind it, else at the token
+/// that does not go on.
 #[tactic(auto, unfolding(sql_grammar::specs::Expressions::tested))]
-pub(crate) fn tested(input: &mut Input<'_>, room: u32) -> Result<(Operation, Anchor), ParseError>
+pub fn tested(input: &mut Input<'_>, room: u32) -> Result<(Operation, Anchor), ParseError>
     ensures { Reads (reading rules room expressions.tested input.old.rest.now) result input.new.rest.now }
 {
     let token = input.expect(Kind::Word(Word::Is))?;
@@ -227,23 +221,25 @@ pub(crate) fn tested(input: &mut Input<'_>, room: u32) -> Result<(Operation, Anc
     Ok((operation, anchor))
 }
 
-/// IN or NOT IN, with the anchor of IN.
+/// IN or NOT IN: whether NOT stands before it, and the anchor of IN. On Ok the input stands behind
+/// it, else at the token that does not go on.
 #[tactic(auto, unfolding(sql_grammar::specs::Expressions::in_word))]
-pub(crate) fn in_word(input: &mut Input<'_>, room: u32) -> Result<(Operation, Anchor), ParseError>
+pub fn in_word(input: &mut Input<'_>, room: u32) -> Result<(bool, Anchor), ParseError>
     ensures { Reads (reading rules room expressions.in_word input.old.rest.now) result input.new.rest.now }
 {
     if input.sees(Kind::Word(Word::In)) {
         let token = input.expect(Kind::Word(Word::In))?;
-        return Ok((Operation::In, anchor_in(token)));
+        return Ok((false, anchor_in(token)));
     }
     input.expect(Kind::Word(Word::Not))?;
     let token = input.expect(Kind::Word(Word::In))?;
-    Ok((Operation::NotIn, anchor_in(token)))
+    Ok((true, anchor_in(token)))
 }
 
-/// An operator of a level, with its anchor.
+/// An operator of a level, with its anchor. On Ok the input stands behind it, else at the token
+/// that does not go on.
 #[tactic(auto, unfolding(sql_grammar::specs::Expressions::operator))]
-pub(crate) fn operator(
+pub fn operator(
     input: &mut Input<'_>,
     room: u32,
     level: ChainLevel,
@@ -282,9 +278,9 @@ pub(crate) fn operator(
     }
 }
 
-/// Whether a link of a level begins.
+/// Whether a link of a level begins. It reads nothing.
 #[tactic(auto, unfolding(sql_grammar::specs::Expressions::operator))]
-pub(crate) fn begins_link(input: &Input<'_>, level: ChainLevel) -> bool
+pub fn begins_link(input: &Input<'_>, level: ChainLevel) -> bool
     ensures { result ≡ begins (first (expressions.link_at level)) input.now.rest.now }
 {
     match level {
@@ -313,8 +309,8 @@ fn aggregate_word(kind: FoldKind) -> Word
     }
 }
 
-/// The word of a function, as it is spelled.
-pub(crate) fn word_of(function: FunctionWord) -> Word
+/// The word of a function, as it is spelled. It reads nothing.
+pub fn word_of(function: FunctionWord) -> Word
     ensures { result ≡ expressions.word_of function }
 {
     match function {
@@ -348,9 +344,9 @@ fn aggregate_kind(input: &Input<'_>) -> FoldKind
 }
 
 /// The function whose word stands here, or MAX where none does: what is read here as a function is
-/// a call of it.
+/// a call of it. It reads nothing.
 #[tactic(auto, unfolding(sql_grammar::specs::Expressions::function, sql_grammar::specs::Expressions::function_call))]
-pub(crate) fn function_word(input: &Input<'_>) -> FunctionWord
+pub fn function_word(input: &Input<'_>) -> FunctionWord
     ensures { (room : ℕ) → reading rules room expressions.function input.now.rest.now ≡ reading rules room (expressions.function_call result) input.now.rest.now }
 {
     if input.sees(Kind::Word(Word::Coalesce)) {
@@ -371,9 +367,10 @@ pub(crate) fn function_word(input: &Input<'_>) -> FunctionWord
     FunctionWord::Aggregate(aggregate_kind(input))
 }
 
-/// A period and the name after it.
+/// A period and the name after it. On Ok the input stands behind it, else at the token that does
+/// not go on.
 #[tactic(auto, unfolding(sql_grammar::specs::Expressions::dotted))]
-pub(crate) fn dotted(input: &mut Input<'_>, room: u32) -> Result<Ident, ParseError>
+pub fn dotted(input: &mut Input<'_>, room: u32) -> Result<Ident, ParseError>
     ensures { Reads (reading rules room expressions.dotted input.old.rest.now) result input.new.rest.now }
 {
     input.expect(Kind::Sign(Sign::Period))?;
@@ -392,9 +389,10 @@ pub(crate) fn if_dotted(input: &mut Input<'_>, room: u32) -> Result<Option<Ident
     }
 }
 
-/// Whether the argument that stands here is the `*` of COUNT. Any other is an expression.
+/// Whether the argument that stands here is the `*` of COUNT. Any other is an expression. It reads
+/// nothing.
 #[tactic(auto, unfolding(sql_grammar::specs::Expressions::argument, sql_grammar::specs::Expressions::all_rows))]
-pub(crate) fn is_all_rows(input: &Input<'_>, kind: FoldKind) -> bool
+pub fn is_all_rows(input: &Input<'_>, kind: FoldKind) -> bool
     ensures all { result ≡ true → (room : ℕ) → reading rules room (expressions.argument kind) input.now.rest.now ≡ Ok ([], drop 1 input.now.rest.now) }
     ensures one { result ≡ false → (room : ℕ) → reading rules room (expressions.argument kind) input.now.rest.now ≡ reading rules room (trees.only => expressions.expr) input.now.rest.now }
 {
@@ -407,9 +405,10 @@ pub(crate) fn is_all_rows(input: &Input<'_>, kind: FoldKind) -> bool
     }
 }
 
-/// AS with the type after it.
+/// AS with the type after it. On Ok the input stands behind it, else at the token that does not go
+/// on.
 #[tactic(auto, unfolding(sql_grammar::specs::Expressions::as_type))]
-pub(crate) fn as_type(input: &mut Input<'_>, room: u32) -> Result<DataType, ParseError>
+pub fn as_type(input: &mut Input<'_>, room: u32) -> Result<DataType, ParseError>
     ensures { Reads (reading rules room expressions.as_type input.old.rest.now) result input.new.rest.now }
 {
     input.expect(Kind::Word(Word::As))?;

@@ -4,8 +4,9 @@ pub mod Nodes
 pub mod Views
 pub mod Lists
 pub mod Checks
-pub mod Emitting
 pub mod Moving
+pub mod MovingPlans
+pub mod Asking
 pub mod Running
 pub mod Arms
 pub mod Laws

@@ -6,18 +6,22 @@ use Rattle.rel_algebra.specs.declared.scalar.Scalar.{Scalar as ScalarCode}
 use Rattle.rel_algebra.specs.declared.plan.Node.{Node, out-Node, roll-Node}
 use Rattle.rel_algebra.specs.declared.plan.Node.TheOpen.{Node-F}
 use Rattle.rel_algebra.specs.declared.plan.Node.TheFolds.{fold-roll-Node, fold-roll-Plan}
-use Rattle.rel_algebra.specs.declared.plan.Node.TheVariants.{Extend, Filter, Keep, Cross, LeftOuter, Settle, Group, Sort, rolls-Extend, rolls-Filter, rolls-Keep, rolls-Cross, rolls-LeftOuter, rolls-Settle, rolls-Group, rolls-Sort}
+use Rattle.rel_algebra.specs.declared.plan.Node.TheVariants.{Extend, Apply, Filter, Keep, Cross, LeftOuter, Settle, Group, Sort, rolls-Extend, rolls-Apply, rolls-Filter, rolls-Keep, rolls-Cross, rolls-LeftOuter, rolls-Settle, rolls-Group, rolls-Sort}
 use Rattle.rel_algebra.specs.declared.plan.Node.TheViews.{roll-out-Node}
 use Rattle.rel_algebra.specs.declared.plan.Plan.{Plan}
+use Rattle.rel_algebra.specs.declared.plan.ApplyKind.{ApplyKind}
 use Rattle.rel_algebra.specs.Plan.{PlanTree, unit_row, extend, apply, filter, keep, cross, left_outer, settle, group, sort, Nodes, no_node, extend_by, apply_by, on_each}
 use Rattle.rel_algebra.specs.Emit.{is_plain}
-use Rattle.rel_algebra.specs.PlanView.{NodeTree, node_step, plan_step, node_of, with_node, with_nodes, run_of, leaf_of, tree_of, scalar_of, scalars_of, aggregates_of}
+use Rattle.rel_algebra.specs.PlanView.{NodeTree, node_step, plan_step, node_of, with_node, with_nodes, run_of, leaf_of, tree_of, scalar_of, scalars_of, kind_of, aggregates_of}
 use Rattle.expr_plan.specs.Drafts.{is_unit_row}
 
 -- ---- what nodes and plans stand for
 
 node_of-Extend : (ss : List ScalarCode) → node_of (Extend ss) ≡ node_step (Node-F.Extend ss)
 node_of-Extend ss = ap node_of (sym (rolls-Extend ss)) ∙ fold-roll-Node NodeTree PlanTree node_step plan_step (Node-F.Extend ss)
+
+node_of-Apply : (s : ScalarCode) (k : ApplyKind) (p : Plan) → node_of (Apply s k p) ≡ node_step (Node-F.Apply s k (tree_of p))
+node_of-Apply s k p = ap node_of (sym (rolls-Apply s k p)) ∙ fold-roll-Node NodeTree PlanTree node_step plan_step (Node-F.Apply s k p)
 
 node_of-Filter : (s : ScalarCode) → node_of (Filter s) ≡ node_step (Node-F.Filter s)
 node_of-Filter s = ap node_of (sym (rolls-Filter s)) ∙ fold-roll-Node NodeTree PlanTree node_step plan_step (Node-F.Filter s)
@@ -52,6 +56,9 @@ of_layer P h n = subst P (roll-out-Node n) (h (out-Node n))
 pub with-Extend : (ss : List ScalarCode) (p : PlanTree) → with_node (Extend ss) p ≡ extend (scalars_of ss) p
 with-Extend ss p = ap (λ (n : NodeTree). n.over p) (node_of-Extend ss)
 
+pub with-Apply : (s : ScalarCode) (k : ApplyKind) (i : Plan) (p : PlanTree) → with_node (Apply s k i) p ≡ apply (scalar_of s) (kind_of k) (tree_of i) p
+with-Apply s k i p = ap (λ (n : NodeTree). n.over p) (node_of-Apply s k i)
+
 pub with-Filter : (s : ScalarCode) (p : PlanTree) → with_node (Filter s) p ≡ filter (scalar_of s) p
 with-Filter s p = ap (λ (n : NodeTree). n.over p) (node_of-Filter s)
 
@@ -73,9 +80,33 @@ with-Group is ags p = ap (λ (n : NodeTree). n.over p) (node_of-Group is ags)
 pub with-Sort : (keys : List SortKey) (p : PlanTree) → with_node (Sort keys) p ≡ sort keys p
 with-Sort keys p = ap (λ (n : NodeTree). n.over p) (node_of-Sort keys)
 
--- an Extend below a run
+-- each node below a run
 pub below-Extend : (ss : List ScalarCode) (rest : Nodes) → (node_of (Extend ss)).below rest ≡ extend_by (scalars_of ss) rest
 below-Extend ss rest = ap (λ (n : NodeTree). n.below rest) (node_of-Extend ss)
+
+pub below-Apply : (s : ScalarCode) (k : ApplyKind) (i : Plan) (rest : Nodes) → (node_of (Apply s k i)).below rest ≡ apply_by (scalar_of s) (kind_of k) (tree_of i) rest
+below-Apply s k i rest = ap (λ (n : NodeTree). n.below rest) (node_of-Apply s k i)
+
+pub below-Filter : (s : ScalarCode) (rest : Nodes) → (node_of (Filter s)).below rest ≡ rest
+below-Filter s rest = ap (λ (n : NodeTree). n.below rest) (node_of-Filter s)
+
+pub below-Keep : (is : List ℕ) (rest : Nodes) → (node_of (Keep is)).below rest ≡ rest
+below-Keep is rest = ap (λ (n : NodeTree). n.below rest) (node_of-Keep is)
+
+pub below-Cross : (r : Plan) (rest : Nodes) → (node_of (Cross r)).below rest ≡ rest
+below-Cross r rest = ap (λ (n : NodeTree). n.below rest) (node_of-Cross r)
+
+pub below-LeftOuter : (ns : List Node) (s : ScalarCode) (n : ℕ) (r : Plan) (rest : Nodes) → (node_of (LeftOuter ns s n r)).below rest ≡ rest
+below-LeftOuter ns s n r rest = ap (λ (x : NodeTree). x.below rest) (node_of-LeftOuter ns s n r)
+
+pub below-Settle : (rest : Nodes) → (node_of Settle).below rest ≡ rest
+below-Settle rest = ap (λ (n : NodeTree). n.below rest) node_of-Settle
+
+pub below-Group : (is : List ℕ) (ags : List AggregateColumn) (rest : Nodes) → (node_of (Group is ags)).below rest ≡ rest
+below-Group is ags rest = ap (λ (n : NodeTree). n.below rest) (node_of-Group is ags)
+
+pub below-Sort : (keys : List SortKey) (rest : Nodes) → (node_of (Sort keys)).below rest ≡ rest
+below-Sort keys rest = ap (λ (n : NodeTree). n.below rest) (node_of-Sort keys)
 
 -- ---- one more
 
@@ -94,6 +125,7 @@ NotUnit n = (p : PlanTree) → is_unit_row (with_node n p) ≡ false
 
 node_at : (y : Node-F Node Plan) → NotUnit (roll-Node y)
 node_at (Node-F.Extend ss) = subst NotUnit (sym (rolls-Extend ss)) (λ p. ap is_unit_row (with-Extend ss p))
+node_at (Node-F.Apply s k i) = subst NotUnit (sym (rolls-Apply s k i)) (λ p. ap is_unit_row (with-Apply s k i p))
 node_at (Node-F.Filter s) = subst NotUnit (sym (rolls-Filter s)) (λ p. ap is_unit_row (with-Filter s p))
 node_at (Node-F.Keep places) = subst NotUnit (sym (rolls-Keep places)) (λ p. ap is_unit_row (with-Keep places p))
 node_at (Node-F.Cross r) = subst NotUnit (sym (rolls-Cross r)) (λ p. ap is_unit_row (with-Cross r p))

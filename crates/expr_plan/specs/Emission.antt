@@ -26,9 +26,13 @@ abbrev pub guarded : Scalars → Scalar → Scalar
 guarded none s = s
 guarded (more check checks) s = word case_word (more (word and_word (more check checks)) (more s none))
 
--- TRUE where a column is a value; where it is a condition, that
+-- TRUE where a scalar is a value; where it is a condition, that
+abbrev pub tested : Scalar → Scalar
+tested s = word or_word (more (word (strict NullTest) (more s none)) (more (constant (Truth true)) none))
+
+-- the same of a column
 abbrev pub value_check : ℕ → Scalar
-value_check i = word or_word (more (word (strict NullTest) (more (column 0 i) none)) (more (constant (Truth true)) none))
+value_check i = tested (column 0 i)
 
 -- a check in front, where there is one
 abbrev pub check_if : Bool → ℕ → Scalars → Scalars

@@ -1,6 +1,6 @@
 pub mod Drafts
 pub mod Scopes
 pub mod Emission
-pub mod Cost
 pub mod Merging
 pub mod Words
+pub mod Asking

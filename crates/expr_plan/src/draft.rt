@@ -1,12 +1,12 @@
 //! A plan in the making: nodes are put over it one by one.
 
 ghost use Rattle.std.specs.Prelude.{◌≡◌, ◌+◌, length, Some, OnOk};
-ghost use Rattle.rel_algebra.specs.Plan.{extend, filter, keep, cross, left_outer, settle, group, sort, unit_row, on_each, Nodes};
-ghost use Rattle.rel_algebra.specs.PlanView.{scalar_of, scalars_of, aggregates_of, leaf_of, tree_of, run_of};
+ghost use Rattle.rel_algebra.specs.Plan.{extend, apply, kind_width, filter, keep, cross, left_outer, settle, group, sort, unit_row, on_each, Nodes};
+ghost use Rattle.rel_algebra.specs.PlanView.{scalar_of, scalars_of, kind_of, aggregates_of, leaf_of, tree_of, run_of};
 ghost use Rattle.catalog_store.specs.Kept.{run_of as kept_run};
 ghost use Rattle.expr_plan.specs.Drafts.{drafted, is_unit_row};
 
-use rel_algebra::{Leaf, Node, Plan, Scalar};
+use rel_algebra::{ApplyKind, Leaf, Node, Plan, Scalar};
 use row_types::{AggregateColumn, SortKey};
 use sql_values::NoMemory;
 use sqlite_items::{Boxed, Items};
@@ -81,6 +81,21 @@ impl Draft {
             return Err(NoMemory);
         };
         self.plan.nodes.push(Node::Extend(scalars))?;
+        self.columns = columns;
+        Ok(())
+    }
+
+    /// An Apply more: the cells that the kind makes of the rows of a plan inside, where the scalar
+    /// is true.
+    pub fn apply(&mut self, when: Scalar, kind: ApplyKind, inner: Plan) -> Result<(), NoMemory>
+        ensures tree { OnOk result ((drafted self.new).tree ≡ apply (scalar_of when) (kind_of kind) (tree_of inner) (drafted self.old).tree) }
+        ensures width { OnOk result ((drafted self.new).width ≡ (drafted self.old).width + kind_width (kind_of kind)) }
+    {
+        let Some(columns) = self.columns.checked_add(cells_of(&kind)) else {
+            return Err(NoMemory);
+        };
+        let inner = Boxed::new(self.alloc, inner)?;
+        self.plan.nodes.push(Node::Apply(when, kind, inner))?;
         self.columns = columns;
         Ok(())
     }
@@ -194,5 +209,17 @@ impl Draft {
             columns: _,
         } = self;
         plan
+    }
+}
+
+// How many cells a kind of Apply makes.
+fn cells_of(kind: &ApplyKind) -> usize
+    ensures { result ≡ kind_width (kind_of kind.now) }
+{
+    match kind {
+        ApplyKind::Single => 1,
+        ApplyKind::Exists => 1,
+        ApplyKind::Member(_) => 1,
+        ApplyKind::Aggregate(columns) => columns.len(),
     }
 }

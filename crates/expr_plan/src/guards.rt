@@ -72,5 +72,8 @@ fn is_computed(expr: &BoundExpr) -> bool
         BoundExpr::Operation(operation, operands) => operation.takes(operands.len()),
         BoundExpr::Chain(_, _) => true,
         BoundExpr::Call(_, _) => true,
+        BoundExpr::Single(_) => true,
+        BoundExpr::Exists(_) => true,
+        BoundExpr::In(_, _) => true,
     }
 }

@@ -1,21 +1,26 @@
-//! The plans of expressions: nodes over a plan in the making, and scalars over these. The plan of
-//! each called function stands in the place of the call.
+//! What plans of expressions are made of: nodes over a plan in the making, scalars over these, the
+//! places where names are read, and the plans of functions, which stand in the places of calls.
 #![tactic(auto)]
 
+mod asked;
 mod assigning;
 mod cases;
+mod copied;
 mod draft;
-mod emit;
 mod guards;
 mod merge;
 mod moved;
+mod moved_plans;
 mod scalars;
 mod scope;
 mod words;
 
-pub use assigning::assigned;
+pub use asked::{Asked, answered, ask};
+pub use assigning::{assigned, assigned_at};
+pub use cases::against;
 pub use draft::Draft;
-pub use emit::{emit_expr, emit_list};
-pub use scalars::{check, compare, turned_scalars, unary};
-pub use scope::{Scope, is_inner};
-pub use words::listed;
+pub use guards::argument_checks;
+pub use merge::merge_kept;
+pub use scalars::{check, compare, guard, one, turned_scalars, two, unary};
+pub use scope::{Parameters, Place, Scope, Span, is_inner};
+pub use words::{listed, word_over};

@@ -1,16 +1,18 @@
 //! The plan that is kept for a function, merged into a call.
 
-ghost use Rattle.std.specs.Prelude.{IsSome, IfOk};
+ghost use Rattle.std.specs.Prelude.{◌≡◌, List, [], ◌∷◌, IsSome, IfOk, OnOk};
+ghost use Rattle.rel_algebra.specs.declared.plan.Node.{Node as NodeCode};
 ghost use Rattle.rel_algebra.specs.Emit.{Emitted};
 ghost use Rattle.rel_algebra.specs.Merged.{moved};
 ghost use Rattle.rel_algebra.specs.PlanView.{scalar_of};
 ghost use Rattle.catalog_store.specs.Kept.{run_of, IsPlan, HasPlan};
 ghost use Rattle.expr_plan.specs.Drafts.{drafted};
 ghost use Rattle.expr_plan.specs.Emission.{Emits};
-ghost use Rattle.expr_plan.specs.Merging.{HasRun};
+ghost use Rattle.expr_plan.specs.Merging.{HasRun, move_of, with_run};
 
 use crate::draft::Draft;
-use crate::moved::{Shift, moved_list, moved_scalar};
+use crate::moved::{Shift, moved_kind, moved_list, moved_scalar};
+use crate::moved_plans::moved_plan;
 use catalog_store::FunctionPlan;
 use rel_algebra::{Node, Scalar};
 use sql_values::NoMemory;
@@ -42,13 +44,28 @@ fn merge(plan: &FunctionPlan, first: usize, draft: &mut Draft) -> Result<Scalar,
         from: first,
     };
     for node in plan.nodes.as_slice() {
-        match node {
-            Node::Extend(scalars) => {
-                let scalars = moved_list(draft.allocator(), shift, scalars.as_slice())?;
-                draft.extend(scalars)?;
-            }
-            _ => unreachable!(),
-        }
+        merge_node(node, shift, draft)?;
     }
-    Ok(moved_scalar(draft.allocator(), shift, &plan.scalar)?)
+    Ok(moved_scalar(draft.allocator(), shift, 0, &plan.scalar)?)
+}
+
+// Puts a node that adds columns over a plan in the making, moved.
+fn merge_node(node: &Node, shift: Shift, draft: &mut Draft) -> Result<(), NoMemory>
+    requires { IsSome (run_of (node.now ∷ [])) }
+    ensures { OnOk result ((others : List NodeCode) → with_run (move_of shift) (run_of others) (drafted draft.new) ≡ with_run (move_of shift) (run_of (node.now ∷ others)) (drafted draft.old)) }
+{
+    let alloc = draft.allocator();
+    match node {
+        Node::Extend(scalars) => {
+            let scalars = moved_list(alloc, shift, 0, scalars.as_slice())?;
+            Ok(draft.extend(scalars)?)
+        }
+        Node::Apply(when, kind, inner) => {
+            let when = moved_scalar(alloc, shift, 0, when)?;
+            let kind = moved_kind(alloc, shift, 0, kind)?;
+            let inner = moved_plan(alloc, shift, 0, inner.get())?;
+            Ok(draft.apply(when, kind, inner)?)
+        }
+        _ => unreachable!(),
+    }
 }

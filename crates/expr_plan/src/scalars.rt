@@ -4,7 +4,7 @@ ghost use Rattle.std.specs.Prelude.{◌≡◌, [], ◌∷◌, reverse, IfOk};
 ghost use Rattle.rel_algebra.specs.Tree.{Comparing};
 ghost use Rattle.rel_algebra.specs.Plan.{strict, word, more, none};
 ghost use Rattle.rel_algebra.specs.PlanView.{scalar_of, scalars_of, unary_operation};
-ghost use Rattle.expr_plan.specs.Emission.{guarded, value_check};
+ghost use Rattle.expr_plan.specs.Emission.{guarded, tested, value_check};
 
 use rel_algebra::{ListWord, Scalar, UnaryWord};
 use sql_values::{Comparison, NoMemory, Value};
@@ -55,7 +55,14 @@ pub fn two(alloc: Global, first: Scalar, second: Scalar) -> Result<Items<Scalar>
 pub fn check(alloc: Global, place: usize) -> Result<Scalar, NoMemory>
     ensures { IfOk result (λ s. scalar_of s ≡ value_check place) }
 {
-    let null_test = unary(alloc, UnaryWord::NullTest, Scalar::Column(0, place))?;
+    check_of(alloc, Scalar::Column(0, place))
+}
+
+/// TRUE where a scalar is a value; where it is a condition, that condition.
+pub fn check_of(alloc: Global, scalar: Scalar) -> Result<Scalar, NoMemory>
+    ensures { IfOk result (λ s. scalar_of s ≡ tested (scalar_of scalar)) }
+{
+    let null_test = unary(alloc, UnaryWord::NullTest, scalar)?;
     let operands = two(alloc, null_test, Scalar::Constant(Value::Bool(true)))?;
     Ok(Scalar::Listed(ListWord::Or, operands))
 }

@@ -1,49 +1,149 @@
 //! Where names are read.
 
-ghost use Rattle.std.specs.Prelude.{◌≡◌, ◌+◌, IfOk};
-ghost use Rattle.rel_algebra.specs.Emit.{read, below, at, given, columns_within, top};
+ghost use Rattle.std.specs.Prelude.{◌≡◌, ◌+◌, ◌++◌, map, IfOk, OnOk};
+ghost use Rattle.rel_algebra.specs.Emit.{read, at, entered, lifted, folded_env, passed, top};
 ghost use Rattle.rel_algebra.specs.PlanView.{scalar_of};
-ghost use Rattle.expr_plan.specs.Scopes.{env_of, is_zero};
+ghost use Rattle.expr_plan.specs.Scopes.{env_of, place_of, in_span, outward_span, outward_parameters, is_zero};
 
 use rel_algebra::Scalar;
 use sql_values::{NoMemory, Value};
+use sqlite_items::Items;
+use std::alloc::Global;
 
-/// Where the names of an expression are read. A name that is read nowhere is NULL.
+/// Columns of a row: how far out the row stands, the first of the columns, and how many there are.
 #[derive(Clone, Copy, Debug)]
-pub enum Scope {
-    /// In a query that no query stands around: columns in its row, which has so many.
-    Row(usize),
-    /// In a row of VALUES that no query stands around: no name is in sight.
-    Nothing,
-    /// In the body of a function that is called: its parameters in the columns from the first
-    /// number on, as many as the second says.
-    Parameters(usize, usize),
-    /// In the body of a function by itself: its parameters, so many, as arguments.
+pub struct Span {
+    pub level: usize,
+    pub first: usize,
+    pub count: usize,
+}
+
+/// Where parameters are read.
+#[derive(Clone, Copy, Debug)]
+pub enum Parameters {
+    /// As arguments, of which there are so many.
     Arguments(usize),
+    /// In columns.
+    Columns(Span),
+}
+
+/// Where a name is read.
+#[derive(Clone, Copy, Debug)]
+pub enum Place {
+    /// In a column, by its level and its place.
+    Column(usize, usize),
+    /// In an argument.
+    Argument(usize),
+    /// Nowhere: it is NULL.
+    Nowhere,
+}
+
+impl Place {
+    /// What a name is read as.
+    pub fn read(self) -> Scalar
+        ensures { scalar_of result ≡ read (place_of self) }
+    {
+        match self {
+            Place::Column(level, place) => Scalar::Column(level, place),
+            Place::Argument(place) => Scalar::Argument(place),
+            Place::Nowhere => Scalar::Constant(Value::Null),
+        }
+    }
+}
+
+/// Where the names of an expression are read: the columns of the queries that stand around it, the
+/// innermost first, and the parameters.
+#[derive(Drop)]
+pub struct Scope {
+    pub spans: Items<Span>,
+    pub parameters: Parameters,
 }
 
 impl Scope {
-    /// What a column is read as, by its level and its place.
-    pub fn column(self, level: usize, place: usize) -> Scalar
-        ensures { scalar_of result ≡ read ((env_of self).columns level place) }
+    /// What no query stands around: so many parameters, as arguments.
+    pub fn top(alloc: Global, parameters: usize) -> Scope
+        ensures { env_of result ≡ top parameters }
     {
-        match self {
-            Scope::Row(columns) => column_within(columns, level, place),
-            Scope::Nothing => Scalar::Constant(Value::Null),
-            Scope::Parameters(_, _) => Scalar::Constant(Value::Null),
-            Scope::Arguments(_) => Scalar::Constant(Value::Null),
+        Scope {
+            spans: Items::new(alloc),
+            parameters: Parameters::Arguments(parameters),
         }
     }
 
-    /// What a parameter is read as, by its place.
-    pub fn parameter(self, place: usize) -> Result<Scalar, NoMemory>
-        ensures { IfOk result (λ s. scalar_of s ≡ read ((env_of self).params place)) }
+    /// The body of a function that is called: its parameters in so many columns from `first` on.
+    pub fn passed(alloc: Global, first: usize, count: usize) -> Scope
+        ensures { env_of result ≡ passed first count }
     {
-        match self {
-            Scope::Row(_) => Ok(Scalar::Constant(Value::Null)),
-            Scope::Nothing => Ok(Scalar::Constant(Value::Null)),
-            Scope::Parameters(first, count) => passed(first, count, place),
-            Scope::Arguments(count) => Ok(argument(count, place)),
+        let span = Span {
+            level: 0,
+            first,
+            count,
+        };
+        Scope {
+            spans: Items::new(alloc),
+            parameters: Parameters::Columns(span),
+        }
+    }
+
+    /// A query on rows of so many columns, within these names.
+    pub fn entered(&self, alloc: Global, columns: usize) -> Result<Scope, NoMemory>
+        ensures { IfOk result (λ s. env_of s ≡ entered (env_of self.now) columns) }
+    {
+        let mut spans = Items::new(alloc);
+        spans.push(Span {
+            level: 0,
+            first: 0,
+            count: columns,
+        })?;
+        add_outward(self.spans.as_slice(), &mut spans)?;
+        let parameters = parameters_outward(self.parameters)?;
+        Ok(Scope { spans, parameters })
+    }
+
+    /// A row of VALUES, which has no row of its own, within these names.
+    pub fn lifted(&self, alloc: Global) -> Result<Scope, NoMemory>
+        ensures { IfOk result (λ s. env_of s ≡ lifted (env_of self.now)) }
+    {
+        let mut spans = Items::new(alloc);
+        add_outward(self.spans.as_slice(), &mut spans)?;
+        let parameters = parameters_outward(self.parameters)?;
+        Ok(Scope { spans, parameters })
+    }
+
+    /// The list of a query whose row is so many columns of the row outside it, from `first` on.
+    pub fn folded(&self, alloc: Global, first: usize, columns: usize) -> Result<Scope, NoMemory>
+        ensures { IfOk result (λ s. env_of s ≡ folded_env (env_of self.now) first columns) }
+    {
+        let mut spans = Items::new(alloc);
+        spans.push(Span {
+            level: 0,
+            first,
+            count: columns,
+        })?;
+        spans.append(Items::from_slice(alloc, self.spans.as_slice())?)?;
+        Ok(Scope {
+            spans,
+            parameters: self.parameters,
+        })
+    }
+
+    /// Where a column is read, by its level and its place.
+    pub fn column(&self, level: usize, place: usize) -> Result<Place, NoMemory>
+        ensures { IfOk result (λ p. place_of p ≡ (env_of self.now).columns level place) }
+    {
+        match self.spans.get(level) {
+            Some(span) => column_in(*span, place),
+            None => Ok(Place::Nowhere),
+        }
+    }
+
+    /// Where a parameter is read, by its place.
+    pub fn parameter(&self, place: usize) -> Result<Place, NoMemory>
+        ensures { IfOk result (λ p. place_of p ≡ (env_of self.now).params place) }
+    {
+        match self.parameters {
+            Parameters::Arguments(count) => Ok(argument(count, place)),
+            Parameters::Columns(span) => column_in(span, place),
         }
     }
 }
@@ -55,39 +155,60 @@ pub fn is_inner(level: usize) -> bool
     if level == 0 { true } else { false }
 }
 
-// A column of a query over rows of so many columns.
-fn column_within(columns: usize, level: usize, place: usize) -> Scalar
-    ensures { scalar_of result ≡ read (columns_within (top 0) columns level place) }
+// Puts columns behind others, seen from a row further in.
+fn add_outward(spans: &[Span], outward: &mut Items<Span>) -> Result<(), NoMemory>
+    ensures { OnOk result (outward.new ≡ outward.old ++ map outward_span spans.now) }
 {
-    if level > 0 {
-        Scalar::Constant(Value::Null)
-    } else if place < columns {
-        Scalar::Column(0, place)
-    } else {
-        Scalar::Constant(Value::Null)
+    for span in spans {
+        outward.push(span_outward(*span)?)?;
     }
+    Ok(())
 }
 
-// A parameter that stands in a column: the columns of all begin at `first`.
-fn passed(first: usize, count: usize, place: usize) -> Result<Scalar, NoMemory>
-    ensures { IfOk result (λ s. scalar_of s ≡ read (below count place (at 0 (first + place)))) }
+// Columns, seen from a row further in.
+fn span_outward(span: Span) -> Result<Span, NoMemory>
+    ensures { IfOk result (λ s. s ≡ outward_span span) }
 {
-    if place >= count {
-        return Ok(Scalar::Constant(Value::Null));
-    }
-    match first.checked_add(place) {
-        Some(column) => Ok(Scalar::Column(0, column)),
+    match span.level.checked_add(1) {
+        Some(level) => Ok(Span {
+            level,
+            first: span.first,
+            count: span.count,
+        }),
         None => Err(NoMemory),
     }
 }
 
-// A parameter that is an argument.
-fn argument(count: usize, place: usize) -> Scalar
-    ensures { scalar_of result ≡ read (below count place (given place)) }
+// Parameters, seen from a row further in.
+fn parameters_outward(parameters: Parameters) -> Result<Parameters, NoMemory>
+    ensures { IfOk result (λ p. p ≡ outward_parameters parameters) }
+{
+    match parameters {
+        Parameters::Arguments(count) => Ok(Parameters::Arguments(count)),
+        Parameters::Columns(span) => Ok(Parameters::Columns(span_outward(span)?)),
+    }
+}
+
+// The column at a place among some.
+fn column_in(span: Span, place: usize) -> Result<Place, NoMemory>
+    ensures { IfOk result (λ p. place_of p ≡ in_span span place) }
+{
+    if place >= span.count {
+        return Ok(Place::Nowhere);
+    }
+    match span.first.checked_add(place) {
+        Some(column) => Ok(Place::Column(span.level, column)),
+        None => Err(NoMemory),
+    }
+}
+
+// The argument at a place among so many.
+fn argument(count: usize, place: usize) -> Place
+    ensures { place_of result ≡ (top count).params place }
 {
     if place < count {
-        Scalar::Argument(place)
+        Place::Argument(place)
     } else {
-        Scalar::Constant(Value::Null)
+        Place::Nowhere
     }
 }

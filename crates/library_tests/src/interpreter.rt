@@ -6,8 +6,8 @@ use crate::small_table::{
 };
 use bound_trees::{BoundExpr, BoundQuery};
 use catalog_store::Catalog;
-use expr_interp::{Frame, Stop, World, eval};
-use psm_interp::{run_insert, run_query};
+use expr_interp::{Frame, RowsInSight, Stop, World};
+use psm_interp::{eval, run_insert, run_query};
 use sql_values::{Name, Value};
 use std::alloc::Global;
 
@@ -28,7 +28,7 @@ fn end_of_value(value: &Value) -> End {
 
 fn eval_end(expr: &BoundExpr, world: &mut World, catalog: &Catalog) -> End {
     let frame = Frame::empty(world.allocator());
-    match eval(expr, &[], &frame, world, catalog) {
+    match eval(expr, &RowsInSight::NoRow, &frame, world, catalog) {
         Ok(value) => end_of_value(&value),
         Err(stop) => end_of_stop(&stop),
     }

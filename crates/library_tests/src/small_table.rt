@@ -120,7 +120,7 @@ fn only(alloc: Global, expr: Option<BoundExpr>) -> Option<Items<BoundExpr>> {
 
 fn row(alloc: Global, value: Option<BoundExpr>) -> Option<BoundRow> {
     let values = only(alloc, value)?;
-    Some(BoundRow { values })
+    Some(BoundRow::Row(values))
 }
 
 // VALUES (first), (second)

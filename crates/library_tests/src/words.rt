@@ -3,7 +3,8 @@
 use crate::scalars::text;
 use crate::small_table::{catalog, literal, quotient, world};
 use bound_trees::{BoundExpr, BoundOperation};
-use expr_interp::{Frame, Stop, eval};
+use expr_interp::{Frame, RowsInSight, Stop};
+use psm_interp::eval;
 use sql_values::{Comparison, NoMemory, SqlType, Value};
 use sqlite_items::Items;
 use std::alloc::Global;
@@ -52,7 +53,7 @@ fn end_of(alloc: Global, expr: &BoundExpr) -> Option<Ended> {
     let catalog = catalog(alloc)?;
     let mut world = world(alloc)?;
     let frame = Frame::empty(alloc);
-    match eval(expr, &[], &frame, &mut world, &catalog) {
+    match eval(expr, &RowsInSight::NoRow, &frame, &mut world, &catalog) {
         Ok(value) => Some(Ended::With(value)),
         Err(Stop::Raised(_)) => Some(Ended::Raised),
         Err(_) => Some(Ended::Otherwise),

@@ -2,11 +2,17 @@
 use Rattle.std.specs.Prelude.{ℕ, suc, ◌+◌, Bool, true, false, if◌then◌else◌, List, [], ◌∷◌, map}
 use Rattle.std.specs.List.{flat_map}
 use Rattle.bound_trees.specs.declared.expr.BoundExpr.{BoundExpr, roll-BoundExpr, fold-BoundExpr}
-use Rattle.bound_trees.specs.declared.expr.BoundExpr.TheOpen.{BoundExpr-F, BoundLink-F}
-use Rattle.bound_trees.specs.declared.expr.BoundExpr.TheFolds.{map-BoundExpr}
+use Rattle.bound_trees.specs.declared.expr.BoundExpr.TheOpen.{BoundExpr-F, BoundFromItem-F, BoundQuery-F, BoundRow-F, BoundSource-F, BoundGrouping-F, BoundLink-F, BoundSelect-F}
+use Rattle.bound_trees.specs.declared.expr.BoundExpr.TheFolds.{map-BoundExpr, map-BoundFromItem, map-BoundQuery, map-BoundRow, map-BoundSource, map-BoundGrouping, map-BoundLink, map-BoundSelect}
 use Rattle.bound_trees.specs.declared.expr.BoundLink.{BoundLink, roll-BoundLink}
 use Rattle.bound_trees.specs.declared.expr.BoundOperation.{BoundOperation}
 use Rattle.bound_trees.specs.declared.expr.BoundOperation.TheVariants.{And}
+use Rattle.bound_trees.specs.declared.query.BoundFromItem.{BoundFromItem, roll-BoundFromItem}
+use Rattle.bound_trees.specs.declared.query.BoundQuery.{BoundQuery, roll-BoundQuery}
+use Rattle.bound_trees.specs.declared.query.BoundRow.{BoundRow, roll-BoundRow}
+use Rattle.bound_trees.specs.declared.query.BoundSource.{BoundSource, roll-BoundSource}
+use Rattle.bound_trees.specs.declared.query.BoundGrouping.{BoundGrouping, roll-BoundGrouping}
+use Rattle.bound_trees.specs.declared.query.BoundSelect.{BoundSelect, roll-BoundSelect}
 
 abbrev pub is_and : BoundOperation → Bool
 is_and And = true
@@ -17,21 +23,40 @@ pub record Test : Type 0 where
   pub itself : BoundExpr
   pub conjuncts : List BoundExpr
 
-abbrev pub conjuncts_at : BoundExpr-F Test BoundLink → List BoundExpr → List BoundExpr
+abbrev pub conjuncts_at : BoundExpr-F Test BoundFromItem BoundQuery BoundRow BoundSource BoundLink BoundGrouping BoundSelect → List BoundExpr → List BoundExpr
 conjuncts_at (BoundExpr-F.Operation word es) itself = if is_and word then flat_map (λ e. e.conjuncts) es else itself
 conjuncts_at _ itself = itself
 
-abbrev pub tree_at : BoundExpr-F Test BoundLink → BoundExpr
-tree_at x = roll-BoundExpr (map-BoundExpr Test BoundLink BoundExpr BoundLink (λ e. e.itself) (λ l. l) x)
+abbrev pub tree_at : BoundExpr-F Test BoundFromItem BoundQuery BoundRow BoundSource BoundLink BoundGrouping BoundSelect → BoundExpr
+tree_at x = roll-BoundExpr (map-BoundExpr Test BoundFromItem BoundQuery BoundRow BoundSource BoundLink BoundGrouping BoundSelect BoundExpr BoundFromItem BoundQuery BoundRow BoundSource BoundLink BoundGrouping BoundSelect (λ e. e.itself) (λ x. x) (λ x. x) (λ x. x) (λ x. x) (λ x. x) (λ x. x) (λ x. x) x)
 
-abbrev pub test_step : BoundExpr-F Test BoundLink → Test
+abbrev pub test_step : BoundExpr-F Test BoundFromItem BoundQuery BoundRow BoundSource BoundLink BoundGrouping BoundSelect → Test
 test_step x = record { itself = tree_at x; conjuncts = conjuncts_at x (tree_at x ∷ []) }
 
-abbrev pub link_step : BoundLink-F Test BoundLink → BoundLink
-link_step l = roll-BoundLink (record { operator = l.operator; operand = l.operand.itself })
+-- what else stands in an expression is itself
+abbrev pub item_step : BoundFromItem-F Test BoundFromItem BoundQuery BoundRow BoundSource BoundLink BoundGrouping BoundSelect → BoundFromItem
+item_step x = roll-BoundFromItem (map-BoundFromItem Test BoundFromItem BoundQuery BoundRow BoundSource BoundLink BoundGrouping BoundSelect BoundExpr BoundFromItem BoundQuery BoundRow BoundSource BoundLink BoundGrouping BoundSelect (λ e. e.itself) (λ x. x) (λ x. x) (λ x. x) (λ x. x) (λ x. x) (λ x. x) (λ x. x) x)
+
+abbrev pub query_step : BoundQuery-F Test BoundFromItem BoundQuery BoundRow BoundSource BoundLink BoundGrouping BoundSelect → BoundQuery
+query_step x = roll-BoundQuery (map-BoundQuery Test BoundFromItem BoundQuery BoundRow BoundSource BoundLink BoundGrouping BoundSelect BoundExpr BoundFromItem BoundQuery BoundRow BoundSource BoundLink BoundGrouping BoundSelect (λ e. e.itself) (λ x. x) (λ x. x) (λ x. x) (λ x. x) (λ x. x) (λ x. x) (λ x. x) x)
+
+abbrev pub row_step : BoundRow-F Test BoundFromItem BoundQuery BoundRow BoundSource BoundLink BoundGrouping BoundSelect → BoundRow
+row_step x = roll-BoundRow (map-BoundRow Test BoundFromItem BoundQuery BoundRow BoundSource BoundLink BoundGrouping BoundSelect BoundExpr BoundFromItem BoundQuery BoundRow BoundSource BoundLink BoundGrouping BoundSelect (λ e. e.itself) (λ x. x) (λ x. x) (λ x. x) (λ x. x) (λ x. x) (λ x. x) (λ x. x) x)
+
+abbrev pub source_step : BoundSource-F Test BoundFromItem BoundQuery BoundRow BoundSource BoundLink BoundGrouping BoundSelect → BoundSource
+source_step x = roll-BoundSource (map-BoundSource Test BoundFromItem BoundQuery BoundRow BoundSource BoundLink BoundGrouping BoundSelect BoundExpr BoundFromItem BoundQuery BoundRow BoundSource BoundLink BoundGrouping BoundSelect (λ e. e.itself) (λ x. x) (λ x. x) (λ x. x) (λ x. x) (λ x. x) (λ x. x) (λ x. x) x)
+
+abbrev pub grouping_step : BoundGrouping-F Test BoundFromItem BoundQuery BoundRow BoundSource BoundLink BoundGrouping BoundSelect → BoundGrouping
+grouping_step x = roll-BoundGrouping (map-BoundGrouping Test BoundFromItem BoundQuery BoundRow BoundSource BoundLink BoundGrouping BoundSelect BoundExpr BoundFromItem BoundQuery BoundRow BoundSource BoundLink BoundGrouping BoundSelect (λ e. e.itself) (λ x. x) (λ x. x) (λ x. x) (λ x. x) (λ x. x) (λ x. x) (λ x. x) x)
+
+abbrev pub link_step : BoundLink-F Test BoundFromItem BoundQuery BoundRow BoundSource BoundLink BoundGrouping BoundSelect → BoundLink
+link_step x = roll-BoundLink (map-BoundLink Test BoundFromItem BoundQuery BoundRow BoundSource BoundLink BoundGrouping BoundSelect BoundExpr BoundFromItem BoundQuery BoundRow BoundSource BoundLink BoundGrouping BoundSelect (λ e. e.itself) (λ x. x) (λ x. x) (λ x. x) (λ x. x) (λ x. x) (λ x. x) (λ x. x) x)
+
+abbrev pub select_step : BoundSelect-F Test BoundFromItem BoundQuery BoundRow BoundSource BoundLink BoundGrouping BoundSelect → BoundSelect
+select_step x = roll-BoundSelect (map-BoundSelect Test BoundFromItem BoundQuery BoundRow BoundSource BoundLink BoundGrouping BoundSelect BoundExpr BoundFromItem BoundQuery BoundRow BoundSource BoundLink BoundGrouping BoundSelect (λ e. e.itself) (λ x. x) (λ x. x) (λ x. x) (λ x. x) (λ x. x) (λ x. x) (λ x. x) x)
 
 abbrev pub test_of : BoundExpr → Test
-test_of = fold-BoundExpr Test BoundLink test_step link_step
+test_of = fold-BoundExpr Test BoundFromItem BoundQuery BoundRow BoundSource BoundLink BoundGrouping BoundSelect test_step item_step query_step row_step source_step link_step grouping_step select_step
 
 abbrev pub conjuncts_of : BoundExpr → List BoundExpr
 conjuncts_of e = (test_of e).conjuncts
@@ -42,15 +67,15 @@ abbrev pub total : List ℕ → ℕ
 total [] = 0
 total (n ∷ ns) = n + total ns
 
-abbrev pub weight_step : BoundExpr-F ℕ ℕ → ℕ
+abbrev pub one : {A : Type 0} → A → ℕ
+one x = 1
+
+abbrev pub weight_step : BoundExpr-F ℕ ℕ ℕ ℕ ℕ ℕ ℕ ℕ → ℕ
 weight_step (BoundExpr-F.Operation word es) = suc (total es)
 weight_step _ = 1
 
-abbrev pub link_weight : BoundLink-F ℕ ℕ → ℕ
-link_weight l = 1
-
 abbrev pub weight : BoundExpr → ℕ
-weight = fold-BoundExpr ℕ ℕ weight_step link_weight
+weight = fold-BoundExpr ℕ ℕ ℕ ℕ ℕ ℕ ℕ ℕ weight_step one one one one one one one
 
 abbrev pub weights : List BoundExpr → ℕ
 weights es = total (map weight es)

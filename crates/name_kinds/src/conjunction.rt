@@ -60,6 +60,9 @@ fn part(
         BoundExpr::Variable(place) => found.push(BoundExpr::Variable(place))?,
         BoundExpr::Chain(first, rest) => found.push(BoundExpr::Chain(first, rest))?,
         BoundExpr::Call(name, args) => found.push(BoundExpr::Call(name, args))?,
+        BoundExpr::Single(query) => found.push(BoundExpr::Single(query))?,
+        BoundExpr::Exists(query) => found.push(BoundExpr::Exists(query))?,
+        BoundExpr::In(left, query) => found.push(BoundExpr::In(left, query))?,
     }
     Ok(())
 }

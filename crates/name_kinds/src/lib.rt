@@ -20,10 +20,10 @@ pub use chains::{ask_chain, chain_kind, chain_place};
 pub use columns::{arguments, in_turn, join_row};
 pub use conjunction::conjuncts;
 pub use kind::{Head, Kind, head_of, kind_of_literal, kind_of_type, settle};
-pub use operands::test;
+pub use operands::{like_first, test};
 pub use operations::{ask, kind_given};
 pub use types::{note_type, type_of};
-pub use words::{chain_of, missing, tree_of, value_of};
+pub use words::{chain_of, missing, opposite, tree_of, value_of};
 
 /// Conjuncts in brackets stand beside the others, in their order; an operand of OR is none.
 pub fn conjuncts_stand_in_order()

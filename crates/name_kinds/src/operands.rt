@@ -47,7 +47,7 @@ pub(crate) fn common(heads: &[Head]) -> Kind
 }
 
 /// Operands each of the kind of the first.
-pub(crate) fn like_first(heads: &[Head], least: &mut Option<Fault>)
+pub fn like_first(heads: &[Head], least: &mut Option<Fault>)
     ensures { least.new ≡ noted least.old (spec.like_first heads.now) }
 {
     match heads {

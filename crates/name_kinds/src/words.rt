@@ -40,7 +40,8 @@ fn word_of_test(test: TruthTest) -> BoundOperation
     }
 }
 
-fn opposite(alloc: Global, test: BoundExpr) -> Result<BoundExpr, NoMemory>
+/// NOT of a test.
+pub fn opposite(alloc: Global, test: BoundExpr) -> Result<BoundExpr, NoMemory>
     ensures { IfOk result (λ e. e ≡ spec.opposite test) }
 {
     let mut operands = Items::new(alloc);

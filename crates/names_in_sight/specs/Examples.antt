@@ -10,7 +10,7 @@ use Rattle.names_in_sight.specs.declared.sight.Found.{Found}
 use Rattle.names_in_sight.specs.declared.sight.Found.TheVariants.{Column, Guessed, Variable, Barred, Several, Unknown}
 use Rattle.names_in_sight.specs.declared.key.Key.{Key}
 use Rattle.names_in_sight.specs.declared.key.Key.TheVariants.{Own, Guessed as GuessedKey, Other}
-use Rattle.names_in_sight.specs.Sight.{Level, Seen, stands_for, key_of, may_stand, inside_aggregate}
+use Rattle.names_in_sight.specs.Sight.{Level, Seen, stands_for, key_of, may_stand, inside_aggregate, inside_values}
 
 abbrev pub ident : List ℕ → Ident
 ident name = record { name = name; anchor = record { token = 0; line = 1; column = 1 } }
@@ -37,11 +37,11 @@ abbrev pub missing : List ℕ → Item
 missing name = record { name = name; columns = []; first = 0; known = false }
 
 abbrev pub level : ℕ → List Item → Level
-level base is = record { items = is; base = base; keys = []; grouped = false }
+level base is = record { items = is; base = base; keys = []; grouped = false; aggregates = false }
 
 -- the list or HAVING of a query that is grouped by these
 abbrev pub group : List Key → List Item → Level
-group keys is = record { items = is; base = 0; keys = keys; grouped = true }
+group keys is = record { items = is; base = 0; keys = keys; grouped = true; aggregates = true }
 
 -- inside these queries, in a function with a parameter X
 abbrev pub seen : List Level → Seen
@@ -120,6 +120,8 @@ pub record GroupsBar : Type 0 where
   pub aggregate_in_a_group : may_stand (by_two ∷ []) ≡ true
   pub aggregate_in_an_inner_query : may_stand (level 0 (t ∷ []) ∷ by_two ∷ []) ≡ false
   pub aggregate_in_an_aggregate : may_stand (inside_aggregate (seen (by_two ∷ []))).levels ≡ false
+  pub aggregate_in_values : may_stand (inside_values (seen (by_two ∷ []))).levels ≡ false
+  pub other_column_in_values : stands_for (plain (codes "K")) (inside_values (seen (by_two ∷ []))) ≡ Barred
   pub aggregate_outside : may_stand [] ≡ false
   pub key : key_of (Column 0 3 Integer) (codes "B") ≡ Own 3
   pub outer_key : key_of (Column 1 3 Integer) (codes "B") ≡ Other

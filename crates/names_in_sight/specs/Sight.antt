@@ -21,12 +21,13 @@ use Rattle.names_in_sight.specs.Columns.{hits, together, or_else, moved}
 use Rattle.names_in_sight.specs.Index.{place_of}
 
 -- What a query brings in sight: items of its FROM, and the place in its row at which the first of them begins. In the list and in HAVING of a grouped
--- query only its grouping columns are, and aggregates may stand.
+-- query only its grouping columns are, and aggregates may stand, but not in VALUES there.
 pub record Level : Type 0 where
   pub items : List Item
   pub base : ℕ
   pub keys : List Key
   pub grouped : Bool
+  pub aggregates : Bool
 
 -- the queries around an expression, the innermost first, the variables and parameters, and the catalog
 pub record Seen : Type 0 where
@@ -159,15 +160,23 @@ key_of Unknown name = key.Other
 -- aggregates stand directly in the list and in HAVING of a grouped query
 abbrev pub may_stand : List Level → Bool
 may_stand [] = false
-may_stand (l ∷ ls) = l.grouped
+may_stand (l ∷ ls) = l.aggregates
 
 abbrev pub ungrouped : List Level → List Level
 ungrouped [] = []
-ungrouped (l ∷ ls) = record { items = l.items; base = l.base; keys = l.keys; grouped = false } ∷ ls
+ungrouped (l ∷ ls) = record { items = l.items; base = l.base; keys = l.keys; grouped = false; aggregates = false } ∷ ls
 
 -- in the argument of an aggregate each column of its query is in sight, and no aggregate may stand
 abbrev pub inside_aggregate : Seen → Seen
 inside_aggregate seen = record { levels = ungrouped seen.levels; variables = seen.variables; catalog = seen.catalog }
+
+abbrev pub without_aggregates : List Level → List Level
+without_aggregates [] = []
+without_aggregates (l ∷ ls) = record { items = l.items; base = l.base; keys = l.keys; grouped = l.grouped; aggregates = false } ∷ ls
+
+-- in VALUES the same columns are in sight, and no aggregate may stand
+abbrev pub inside_values : Seen → Seen
+inside_values seen = record { levels = without_aggregates seen.levels; variables = seen.variables; catalog = seen.catalog }
 
 -- ---- sights
 
@@ -193,7 +202,7 @@ over_catalog catalog seen = record { levels = seen.levels; variables = seen.vari
 -- ---- what the code's sight shows
 
 abbrev pub level_by : CodeLevel → Level
-level_by l = record { items = l.items.now; base = l.base; keys = l.keys.now; grouped = l.grouped }
+level_by l = record { items = l.items.now; base = l.base; keys = l.keys.now; grouped = l.grouped; aggregates = l.aggregates }
 
 abbrev pub seen_by : CodeSight → Seen
 seen_by s = record { levels = map level_by s.levels.now; variables = s.variables.now; catalog = s.catalog.now }

@@ -18,6 +18,7 @@ pub use name_list::NameList;
 pub use output::{Hit, Output, copied};
 pub use sight::{
     Found, Level, Sight, Variables, entered, may_stand, no_variables, stands_for, ungrouped,
+    without_aggregates,
 };
 
 /// A name stands for one column at most, by its place in the row of its query.

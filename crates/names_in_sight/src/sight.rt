@@ -24,13 +24,16 @@ pub struct Variables {
 
 /// What a query brings in sight: items of its FROM, and the place in its row at which the first of
 /// them begins. In the list and in HAVING of a grouped query only its grouping columns are in sight,
-/// and aggregates may stand.
+/// and aggregates may stand, but not in VALUES there.
 #[derive(Clone, Copy)]
 pub struct Level<'a> {
     pub items: &'a [Item],
     pub base: usize,
     pub keys: &'a [Key],
+    /// Whether only the grouping columns are in sight.
     pub grouped: bool,
+    /// Whether aggregates may stand.
+    pub aggregates: bool,
 }
 
 /// The queries around an expression, the innermost first, the variables and parameters, and the
@@ -163,7 +166,7 @@ pub fn may_stand(levels: &[Level<'_>]) -> bool
     ensures { result ≡ spec.may_stand (map level_by levels.now) }
 {
     match levels {
-        [level, ..] => level.grouped,
+        [level, ..] => level.aggregates,
         [] => false,
     }
 }
@@ -180,6 +183,30 @@ pub fn ungrouped<'a>(alloc: Global, levels: &'a [Level<'a>]) -> Result<Vec<Level
                 base: level.base,
                 keys: level.keys,
                 grouped: false,
+                aggregates: false,
+            };
+            let found = entered(alloc, inner, outside)?;
+            Ok(found)
+        }
+        [] => Ok(Vec::new(alloc)),
+    }
+}
+
+/// The levels inside VALUES: the same columns are in sight there, and no aggregate may stand.
+pub fn without_aggregates<'a>(
+    alloc: Global,
+    levels: &'a [Level<'a>],
+) -> Result<Vec<Level<'a>>, NoMemory>
+    ensures { IfOk result (λ ls. map level_by ls.items ≡ spec.without_aggregates (map level_by levels.now)) }
+{
+    match levels {
+        [level, outside @ ..] => {
+            let inner = Level {
+                items: level.items,
+                base: level.base,
+                keys: level.keys,
+                grouped: level.grouped,
+                aggregates: false,
             };
             let found = entered(alloc, inner, outside)?;
             Ok(found)

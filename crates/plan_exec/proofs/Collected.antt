@@ -78,7 +78,7 @@ cells_ok [] h = refl
 cells_ok (Val v ∷ cs) h = ap (with_value v) (cells_ok cs h)
 cells_ok (Cond a ∷ cs) h = cc
 
-row_ok : (row : PlanRow) → row_area row ≡ None → row_end row ≡ Ok (among_row row)
+pub row_ok : (row : PlanRow) → row_area row ≡ None → row_end row ≡ Ok (among_row row)
 row_ok (Whole cs) h = cells_ok cs h
 row_ok (Poisoned a) h = cc
 

@@ -1,7 +1,11 @@
+pub mod Applying
+pub mod Collapsing
 pub mod Collected
 pub mod Grouped
+pub mod Growing
 pub mod Matching
 pub mod Nodes
+pub mod Opening
 pub mod Paired
 pub mod Picks
 pub mod Read

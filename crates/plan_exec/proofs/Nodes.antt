@@ -11,17 +11,18 @@ use Rattle.row_types.specs.Cells.{PlanRow, Whole, Poisoned}
 use Rattle.rel_algebra.specs.declared.plan.Node.{Node, out-Node, roll-Node}
 use Rattle.rel_algebra.specs.declared.plan.Node.TheOpen.{Node-F}
 use Rattle.rel_algebra.specs.declared.plan.Node.TheFolds.{map-Node, fold-roll-Node}
-use Rattle.rel_algebra.specs.declared.plan.Node.TheVariants.{Extend, Filter, Keep, Cross, LeftOuter, Settle, Group, Sort, rolls-Extend, rolls-Filter, rolls-Keep, rolls-Cross, rolls-LeftOuter, rolls-Settle, rolls-Group, rolls-Sort}
+use Rattle.rel_algebra.specs.declared.plan.Node.TheVariants.{Extend, Apply, Filter, Keep, Cross, LeftOuter, Settle, Group, Sort, rolls-Extend, rolls-Apply, rolls-Filter, rolls-Keep, rolls-Cross, rolls-LeftOuter, rolls-Settle, rolls-Group, rolls-Sort}
 use Rattle.rel_algebra.specs.declared.plan.Node.TheViews.{roll-out-Node}
+use Rattle.rel_algebra.specs.declared.plan.ApplyKind.{ApplyKind}
 use Rattle.rel_algebra.specs.declared.plan.Plan.{Plan}
 use Rattle.rel_algebra.specs.declared.scalar.Scalar.{Scalar}
 use Rattle.row_types.specs.declared.aggregate_column.AggregateColumn.{AggregateColumn}
 use Rattle.row_types.specs.declared.sort_key.SortKey.{SortKey}
 use Rattle.rel_algebra.specs.Plain.{Inputs}
-use Rattle.rel_algebra.specs.Plan.{PlanTree, Nodes, den, added, each, kept, sight, cell_of, extend, filter, keep, cross, left_outer, settle, group, sort}
-use Rattle.rel_algebra.specs.PlanView.{NodeTree, node_step, plan_step, node_of, tree_of, with_node, with_nodes, run_of, scalar_of, scalars_of, aggregates_of}
+use Rattle.rel_algebra.specs.Plan.{PlanTree, den, each, kept, sight, cell_of, extend, apply, filter, keep, cross, left_outer, settle, group, sort}
+use Rattle.rel_algebra.specs.PlanView.{NodeTree, node_step, plan_step, node_of, tree_of, with_node, with_nodes, run_of, kind_of, scalar_of, scalars_of, aggregates_of}
 use Rattle.rel_algebra.specs.Work.{work_below}
-use Rattle.plan_exec.specs.Fates.{Fate, Stays, Gone, Raises, tested, node_fate, go_on, fate, fate_rows, passed, by_row, grown, grown_by}
+use Rattle.plan_exec.specs.Fates.{Fate, Stays, Gone, Raises, tested, node_fate, go_on, fate, fate_rows, passed, by_row}
 
 -- ---- rows
 
@@ -65,7 +66,7 @@ gone_on (Raises a) go = refl
 
 -- ---- the plain trees of nodes
 
-node_is : (y : Node-F Node Plan) → node_of (roll-Node y) ≡ node_step (map-Node Node Plan NodeTree PlanTree node_of tree_of y)
+pub node_is : (y : Node-F Node Plan) → node_of (roll-Node y) ≡ node_step (map-Node Node Plan NodeTree PlanTree node_of tree_of y)
 node_is y = fold-roll-Node NodeTree PlanTree node_step plan_step y
 
 pub of_layer : (P : Node → Type 0) → ((y : Node-F Node Plan) → P (roll-Node y)) → (n : Node) → P n
@@ -73,6 +74,10 @@ of_layer P h n = subst P (roll-out-Node n) (h (out-Node n))
 
 pub over_extend : (ss : List Scalar) (input : PlanTree) → with_node (Extend ss) input ≡ extend (scalars_of ss) input
 over_extend ss input = ap (λ n. with_node n input) (sym (rolls-Extend ss)) ∙ ap (λ (t : NodeTree). t.over input) (node_is (Node-F.Extend ss))
+
+pub over_apply : (when : Scalar) (kind : ApplyKind) (inner : Plan) (input : PlanTree) → with_node (Apply when kind inner) input ≡ apply (scalar_of when) (kind_of kind) (tree_of inner) input
+over_apply when kind inner input =
+    ap (λ n. with_node n input) (sym (rolls-Apply when kind inner)) ∙ ap (λ (t : NodeTree). t.over input) (node_is (Node-F.Apply when kind inner))
 
 pub over_filter : (s : Scalar) (input : PlanTree) → with_node (Filter s) input ≡ filter (scalar_of s) input
 over_filter s input = ap (λ n. with_node n input) (sym (rolls-Filter s)) ∙ ap (λ (t : NodeTree). t.over input) (node_is (Node-F.Filter s))
@@ -105,6 +110,7 @@ IsFates n = by_row n ≡ true → (input : PlanTree) (w : Inputs) (o : List (Lis
 
 fates_at : (y : Node-F Node Plan) → IsFates (roll-Node y)
 fates_at (Node-F.Extend ss) = subst IsFates (sym (rolls-Extend ss)) (λ h input w o. ap (λ t. den t w o) (over_extend ss input))
+fates_at (Node-F.Apply when kind inner) = subst IsFates (sym (rolls-Apply when kind inner)) (λ h. absurd (false≢true h))
 fates_at (Node-F.Filter s) =
     subst IsFates (sym (rolls-Filter s))
     (λ h input w o. ap (λ t. den t w o) (over_filter s input) ∙ each_same _ _ (λ row. kept_tested (cell_of (scalar_of s) (sight w o row)) row) (den input w o))
@@ -139,6 +145,7 @@ IsDearer n = (input : PlanTree) (w : Inputs) (o : List (List Cell)) → work_bel
 
 dearer_step : (y : Node-F NodeTree PlanTree) (input : PlanTree) (w : Inputs) (o : List (List Cell)) → work_below input w o ≤ work_below ((node_step y).over input) w o
 dearer_step (Node-F.Extend ss) input w o = omega arith
+dearer_step (Node-F.Apply when kind inner) input w o = omega arith
 dearer_step (Node-F.Filter s) input w o = omega arith
 dearer_step (Node-F.Keep places) input w o = omega arith
 dearer_step (Node-F.Cross right) input w o = omega arith
@@ -155,33 +162,3 @@ node_work = of_layer IsDearer (λ y input w o.
 pub nodes_work : (ns : List Node) (input : PlanTree) (w : Inputs) (o : List (List Cell)) → work_below input w o ≤ work_below (with_nodes ns input) w o
 nodes_work [] input w o = omega arith
 nodes_work (n ∷ ns) input w o = omega (arith, node_work n input w o, nodes_work ns (with_node n input) w o)
-
--- ---- nodes that are run on a pair
-
-abbrev IsGrowing : Node → Type 0
-IsGrowing n = (rest : Nodes) (w : Inputs) (o : List (List Cell)) (row : List Cell) → added ((node_of n).below rest) w o row ≡ added rest w o (grown_by n row o w.args)
-
-below_is : (y : Node-F Node Plan) (n : Node) → roll-Node y ≡ n → (rest : Nodes) → (node_of n).below rest ≡ (node_step (map-Node Node Plan NodeTree PlanTree node_of tree_of y)).below rest
-below_is y n is rest = ap (λ m. (node_of m).below rest) (sym is) ∙ ap (λ (t : NodeTree). t.below rest) (node_is y)
-
-growing_at : (y : Node-F Node Plan) → IsGrowing (roll-Node y)
-growing_at (Node-F.Extend ss) = subst IsGrowing (sym (rolls-Extend ss)) (λ rest w o row. ap (λ ns. added ns w o row) (below_is (Node-F.Extend ss) (Extend ss) (rolls-Extend ss) rest))
-growing_at (Node-F.Filter s) = subst IsGrowing (sym (rolls-Filter s)) (λ rest w o row. ap (λ ns. added ns w o row) (below_is (Node-F.Filter s) (Filter s) (rolls-Filter s) rest))
-growing_at (Node-F.Keep places) =
-    subst IsGrowing (sym (rolls-Keep places)) (λ rest w o row. ap (λ ns. added ns w o row) (below_is (Node-F.Keep places) (Keep places) (rolls-Keep places) rest))
-growing_at (Node-F.Cross right) =
-    subst IsGrowing (sym (rolls-Cross right)) (λ rest w o row. ap (λ ns. added ns w o row) (below_is (Node-F.Cross right) (Cross right) (rolls-Cross right) rest))
-growing_at (Node-F.LeftOuter ms s n right) =
-    subst IsGrowing (sym (rolls-LeftOuter ms s n right))
-    (λ rest w o row. ap (λ ns. added ns w o row) (below_is (Node-F.LeftOuter ms s n right) (LeftOuter ms s n right) (rolls-LeftOuter ms s n right) rest))
-growing_at Node-F.Settle = subst IsGrowing (sym rolls-Settle) (λ rest w o row. ap (λ ns. added ns w o row) (below_is Node-F.Settle Settle rolls-Settle rest))
-growing_at (Node-F.Group places aggregates) =
-    subst IsGrowing (sym (rolls-Group places aggregates))
-    (λ rest w o row. ap (λ ns. added ns w o row) (below_is (Node-F.Group places aggregates) (Group places aggregates) (rolls-Group places aggregates) rest))
-growing_at (Node-F.Sort keys) =
-    subst IsGrowing (sym (rolls-Sort keys)) (λ rest w o row. ap (λ ns. added ns w o row) (below_is (Node-F.Sort keys) (Sort keys) (rolls-Sort keys) rest))
-
--- what a run of nodes adds to a row
-pub added_is : (ns : List Node) (w : Inputs) (o : List (List Cell)) (row : List Cell) → added (run_of ns) w o row ≡ grown ns row o w.args
-added_is [] w o row = refl
-added_is (n ∷ ns) w o row = of_layer IsGrowing growing_at n (run_of ns) w o row ∙ added_is ns w o (grown_by n row o w.args)

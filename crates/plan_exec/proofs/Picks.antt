@@ -97,3 +97,9 @@ own_more row i vs us v whole l h e k =
     ap (λ xs. map Val xs ++ drop (i + 1) row) e
     ∙ (ap (λ xs. xs ++ drop (i + 1) row) (map-append Val vs (v ∷ []))
     ∙ (append_assoc (map Val vs) (Val v ∷ []) (drop (i + 1) row) ∙ (ap (λ xs. map Val vs ++ xs) (sym at) ∙ k)))
+
+-- one cell more of a row
+pub cell_more : (row : List Cell) (i : ℕ) (cs ds : List Cell) (c : Cell) (whole : List Cell) → i < length row → c ≡ cell_at row i → ds ≡ cs ++ c ∷ [] → cs ++ drop i row ≡ whole → ds ++ drop (i + 1) row ≡ whole
+cell_more row i cs ds c whole l h e k =
+    let at : drop i row ≡ c ∷ drop (i + 1) row = drop_more row i (Val Null) l ∙ ap (λ x. x ∷ drop (i + 1) row) (cell_is row i ∙ sym h) in
+    ap (λ xs. xs ++ drop (i + 1) row) e ∙ (append_assoc cs (c ∷ []) (drop (i + 1) row) ∙ (ap (λ xs. cs ++ xs) (sym at) ∙ k))

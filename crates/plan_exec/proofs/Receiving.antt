@@ -10,7 +10,7 @@ use Rattle.row_types.specs.declared.cell.Cell.TheVariants.{Val}
 use Rattle.row_types.specs.Cells.{PlanRow, Whole, cells_end, row_end, with_value}
 use Rattle.rel_algebra.specs.declared.plan.Node.{Node, roll-Node}
 use Rattle.rel_algebra.specs.declared.plan.Node.TheOpen.{Node-F}
-use Rattle.rel_algebra.specs.declared.plan.Node.TheVariants.{Group, rolls-Extend, rolls-Filter, rolls-Keep, rolls-Cross, rolls-LeftOuter, rolls-Settle, rolls-Group, rolls-Sort}
+use Rattle.rel_algebra.specs.declared.plan.Node.TheVariants.{Group, rolls-Extend, rolls-Apply, rolls-Filter, rolls-Keep, rolls-Cross, rolls-LeftOuter, rolls-Settle, rolls-Group, rolls-Sort}
 use Rattle.rel_algebra.specs.declared.plan.Plan.{Plan}
 use Rattle.rel_algebra.specs.Endings.{Ending}
 use Rattle.rel_algebra.specs.Plan.{collected}
@@ -65,6 +65,7 @@ BeginsList n = takes_list n ≡ true → nothing_for n ≡ Rows []
 
 begins_at : (y : Node-F Node Plan) → BeginsList (roll-Node y)
 begins_at (Node-F.Extend ss) = subst BeginsList (sym (rolls-Extend ss)) (λ h. refl)
+begins_at (Node-F.Apply when kind inner) = subst BeginsList (sym (rolls-Apply when kind inner)) (λ h. refl)
 begins_at (Node-F.Filter s) = subst BeginsList (sym (rolls-Filter s)) (λ h. refl)
 begins_at (Node-F.Keep places) = subst BeginsList (sym (rolls-Keep places)) (λ h. refl)
 begins_at (Node-F.Cross right) = subst BeginsList (sym (rolls-Cross right)) (λ h. refl)
@@ -82,6 +83,7 @@ BeginsFolds n = by_row n ≡ false → takes_list n ≡ false → is_list (nothi
 
 folds_at : (y : Node-F Node Plan) → BeginsFolds (roll-Node y)
 folds_at (Node-F.Extend ss) = subst BeginsFolds (sym (rolls-Extend ss)) (λ h k. absurd (false≢true (sym h)))
+folds_at (Node-F.Apply when kind inner) = subst BeginsFolds (sym (rolls-Apply when kind inner)) (λ h k. absurd (false≢true (sym k)))
 folds_at (Node-F.Filter s) = subst BeginsFolds (sym (rolls-Filter s)) (λ h k. absurd (false≢true (sym h)))
 folds_at (Node-F.Keep places) = subst BeginsFolds (sym (rolls-Keep places)) (λ h k. absurd (false≢true (sym h)))
 folds_at (Node-F.Cross right) = subst BeginsFolds (sym (rolls-Cross right)) (λ h k. absurd (false≢true (sym k)))

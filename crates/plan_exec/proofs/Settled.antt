@@ -1,5 +1,5 @@
 -- Lists that are settled: what is collected of a list tells the list, where it has no area.
-use Rattle.std.proofs.Common.{◌≡◌, ℕ, List, [], ◌∷◌, ◌++◌, Ok, Err, refl, ap, ap₂, ◌∙◌}
+use Rattle.std.proofs.Common.{◌≡◌, ℕ, ◌≤◌, List, [], ◌∷◌, Ok, Err, refl, ap, ap₂, ◌∙◌, arith}
 use Rattle.sql_values.specs.declared.value.Value.{Value}
 use Rattle.sql_conditions.specs.Conditions.{Area}
 use Rattle.row_types.specs.Rows.{Row}
@@ -9,10 +9,10 @@ use Rattle.row_types.specs.Cells.{PlanRow, Whole, Poisoned}
 use Rattle.row_types.specs.Sorting.{in_order}
 use Rattle.row_types.specs.declared.sort_key.SortKey.{SortKey}
 use Rattle.rel_algebra.specs.Endings.{Ending, after}
-use Rattle.rel_algebra.specs.Plan.{collected, values_of, shown, shown_rows, finished, settled, settled_as, settled_then, with_settled, crossed, joined, kept, or_null_cells, sorted}
+use Rattle.rel_algebra.specs.Plan.{collected, values_of, shown, shown_rows, finished, settled, settled_as, settled_then, with_settled, crossed, sorted}
 use Rattle.plan_exec.specs.Answers.{shown_end}
-use Rattle.plan_exec.specs.Joins.{both_ends, from_end, pairs}
-use Rattle.plan_exec.proofs.Nodes.{each_same}
+use Rattle.rel_algebra.specs.Work.{over_pairs}
+use Rattle.plan_exec.specs.Joins.{both_ends, from_end, pairs, pairs_work}
 
 -- cells and rows, told by what they come to
 abbrev ToldCells : List Cell → Ending Row → Type 0
@@ -31,6 +31,13 @@ told_cells : (cs : List Cell) → ToldCells cs (values_of cs)
 told_cells [] = refl
 told_cells (Cond a ∷ cs) = tt
 told_cells (Val v ∷ cs) = cell_more v cs (values_of cs) (told_cells cs)
+
+told_by : (cs : List Cell) (e : Ending Row) (vs : Row) → ToldCells cs e → e ≡ Ok vs → cs ≡ shown vs
+told_by cs (Ok us) vs h k = let same : us ≡ vs = cc in h ∙ ap shown same
+told_by cs (Err a) vs h k = cc
+
+pub told_values : (cs : List Cell) (vs : Row) → values_of cs ≡ Ok vs → cs ≡ shown vs
+told_values cs vs h = told_by cs (values_of cs) vs (told_cells cs) h
 
 row_more : (cs : List Cell) (rows : List PlanRow) (e : Ending Row) (f : Ending (List Row)) → ToldCells cs e → Told rows f → Told (Whole cs ∷ rows) (after e (λ r. after f (λ rs. Ok (r ∷ rs))))
 row_more cs rows (Ok vs) (Ok rs) h k = ap₂ (λ ds qs. Whole ds ∷ qs) h k
@@ -97,7 +104,13 @@ pub joined_is : (join : List PlanRow → List PlanRow → List PlanRow) (xs ys :
     ≡ finished (after (both_ends (collected xs) (collected ys)) (λ s. collected (join (shown_rows s.0) (shown_rows s.1))))
 joined_is join xs ys = joined_by join xs ys (collected xs) (collected ys) (told xs) (told ys)
 
--- two tests that are the same on each pair
-pub joined_same : (n : ℕ) (t u : List Cell → Cell) → ((row : List Cell) → t row ≡ u row) → (xs ys : List PlanRow) → joined n t xs ys ≡ joined n u xs ys
-joined_same n t u h xs ys =
-    each_same _ _ (λ l. ap (or_null_cells l n) (each_same _ _ (λ r. ap (λ c. kept c (l ++ r)) (h (l ++ r))) ys)) xs
+-- the pairs of two lists are those of the settled ones
+pairs_by : (f : List Cell → ℕ) (xs ys : List PlanRow) (e d : Ending (List Row)) → Told xs e → Told ys d → pairs_work f (both_ends e d) ≤ over_pairs f (settled_as e xs) (settled_as d ys)
+pairs_by f xs ys (Ok ls) (Ok rs) h k =
+    let same : over_pairs f xs ys ≡ over_pairs f (shown_rows ls) (shown_rows rs) = ap₂ (λ us vs. over_pairs f us vs) h k in
+    omega (arith, same)
+pairs_by f xs ys (Ok ls) (Err b) h k = omega arith
+pairs_by f xs ys (Err a) d h k = omega arith
+
+pub pairs_within : (f : List Cell → ℕ) (xs ys : List PlanRow) → pairs_work f (both_ends (collected xs) (collected ys)) ≤ over_pairs f (settled xs) (settled ys)
+pairs_within f xs ys = pairs_by f xs ys (collected xs) (collected ys) (told xs) (told ys)

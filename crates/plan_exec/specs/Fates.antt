@@ -51,15 +51,6 @@ fate_rows (Raises area) = Poisoned area ∷ []
 abbrev pub passed : List Node → List (List Cell) → List Value → List PlanRow → List PlanRow
 passed ns outer args rows = each (λ row. fate_rows (fate ns row outer args)) rows
 
--- what a row becomes by nodes of which none but an Extend does anything
-abbrev pub grown_by : Node → List Cell → List (List Cell) → List Value → List Cell
-grown_by (Extend ss) row outer args = row ++ cells_of (scalars_of ss) (sight_of row outer args)
-grown_by _ row outer args = row
-
-abbrev pub grown : List Node → List Cell → List (List Cell) → List Value → List Cell
-grown [] row outer args = row
-grown (n ∷ ns) row outer args = grown ns (grown_by n row outer args) outer args
-
 -- a node that leaves no row out
 abbrev pub keeps : Node → Bool
 keeps (Filter s) = false

@@ -1,4 +1,5 @@
 pub mod Answers
+pub mod Applying
 pub mod Examples
 pub mod Fates
 pub mod Grouping

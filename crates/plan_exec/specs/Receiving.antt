@@ -1,14 +1,19 @@
--- Rows on their way to the next node that takes whole lists: they make a list, or, where that node is a Group, are folded as they come.
+-- Rows on their way to the next node that takes whole lists: they make a list, or, where that node is a Group, or
+-- an Apply wants aggregates of them, are folded as they come.
 -- ISO/IEC 9075-2, 7.13 (group by clause).
 use Rattle.std.specs.Prelude.{Bool, true, false, List, [], ◌∷◌, ◌++◌, Ok, Err}
 use Rattle.row_types.specs.Rows.{Row}
 use Rattle.row_types.specs.Cells.{PlanRow, row_end}
 use Rattle.rel_algebra.specs.declared.plan.Node.{Node}
+use Rattle.rel_algebra.specs.declared.plan.ApplyKind.{ApplyKind}
+use Rattle.rel_algebra.specs.declared.plan.ApplyKind.TheVariants.{Aggregate}
 use Rattle.rel_algebra.specs.declared.plan.Node.TheVariants.{Extend, Filter, Keep, Group}
 use Rattle.rel_algebra.specs.Endings.{Ending}
 use Rattle.group_index.specs.Folded.{Folded, no_rows, with_row}
 use Rattle.plan_exec.specs.declared.received.Received.{Received}
 use Rattle.plan_exec.specs.declared.received.Received.TheVariants.{Rows, Folds, Raised}
+use Rattle.plan_exec.specs.declared.received.Wanted.{Wanted}
+use Rattle.plan_exec.specs.declared.received.Wanted.TheVariants as wanted
 
 -- what is folded, with the values of one row more; or the row's area
 abbrev pub folded_with : Folded → Ending Row → Received
@@ -44,7 +49,17 @@ abbrev pub nothing_for : Node → Received
 nothing_for (Group places aggregates) = Folds (no_rows places aggregates)
 nothing_for _ = Rows []
 
--- no rows, on their way to the first of nodes, where there is one
-abbrev pub nothing_below : List Node → Received
-nothing_below [] = Rows []
-nothing_below (n ∷ ns) = nothing_for n
+-- no rows of a plan, for what they are wanted
+abbrev pub nothing_wanted : Wanted → Received
+nothing_wanted wanted.List = Rows []
+nothing_wanted (wanted.Aggregates aggregates) = Folds (no_rows [] aggregates.now)
+
+-- no rows of an inner plan, on their way to what an Apply makes of them
+abbrev pub nothing_of : ApplyKind → Received
+nothing_of (Aggregate aggregates) = Folds (no_rows [] aggregates)
+nothing_of _ = Rows []
+
+-- no rows, on their way to the first of nodes, or, behind the last, for what they are wanted
+abbrev pub nothing_below : Wanted → List Node → Received
+nothing_below for [] = nothing_wanted for
+nothing_below for (n ∷ ns) = nothing_for n

@@ -37,7 +37,8 @@ pub fn grouped_passed(
     args: &[Value],
 ) -> Result<Received, NoMemory>
     requires { is_list came ≡ false }
-    ensures { IfOk result (λ out. (rows : List PlanRow) → received_by (Folds (no_rows places.now aggregates.now)) rows ≡ came
+    ensures form { IfOk result (λ out. is_list out ≡ is_list into) }
+    ensures rows { IfOk result (λ out. (rows : List PlanRow) → received_by (Folds (no_rows places.now aggregates.now)) rows ≡ came
         → out ≡ received_by into (passed nodes.now (outer_rows outer.now) args.now (grouped places.now (aggregates_of aggregates.now) (collected rows)))) }
 {
     foldings_are_of_groups();

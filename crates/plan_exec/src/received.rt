@@ -3,16 +3,25 @@
 
 ghost use Rattle.std.specs.Prelude.{◌≡◌, ◌∷◌, [], true, IfOk, OnOk};
 ghost use Rattle.row_types.specs.Cells.{Poisoned};
-ghost use Rattle.plan_exec.specs.Receiving.{is_list as is_list_by, nothing_below as nothing_below_by, nothing_for as nothing_for_by, received as received_by};
+ghost use Rattle.plan_exec.specs.Receiving.{is_list as is_list_by, nothing_below as nothing_below_by, nothing_for as nothing_for_by, nothing_wanted as nothing_wanted_by, received as received_by};
 ghost use Rattle.plan_exec.specs.declared.received.Received.TheVariants.{Rows};
 
 use group_index::Folding;
 use rel_algebra::Node;
-use row_types::{PlanRow, RowEnd, RowList};
+use row_types::{AggregateColumn, PlanRow, RowEnd, RowList};
 use sql_conditions::Area;
 use sql_values::NoMemory;
 use sqlite_items::Boxed;
 use std::alloc::Global;
+
+/// What the rows of a plan are wanted for.
+#[derive(Drop)]
+pub enum Wanted<'a> {
+    /// A list of them.
+    List,
+    /// These aggregates of all of them.
+    Aggregates(&'a [AggregateColumn]),
+}
 
 /// What was received of rows so far.
 #[derive(Drop)]
@@ -26,12 +35,17 @@ pub enum Received {
 }
 
 impl Received {
-    /// No rows, on their way to the first of these nodes, where there is one.
-    pub fn nothing_below(alloc: Global, nodes: &[Node]) -> Result<Received, NoMemory>
-        ensures { IfOk result (λ r. r ≡ nothing_below_by nodes.now) }
+    /// No rows, on their way to the first of these nodes, or, behind the last, for what they are
+    /// wanted.
+    pub fn nothing_below(
+        alloc: Global,
+        wanted: &Wanted,
+        nodes: &[Node],
+    ) -> Result<Received, NoMemory>
+        ensures { IfOk result (λ r. r ≡ nothing_below_by wanted.now nodes.now) }
     {
         if nodes.is_empty() {
-            return Ok(Received::Rows(RowList::new(alloc)));
+            return nothing_wanted(alloc, wanted);
         }
         nothing_for(alloc, &nodes[0])
     }
@@ -115,5 +129,17 @@ fn nothing_for(alloc: Global, node: &Node) -> Result<Received, NoMemory>
             aggregates.as_slice(),
         )?)),
         _ => Ok(Received::Rows(RowList::new(alloc))),
+    }
+}
+
+// No rows, for what they are wanted.
+fn nothing_wanted(alloc: Global, wanted: &Wanted) -> Result<Received, NoMemory>
+    ensures { IfOk result (λ r. r ≡ nothing_wanted_by wanted.now) }
+{
+    match wanted {
+        Wanted::List => Ok(Received::Rows(RowList::new(alloc))),
+        Wanted::Aggregates(aggregates) => {
+            Ok(Received::Folds(Folding::new(alloc, &[], aggregates)?))
+        }
     }
 }

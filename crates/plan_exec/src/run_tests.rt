@@ -3,7 +3,7 @@
 ghost use Rattle.std.specs.Prelude.{◌≡◌};
 
 use crate::{Answer, Values, collect, collect_values, execute};
-use rel_algebra::{Leaf, Node, Plan, Scalar, ScalarLink, ScalarRow};
+use rel_algebra::{ApplyKind, Leaf, Node, Plan, Scalar, ScalarLink, ScalarRow, UnaryWord};
 use row_types::{AggregateColumn, PlanRow, RowEnd, SortKey, Steps};
 use sql_values::{Comparison, FoldKind, Name, NoMemory, Operator, Value};
 use sqlite_items::{Boxed, Items};
@@ -177,6 +177,106 @@ fn extended(alloc: Global, keep: bool) -> Result<Plan, NoMemory> {
     })
 }
 
+// A leaf with an Apply of a kind on a plan, and perhaps a second node.
+fn nested(
+    alloc: Global,
+    leaf: Result<Leaf, NoMemory>,
+    kind: ApplyKind,
+    inner: Result<Plan, NoMemory>,
+    second: Option<Node>,
+) -> Result<Plan, NoMemory> {
+    let when = Scalar::Constant(Value::Bool(true));
+    let apply = Node::Apply(when, kind, Boxed::new(alloc, inner?)?);
+    under(alloc, leaf, apply, second)
+}
+
+// Keep #1
+fn keep_second(alloc: Global) -> Result<Option<Node>, NoMemory> {
+    let mut places = Items::new(alloc);
+    places.push(1usize)?;
+    Ok(Some(Node::Keep(places)))
+}
+
+// The value of a scalar subquery of rows.
+fn single(alloc: Global, outer: &[i64], inner: Result<Leaf, NoMemory>) -> Result<Plan, NoMemory> {
+    let inner = without_nodes(alloc, inner);
+    let leaf = listed(alloc, outer);
+    nested(alloc, leaf, ApplyKind::Single, inner, keep_second(alloc)?)
+}
+
+// Of the rows of VALUES 1, 2 and NULL those for which this test holds of #0 IN (these numbers).
+fn among(alloc: Global, word: UnaryWord, inner: Result<Leaf, NoMemory>) -> Result<Plan, NoMemory> {
+    let inner = without_nodes(alloc, inner);
+    let tested = Boxed::new(alloc, Scalar::Column(0, 1))?;
+    let test = Node::Filter(Scalar::Unary(word, tested));
+    let kind = ApplyKind::Member(Scalar::Column(0, 0));
+    nested(alloc, with_null(alloc, &[1, 2]), kind, inner, Some(test))
+}
+
+// A row for each of these numbers, and then one of NULL.
+fn with_null(alloc: Global, numbers: &[i64]) -> Result<Leaf, NoMemory> {
+    let mut rows = Items::new(alloc);
+    for number in numbers {
+        let mut scalars = Items::new(alloc);
+        scalars.push(Scalar::Constant(Value::Int(*number)))?;
+        rows.push(ScalarRow { scalars })?;
+    }
+    let mut scalars = Items::new(alloc);
+    scalars.push(Scalar::Constant(Value::Null))?;
+    rows.push(ScalarRow { scalars })?;
+    Ok(Leaf::Values(rows))
+}
+
+// One row of a column outside.
+fn outside(alloc: Global, level: usize) -> Result<Leaf, NoMemory> {
+    let mut scalars = Items::new(alloc);
+    scalars.push(Scalar::Column(level, 0))?;
+    let mut rows = Items::new(alloc);
+    rows.push(ScalarRow { scalars })?;
+    Ok(Leaf::Values(rows))
+}
+
+// Under each of VALUES 1, 0, 2 a scalar subquery over VALUES 5, in which stands one of a column two
+// levels out.
+fn two_levels_out(alloc: Global) -> Result<Plan, NoMemory> {
+    let inmost = without_nodes(alloc, outside(alloc, 2));
+    let leaf = listed(alloc, &[5]);
+    let inner = nested(alloc, leaf, ApplyKind::Single, inmost, keep_second(alloc)?);
+    nested(
+        alloc,
+        numbers(alloc),
+        ApplyKind::Single,
+        inner,
+        keep_second(alloc)?,
+    )
+}
+
+// Values 1, 0, 2, LeftOuter with Values 2, 2 where eq(#1, the row's first column) as a subquery has
+// it, Keep #1
+fn pairs_with_subquery(alloc: Global) -> Result<Plan, NoMemory> {
+    let right = Boxed::new(alloc, without_nodes(alloc, listed(alloc, &[2, 2]))?)?;
+    let inner = Boxed::new(alloc, without_nodes(alloc, outside(alloc, 1))?)?;
+    let when = Scalar::Constant(Value::Bool(true));
+    let mut nodes = Items::new(alloc);
+    nodes.push(Node::Apply(when, ApplyKind::Single, inner))?;
+    let first = Boxed::new(alloc, Scalar::Column(0, 1))?;
+    let second = Boxed::new(alloc, Scalar::Column(0, 2))?;
+    let test = Scalar::Compare(Comparison::Equals, first, second);
+    let join = Node::LeftOuter(nodes, test, 1, right);
+    under(alloc, numbers(alloc), join, keep_second(alloc)?)
+}
+
+// The number of rows of a plan.
+fn count(alloc: Global, inner: Result<Plan, NoMemory>) -> Result<Plan, NoMemory> {
+    let mut aggregates = Items::new(alloc);
+    aggregates.push(AggregateColumn {
+        kind: FoldKind::Count,
+        place: 0,
+    })?;
+    let kind = ApplyKind::Aggregate(aggregates);
+    nested(alloc, listed(alloc, &[1]), kind, inner, keep_second(alloc)?)
+}
+
 // A row's first number, or -1 for an area.
 fn told(alloc: Global, row: PlanRow) -> Result<i64, NoMemory> {
     match row.into_end(alloc)? {
@@ -330,5 +430,63 @@ fn one_group_without_a_column(rt: HostRuntime) -> Result<(), Fail> {
         .ok()
         .ok_or("no memory")?;
     assert!(rt; rows.as_slice() == [-1, -100, -200].as_slice());
+    Ok(())
+}
+
+#[test]
+fn a_subquery_is_judged_at_its_end(rt: HostRuntime) -> Result<(), Fail> {
+    let alloc = rt.alloc();
+    let rows = tell(alloc, single(alloc, &[1], listed(alloc, &[])))
+        .ok()
+        .ok_or("no memory")?;
+    assert!(rt; rows.as_slice() == [0, 101, 201].as_slice());
+    let rows = tell(alloc, single(alloc, &[1], listed(alloc, &[7])))
+        .ok()
+        .ok_or("no memory")?;
+    assert!(rt; rows.as_slice() == [7, 101, 201].as_slice());
+    let rows = tell(alloc, single(alloc, &[1], listed(alloc, &[7, 8])))
+        .ok()
+        .ok_or("no memory")?;
+    assert!(rt; rows.as_slice() == [-1, -100, -200].as_slice());
+    let rows = tell(alloc, single(alloc, &[], quotients(alloc)))
+        .ok()
+        .ok_or("no memory")?;
+    assert!(rt; rows.as_slice() == [100, 200].as_slice());
+    let raising = without_nodes(alloc, quotients(alloc));
+    let leaf = listed(alloc, &[1]);
+    let exists = nested(alloc, leaf, ApplyKind::Exists, raising, None);
+    let rows = tell(alloc, exists).ok().ok_or("no memory")?;
+    assert!(rt; rows.as_slice() == [-1, -100, -200].as_slice());
+    let rows = tell(alloc, count(alloc, without_nodes(alloc, numbers(alloc))))
+        .ok()
+        .ok_or("no memory")?;
+    assert!(rt; rows.as_slice() == [3, 101, 201].as_slice());
+    Ok(())
+}
+
+#[test]
+fn in_of_a_query_knows_null(rt: HostRuntime) -> Result<(), Fail> {
+    let alloc = rt.alloc();
+    let plan = among(alloc, UnaryWord::TrueTest, listed(alloc, &[2, 3]));
+    let rows = tell(alloc, plan).ok().ok_or("no memory")?;
+    assert!(rt; rows.as_slice() == [2, 101, 201].as_slice());
+    let plan = among(alloc, UnaryWord::FalseTest, listed(alloc, &[2, 3]));
+    let rows = tell(alloc, plan).ok().ok_or("no memory")?;
+    assert!(rt; rows.as_slice() == [1, 101, 201].as_slice());
+    let plan = among(alloc, UnaryWord::NullTest, with_null(alloc, &[2, 3]));
+    let rows = tell(alloc, plan).ok().ok_or("no memory")?;
+    assert!(rt; rows.as_slice() == [1, 0, 102, 202].as_slice());
+    Ok(())
+}
+
+#[test]
+fn inner_plans_see_the_rows_outside(rt: HostRuntime) -> Result<(), Fail> {
+    let alloc = rt.alloc();
+    let rows = tell(alloc, two_levels_out(alloc)).ok().ok_or("no memory")?;
+    assert!(rt; rows.as_slice() == [1, 0, 2, 103, 203].as_slice());
+    let rows = tell(alloc, pairs_with_subquery(alloc))
+        .ok()
+        .ok_or("no memory")?;
+    assert!(rt; rows.as_slice() == [0, 0, 2, 2, 104, 204].as_slice());
     Ok(())
 }

@@ -23,6 +23,8 @@ mod read;
 mod run;
 mod status;
 #[cfg(test)]
+mod subquery_tests;
+#[cfg(test)]
 mod tests;
 #[cfg(test)]
 mod value_tests;

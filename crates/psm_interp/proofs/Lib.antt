@@ -4,3 +4,4 @@ pub mod RowByRow
 pub mod LeftToRight
 pub mod Counted
 pub mod Grouping
+pub mod Costs

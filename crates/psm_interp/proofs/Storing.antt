@@ -20,9 +20,8 @@ use Rattle.rel_algebra.specs.Writing.{row_for, store_in, keep_rows}
 use Rattle.expr_interp.specs.declared.stop.Stop.{Stop}
 use Rattle.expr_interp.specs.declared.stop.Stop.TheVariants.{Raised}
 use Rattle.expr_interp.specs.Content.{Content, world_of}
-use Rattle.expr_interp.specs.Ending.{Tells, Ended}
+use Rattle.expr_interp.specs.Ending.{Tells, Ended, TellsAnywhere}
 use Rattle.expr_interp.specs.Faults.{refused_by}
-use Rattle.psm_interp.specs.Inserts.{TellsAnywhere}
 use Rattle.expr_interp.proofs.Laws.{stays_same, going, stops}
 
 -- the table of the name is that at the place

@@ -4,21 +4,17 @@ use Rattle.std.specs.declared.vec.Vec.{Vec}
 use Rattle.std.specs.declared.alloc.Global.{Global}
 use Rattle.row_types.specs.Rows.{Row}
 use Rattle.rel_algebra.specs.Tree.{Query}
-use Rattle.rel_algebra.specs.World.{World, Eval, ◌>>=◌, no_self, no_frame}
+use Rattle.rel_algebra.specs.World.{Eval, ◌>>=◌, no_self, no_frame}
 use Rattle.rel_algebra.specs.Meaning.{answer}
 use Rattle.rel_algebra.specs.Writing.{stored}
 use Rattle.expr_interp.specs.declared.stop.Stop.{Stop}
-use Rattle.expr_interp.specs.Ending.{Tells}
+use Rattle.expr_interp.specs.Ending.{TellsAnywhere}
 
 -- an INSERT but for what it leaves where it raises
 abbrev pub insert_rows_of : List ℕ → Query → Eval ℕ
 insert_rows_of name query = do
   new ← answer query no_self [] no_frame
   stored name new
-
--- an evaluation that leaves each world as it is ends as the answer says
-abbrev pub TellsAnywhere : {A : Type 0} → Result A Stop → Eval A → Type 0
-TellsAnywhere answer e = (w : World) → Tells w answer (e w)
 
 abbrev pub listed : Result (Vec Row Global) Stop → Result (List Row) Stop
 listed (Ok rows) = Ok rows.items

@@ -6,19 +6,19 @@ ghost use Rattle.sql_values.specs.Values.{UnlessNoMemory};
 ghost use Rattle.rel_algebra.specs.Joins.{places as places_by};
 ghost use Rattle.rel_algebra.specs.Meaning.{carried};
 ghost use Rattle.rel_algebra.specs.World.{each_kept, with_front};
-ghost use Rattle.catalog_store.specs.View.{exprs_of};
+ghost use Rattle.catalog_store.specs.View.{exprs_of, grouping_of};
 ghost use Rattle.expr_interp.specs.Content.{world_of};
-ghost use Rattle.expr_interp.specs.Ending.{Ended};
+ghost use Rattle.expr_interp.specs.Ending.{Ended, TellsAnywhere};
+ghost use Rattle.expr_interp.specs.Sight.{seen};
 ghost use Rattle.group_index.specs.Folded.{with_row};
 ghost use Rattle.psm_interp.specs.GroupRows.{row_of_ends};
 ghost use Rattle.psm_interp.specs.Groups.{grouped_by, parts_folded, folded_parts, argument_columns as argument_columns_by, end_record};
-ghost use Rattle.psm_interp.specs.Inserts.{TellsAnywhere};
 
 use crate::joins::add;
 use crate::records::record_of;
 use bound_trees::{BoundExpr, BoundGrouping};
 use catalog_store::Catalog;
-use expr_interp::{Frame, Stop, World};
+use expr_interp::{Frame, RowsInSight, Stop, World};
 use group_index::{FinishedGroup, Folding, foldings_are_of_groups};
 use row_types::{AggregateColumn, Row};
 use sql_values::{FoldKind, NoMemory, Value, ValueFault};
@@ -28,51 +28,69 @@ use std::alloc::Global;
 /// The records of the groups of rows (ISO/IEC 9075-2, 7.13): of each row the conjuncts, and where
 /// they are true its parts, before the next row; then of each group in turn its aggregates, HAVING
 /// (7.14) and the list.
+#[cycle(run)]
 pub fn grouped(
     grouping: &BoundGrouping,
     conjuncts: &[BoundExpr],
     list: &[BoundExpr],
     rows: &[Row],
+    outer: &RowsInSight,
     frame: &Frame,
     world: &mut World,
     catalog: &Catalog,
 ) -> Result<Items<Row>, Stop>
-    ensures { Ended world.old world.new result (grouped_by catalog.now grouping.now (exprs_of catalog.now conjuncts.now) (exprs_of catalog.now list.now) frame.now rows.now (world_of world.old)) }
+    ensures { Ended world.old world.new result (grouped_by (grouping_of catalog.now grouping.now) (exprs_of catalog.now conjuncts.now) (exprs_of catalog.now list.now) (seen outer.now) frame.now rows.now (world_of world.old)) }
 {
-    let folding = folded(grouping, conjuncts, rows, frame, world, catalog)?;
+    let none = no_rows(
+        world.allocator(),
+        grouping.keys,
+        grouping.aggregates.as_slice(),
+    )?;
+    let parts = grouping.parts.as_slice();
+    let folding = folded(none, parts, conjuncts, rows, outer, frame, world, catalog)?;
     let groups = folding.finish()?;
     foldings_are_of_groups();
     let having = grouping.having.as_slice();
-    records(groups.as_slice(), having, list, frame, world, catalog)
+    records(
+        groups.as_slice(),
+        having,
+        list,
+        outer,
+        frame,
+        world,
+        catalog,
+    )
 }
 
-// The parts of each row that is kept, folded.
+// The parts of each row that is kept, folded, where these are folded already.
+#[cycle(run)]
 fn folded(
-    grouping: &BoundGrouping,
+    already: Folding,
+    parts: &[BoundExpr],
     conjuncts: &[BoundExpr],
     rows: &[Row],
+    outer: &RowsInSight,
     frame: &Frame,
     world: &mut World,
     catalog: &Catalog,
 ) -> Result<Folding, Stop>
-    ensures { Ended world.old world.new result (parts_folded catalog.now grouping.now (exprs_of catalog.now conjuncts.now) frame.now rows.now (world_of world.old)) }
+    ensures { Ended world.old world.new result (parts_folded already (exprs_of catalog.now parts.now) (exprs_of catalog.now conjuncts.now) (seen outer.now) frame.now rows.now (world_of world.old)) }
 {
-    let parts = grouping.parts.as_slice();
-    let mut folding = no_rows(world.allocator(), grouping)?;
+    let mut folding = already;
     for row in rows {
-        let part = record_of(parts, conjuncts, row, frame, world, catalog)?;
+        let part = record_of(parts, conjuncts, row, outer, frame, world, catalog)?;
         take(&mut folding, part)?;
     }
     Ok(folding)
 }
 
 // No rows yet.
-fn no_rows(alloc: Global, grouping: &BoundGrouping) -> Result<Folding, NoMemory>
-    ensures { IfOk result (λ f. f ≡ folded_parts grouping.now []) }
+fn no_rows(alloc: Global, keys: usize, aggregates: &[FoldKind]) -> Result<Folding, NoMemory>
+    ensures { IfOk result (λ f. f ≡ folded_parts keys aggregates.now []) }
 {
-    let keys = key_places(alloc, grouping.keys)?;
-    let columns = argument_columns(alloc, grouping.keys, grouping.aggregates.as_slice())?;
-    Folding::new(alloc, keys.as_slice(), columns.as_slice())
+    let places = key_places(alloc, keys)?;
+    let columns = argument_columns(alloc, keys, aggregates)?;
+    Folding::new(alloc, places.as_slice(), columns.as_slice())
 }
 
 // The places of so many grouping columns.
@@ -115,37 +133,41 @@ fn take(folding: &mut Folding, parts: Option<Row>) -> Result<(), NoMemory>
 }
 
 // The records of groups in turn.
+#[cycle(run)]
 fn records(
     groups: &[FinishedGroup],
     having: &[BoundExpr],
     list: &[BoundExpr],
+    outer: &RowsInSight,
     frame: &Frame,
     world: &mut World,
     catalog: &Catalog,
 ) -> Result<Items<Row>, Stop>
-    ensures { Ended world.old world.new result (each_kept (end_record (exprs_of catalog.now having.now) (exprs_of catalog.now list.now) frame.now) groups.now (world_of world.old)) }
+    ensures { Ended world.old world.new result (each_kept (end_record (exprs_of catalog.now having.now) (exprs_of catalog.now list.now) (seen outer.now) frame.now) groups.now (world_of world.old)) }
 {
     let mut records = Items::new(world.allocator());
     for group in groups {
-        let record = record(group, having, list, frame, world, catalog)?;
+        let record = record(group, having, list, outer, frame, world, catalog)?;
         add(&mut records, record)?;
     }
     Ok(records)
 }
 
 // The record of a group: its aggregates, HAVING, and where that is true the list.
+#[cycle(run)]
 fn record(
     group: &FinishedGroup,
     having: &[BoundExpr],
     list: &[BoundExpr],
+    outer: &RowsInSight,
     frame: &Frame,
     world: &mut World,
     catalog: &Catalog,
 ) -> Result<Option<Row>, Stop>
-    ensures { Ended world.old world.new result (end_record (exprs_of catalog.now having.now) (exprs_of catalog.now list.now) frame.now group.now (world_of world.old)) }
+    ensures { Ended world.old world.new result (end_record (exprs_of catalog.now having.now) (exprs_of catalog.now list.now) (seen outer.now) frame.now group.now (world_of world.old)) }
 {
     let row = group_row(world.allocator(), group)?;
-    record_of(list, having, &row, frame, world, catalog)
+    record_of(list, having, &row, outer, frame, world, catalog)
 }
 
 // The row of a group: its key, and then what its aggregates give. The first that raises ends it.

@@ -9,14 +9,14 @@ ghost use Rattle.rel_algebra.specs.World.{each, unit};
 ghost use Rattle.rel_algebra.specs.Writing.{insert, assigned_row as assigned_by, row_for as row_by, store_in, stored};
 ghost use Rattle.catalog_store.specs.View.{query_of};
 ghost use Rattle.expr_interp.specs.Content.{world_of};
-ghost use Rattle.expr_interp.specs.Ending.{Ended};
-ghost use Rattle.psm_interp.specs.Inserts.{insert_rows_of, TellsAnywhere, TellsRows};
+ghost use Rattle.expr_interp.specs.Ending.{Ended, TellsAnywhere};
+ghost use Rattle.psm_interp.specs.Inserts.{insert_rows_of, TellsRows};
 
 use crate::queries::answer_query;
 use atomic_undo::Changes;
 use bound_trees::BoundQuery;
 use catalog_store::Catalog;
-use expr_interp::{Frame, Stop, World, leave};
+use expr_interp::{Frame, RowsInSight, Stop, World, leave};
 use row_types::{ColumnType, PlanRow, Row, RowEnd, RowList, Steps, fits};
 use sql_conditions::EngineCondition;
 use sql_values::{Name, NoMemory, assign};
@@ -116,7 +116,7 @@ fn insert_rows(
     ensures { Ended world.old world.new result (insert_rows_of table.now (query_of catalog.now source.now) (world_of world.old)) }
 {
     let frame = Frame::empty(world.allocator());
-    let new = answer_query(source, &frame, world, catalog)?;
+    let new = answer_query(source, &RowsInSight::NoRow, &frame, world, catalog)?;
     let rows = in_vec(world.allocator(), new)?;
     store_counted(table, rows, world)
 }

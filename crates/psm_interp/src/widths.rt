@@ -5,6 +5,7 @@ ghost use Rattle.rel_algebra.specs.Joins.{columns_of, query_width as query_width
 ghost use Rattle.catalog_store.specs.Catalog.{Catalog as Known};
 ghost use Rattle.catalog_store.specs.View.{query_of, source_of};
 
+use crate::lists::values_in;
 use bound_trees::{BoundQuery, BoundSource};
 use expr_interp::World;
 use sql_values::Name;
@@ -36,7 +37,7 @@ fn query_width(query: &BoundQuery) -> usize
     match query {
         BoundQuery::Select(select) => select.items.len(),
         BoundQuery::Values(rows) => match rows.get(0) {
-            Some(row) => row.values.len(),
+            Some(row) => values_in(row).len(),
             None => 0,
         },
         BoundQuery::Ordered(query, _) => query_width(query.get()),

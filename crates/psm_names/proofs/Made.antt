@@ -57,31 +57,31 @@ table-fits s catalog p =
 low_enough : (n : ℕ) → nat_lt MOST_HEIGHT (n + 1) ≡ false → n < height_above n
 low_enough n p = grind (arith, nat_tests)
 
-function-fits : (s : CreateFunction) (catalog : Catalog) → (judged_function s catalog).faults ≡ [] → (object_named s.name.name catalog ≡ None) × ObjectFits catalog (judged_function s catalog).value
-function-fits s catalog p =
+function-fits : (s : CreateFunction) (catalog : Catalog) → AllPlanned catalog → (judged_function s catalog).faults ≡ [] → (object_named s.name.name catalog ≡ None) × ObjectFits catalog (judged_function s catalog).value
+function-fits s catalog all p =
     let seen = in_function (parameters_of s.parameters) catalog in
     let body = judge s.result seen in
     let called = greatest_height catalog body.uses in
     let heads = taken_name s.name catalog ++ parameter_faults s in
     let result = result_faults s body.value.head in
     let rest = back_nil heads (body.faults ++ (result ++ too_high s.name called)) p in
-    let covers = fitting s.result seen refl (front_nil body.faults (result ++ too_high s.name called) rest) in
+    let covers = fitting catalog all s.result seen refl refl (front_nil body.faults (result ++ too_high s.name called) rest) in
     let asked = back_nil body.faults (result ++ too_high s.name called) rest in
     let low = no_fault (nat_lt MOST_HEIGHT (called + 1)) TooHigh s.name.anchor (back_nil result (too_high s.name called) asked) in (
       free s.name catalog (front_nil (taken_name s.name catalog) (parameter_faults s) (front_nil heads (body.faults ++ (result ++ too_high s.name called)) p)),
-      record { calls = covers.1 (height_above called) (low_enough called low); uses = sym covers.0 },
+      record { all = covers.0 (height_above called) (low_enough called low); uses = covers.2; planned = covers.1 },
     )
 
 insert-fits : (s : Insert) (catalog : Catalog) (t : Option RowType) → AllPlanned catalog → (insert_into s t catalog).faults ≡ [] → planned (query_of catalog (insert_into s t catalog).value.source) ≡ true
 insert-fits s catalog t all p =
     let source = judge_query (targets t) s.source (at_top catalog) in
-    query_planned catalog all (targets t) s.source (at_top catalog) (front_nil source.faults (rows_into s.table t source.value).faults p)
+    query_planned catalog all (targets t) s.source (at_top catalog) refl (front_nil source.faults (rows_into s.table t source.value).faults p)
 
 pub faultless-fits : FaultlessFits
 faultless-fits (stmt.CreateTable s) catalog all p = table-fits s catalog p
-faultless-fits (stmt.CreateFunction s) catalog all p = function-fits s catalog p
+faultless-fits (stmt.CreateFunction s) catalog all p = function-fits s catalog all p
 faultless-fits (stmt.Insert s) catalog all p = insert-fits s catalog (table_named s.table.name catalog) all p
-faultless-fits (stmt.Query q) catalog all p = ordered_planned catalog all q (at_top catalog) p
+faultless-fits (stmt.Query q) catalog all p = ordered_planned catalog all q (at_top catalog) refl p
 
 pub bound_fits : (s : Stmt) (catalog : Catalog) (b : BoundStmt) → b ≡ (judged_statement s catalog).value → noted None (judged_statement s catalog).faults ≡ None → AllPlanned catalog
     → StatementFits catalog b

@@ -8,7 +8,7 @@ use Rattle.typed_parts.specs.declared.typed.TypedQuery.{TypedQuery}
 use Rattle.sql_names.specs.Examples.{called, catalog}
 use Rattle.typed_parts.specs.From.{table_named}
 use Rattle.typed_parts.specs.Typed.{alone, no_parts}
-use Rattle.sql_names.specs.Names.{Judge, look}
+use Rattle.sql_names.specs.Judges.{Expression, look}
 use Rattle.typed_parts.specs.Order.{ordered_by}
 use Rattle.sql_names.specs.Written.{Expr, Query}
 use Rattle.sql_names.proofs.Laws.{plain, expr_plain, plain_query, query_plain}
@@ -36,7 +36,7 @@ insert-row n rs =
 pub function-row : (n : List ℕ) (ps : List Parameter) (to : DataType) (e : Expr)
     → judged_statement (function n ps to e) catalog
     ≡ as_value (λ o. bound.Create n o) (taken_name (called n 2) catalog ++ parameter_faults (new_function n ps to e)
-    >> function_with (new_function n ps to e) catalog (alone (look (plain e) (in_function (parameters_of ps) catalog) no_parts)))
+    >> function_with (new_function n ps to e) catalog (alone (look (plain e).judge (in_function (parameters_of ps) catalog) no_parts)))
 function-row n ps to e =
-    ap (λ (j : Judge). as_value (λ o. bound.Create n o) (taken_name (called n 2) catalog ++ parameter_faults (new_function n ps to e)
-    >> function_with (new_function n ps to e) catalog (alone (look j (in_function (parameters_of ps) catalog) no_parts)))) (expr_plain e)
+    ap (λ (j : Expression). as_value (λ o. bound.Create n o) (taken_name (called n 2) catalog ++ parameter_faults (new_function n ps to e)
+    >> function_with (new_function n ps to e) catalog (alone (look j.judge (in_function (parameters_of ps) catalog) no_parts)))) (expr_plain e)

@@ -22,12 +22,13 @@ use Rattle.bound_trees.specs.declared.expr.BoundOperation.TheVariants.{NullTest,
 use Rattle.bound_trees.specs.declared.query.BoundFromItem.TheVariants as from
 use Rattle.bound_trees.specs.declared.query.BoundQuery.{BoundQuery}
 use Rattle.bound_trees.specs.declared.query.BoundQuery.TheVariants as query
+use Rattle.bound_trees.specs.declared.query.BoundSelect.{roll-BoundSelect}
 use Rattle.bound_trees.specs.declared.query.BoundSource.TheVariants as source
 use Rattle.name_faults.specs.declared.fault.FaultKind.{FaultKind}
 use Rattle.name_faults.specs.declared.fault.FaultKind.TheVariants.{UnknownName, DuplicateName, TypeMismatch, WrongCount, NotPermitted, TooHigh}
 use Rattle.name_faults.specs.Faults.{least}
 use Rattle.sql_names.specs.Examples.{at, fault, called, null, number, text, truth, name, call, word, chain, aggregate, catalog, item, table as table_ref}
-use Rattle.sql_names.specs.Written.{Expr, Query, Select, Values, Comma, exprs, froms, expr_of, query_of}
+use Rattle.sql_names.specs.Written.{Expr, Subquery, Query, Select, Values, Comma, exprs, froms, expr_of, query_of}
 use Rattle.psm_names.specs.declared.statement.BoundStmt.TheVariants as bound_as
 use Rattle.psm_names.specs.Statements.{judged_statement}
 
@@ -119,6 +120,8 @@ pub record EachFaultAtItsPlace : Type 0 where
   pub length_of_a_column : Least (table (codes "V") (new_column (codes "K") 4 (varchar 5 7 4097) (PrimaryKey (at 9) ∷ []) ∷ [])) NotPermitted 7
   pub aggregate_in_a_result : Least (function (codes "G") [] (integer 8) (aggregate Sum 10 (number 12))) NotPermitted 10
   pub aggregate_in_a_row : Least (insert (codes "T") ((null 5 ∷ aggregate Max 7 (number 9) ∷ []) ∷ [])) NotPermitted 7
+  pub unknown_table_in_a_subquery : Least (function (codes "G") [] (integer 8) (Subquery (select_of (codes "U") (null 12 ∷ []) None))) UnknownName 90
+  pub parameter_in_a_subquery : (judged_statement (function (codes "G") (new_parameter (codes "X") 4 (integer 5) ∷ []) (integer 8) (Subquery (select_of (codes "T") (name (codes "X") 12 ∷ []) None))) catalog).faults ≡ []
   pub free : (judged_statement (table (codes "V") (new_column (codes "A") 4 (boolean 5) (NotNull ∷ []) ∷ new_column (codes "K") 8 (varchar 9 11 4096) (PrimaryKey (at 13) ∷ []) ∷ [])) catalog).faults ≡ []
 
 -- ---- kinds
@@ -181,7 +184,7 @@ bound_items =
     bound.Column 0 1 ∷ bound.Call (codes "E") (bound.Column 0 0 ∷ []) ∷ bound.Operation Opposite (bound.Operation NullTest (bound.Column 0 0 ∷ []) ∷ []) ∷ bound.Column 0 1 ∷ []
 
 abbrev pub bound_query : BoundQuery
-bound_query = query.Select (record { items = bound_items; from = from.Comma (source.Table (codes "T")) ∷ []; conjuncts = []; grouping = None })
+bound_query = query.Select (roll-BoundSelect (record { items = bound_items; from = from.Comma (source.Table (codes "T")) ∷ []; conjuncts = []; grouping = None }))
 
 pub record BindsByPlaceAndName : Type 0 where
   pub whole : (judged_statement selected catalog).value ≡ bound_as.Query bound_query

@@ -1,25 +1,14 @@
 -- The answer of a query's plan is how the query ends; and what an INSERT makes of it.
-use Rattle.std.proofs.Common.{◌≡◌, ℕ, suc, true, List, [], ◌∷◌, length, Ok, Err, refl, sym, ap, ◌∙◌, subst}
-use Rattle.std.specs.List.{IsDistinct}
-use Rattle.std.specs.Str.{bytes_eq}
+use Rattle.std.proofs.Common.{◌≡◌, ℕ, suc, List, [], ◌∷◌, length, Ok, Err, refl, sym, ap, ◌∙◌, subst}
 use Rattle.row_types.specs.Rows.{Row}
-use Rattle.row_types.specs.Tables.{Tables}
 use Rattle.row_types.specs.Cells.{PlanRow, value_rows, cells_end, with_value, with_values}
-use Rattle.table_store.specs.Memory.{Memory, AllWellKept}
 use Rattle.rel_algebra.specs.Tree.{Query}
 use Rattle.rel_algebra.specs.World.{World, Ends, Gives, Raises, after, unit_of, unit, no_self, no_frame}
 use Rattle.rel_algebra.specs.Meaning.{answer, ask, carried}
 use Rattle.rel_algebra.specs.Writing.{insert, stored}
 use Rattle.rel_algebra.specs.Endings.{Ending}
-use Rattle.rel_algebra.specs.Joins.{table_width}
-use Rattle.rel_algebra.specs.Plain.{planned}
-use Rattle.rel_algebra.specs.Theorem.{Fits}
-use Rattle.rel_algebra.specs.Plan.{PlanTree, den, collected, shown, shown_rows}
-use Rattle.rel_algebra.specs.Emit.{plan, top}
-use Rattle.rel_algebra.proofs.Laws.{means_passing}
-use Rattle.catalog_store.specs.Catalog.{Catalog, names_of}
-use Rattle.catalog_store.specs.Widths.{width_in}
-use Rattle.plan_exec.specs.Passing.{inputs_of}
+use Rattle.rel_algebra.specs.Plan.{shown, shown_rows}
+use Rattle.catalog_store.specs.Catalog.{Catalog}
 use Rattle.plan_exec.specs.Answers.{answer_end, shown_end}
 use Rattle.plan_exec.specs.declared.collecting.Answer.{Answer}
 use Rattle.plan_exec.specs.declared.collecting.Answer.TheVariants.{Rows, Raised}
@@ -35,8 +24,6 @@ use Rattle.expr_interp.proofs.Laws.{stays_same}
 use Rattle.psm_session.specs.Effects.{Effect, replied}
 use Rattle.psm_session.specs.Answering.{ends_with, HasValues}
 use Rattle.psm_session.specs.Conclusions.{database, IsEffect}
-use Rattle.psm_session.specs.Shapes.{IsWhole}
-use Rattle.psm_session.proofs.Widths.{fits_of, widths_agree}
 
 pub if_ok : {A E : Type 0} {P Q : A → Type 0} (r : Result A E) → ((a : A) → P a → Q a) → IfOk r P → IfOk r Q
 if_ok (Ok a) f p = f a p
@@ -77,29 +64,6 @@ all_values (Rows rows) (Ok values) h =
 all_values (Rows rows) (Err area) h = cc
 all_values (Raised s) (Ok values) h = tt
 all_values (Raised s) (Err area) h = tt
-
--- ---- plans
-
--- what is collected of a query's plan, by the tables and their widths
-abbrev of_plan : Query → (List ℕ → ℕ) → Tables → Ending (List Row)
-of_plan q widths ts = collected (den (plan q widths (top 0)) (record { tables = ts; args = [] }) [])
-
-pub planned_ends : (known : Catalog) (m : Memory) (q : Query) (p : PlanTree) (rows : List PlanRow) (a : Answer)
-    → IsWhole (database known m) → IsDistinct bytes_eq (names_of known) → AllWellKept m.tables → planned q ≡ true
-    → p ≡ plan q (width_in known) (top 0) → rows ≡ den p (inputs_of m []) [] → answer_end a ≡ shown_end (collected rows)
-    → (w : World) → w.tables ≡ m.tables → answer q no_self [] no_frame w ≡ ends_with a w
-planned_ends known m q p rows a whole distinct kept is_planned plan_is rows_are told w same =
-    means_passing q no_frame w is_planned (subst (λ (ts : Tables). fits_there ts) (sym same) (fits_of m.tables [] kept))
-    ∙ ap (λ end. carried end w) collected_is ∙ tells_end a (collected rows) told w
-  where
-    fits_there : Tables → Type 0
-    fits_there ts = Fits (record { tables = ts; args = [] })
-
-    collected_is : of_plan q (table_width w.tables) w.tables ≡ collected rows
-    collected_is =
-        ap (λ (ts : Tables). of_plan q (table_width ts) ts) same
-        ∙ ap (λ (widths : List ℕ → ℕ). of_plan q widths m.tables) (sym (λ i name. widths_agree (database known m) whole distinct name i))
-        ∙ sym (ap collected (rows_are ∙ ap (λ (t : PlanTree). den t (inputs_of m []) []) plan_is))
 
 -- ---- INSERT
 

@@ -3,6 +3,8 @@ pub mod Creating
 pub mod Concluding
 pub mod Widths
 pub mod Answering
+pub mod Lasting
+pub mod Preparing
 pub mod One
 pub mod Each
 pub mod Laws

@@ -4,6 +4,7 @@ pub mod Shapes
 pub mod Effects
 pub mod Tasks
 pub mod Answering
+pub mod Preparing
 pub mod Executing
 pub mod Statement
 pub mod Conclusions

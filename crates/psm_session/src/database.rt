@@ -1,19 +1,33 @@
 //! The database.
 
-ghost use Rattle.std.specs.Prelude.{◌≡◌, IfOk, OnErr};
+ghost use Rattle.std.specs.Prelude.{◌≡◌, ◌≤◌, ◌+◌, ℕ, List, [], true, IfOk, OnErr};
+ghost use Rattle.rel_algebra.specs.Tree.{Query};
+ghost use Rattle.rel_algebra.specs.World.{World, no_self, no_frame};
+ghost use Rattle.rel_algebra.specs.Meaning.{answer};
+ghost use Rattle.rel_algebra.specs.Joins.{table_width};
+ghost use Rattle.rel_algebra.specs.Lasting.{QueryLasts};
+ghost use Rattle.rel_algebra.specs.Plain.{planned};
+ghost use Rattle.catalog_store.specs.View.{query_of};
 ghost use Rattle.psm_names.specs.Statements.{judged_statement};
+ghost use Rattle.psm_session.specs.Answering.{ends_with, HasValues};
 ghost use Rattle.psm_session.specs.Executing.{Executes};
+ghost use Rattle.psm_session.specs.Preparing.{IsPrepared, plan_in, most_steps};
 
 #[cfg(test)]
 mod tests;
 
 use crate::effect::run_bound;
+use crate::prepared::{Prepared, prepare_query, run_plan};
+use bound_trees::BoundQuery;
 use catalog_store::Catalog;
+use plan_exec::Answer;
 use psm_names::{NameFault, bind_statement};
 use reply_text::{FaultText, Reply, fault_reply};
+use row_types::Steps;
 use sql_values::NoMemory;
 use std::alloc::Global;
 use std::marker::Model;
+use std::sync::ledger::Ledger;
 use syntax_trees::Stmt;
 use table_store::Tables;
 
@@ -54,6 +68,32 @@ impl Database {
             catalog: Catalog::new(alloc),
             tables: Tables::new(alloc),
         }
+    }
+
+    /// Prepares a query whose functions all have plans: its plan is made once, and means the query
+    /// for every content of the tables.
+    pub fn prepare(&self, query: &BoundQuery) -> Result<Prepared, NoMemory>
+        requires planned { planned (query_of self.now.catalog query.now) ≡ true }
+        ensures { IfOk result (λ p. IsPrepared (query_of self.now.catalog query.now) (table_width self.now.tables) (plan_in p)) }
+    {
+        let _entries = self.catalog.len();
+        prepare_query(self.alloc, query, &self.catalog)
+    }
+
+    /// How a prepared query ends over the tables as they are now: its rows in their order, or the
+    /// first condition, where the tables that it names have as many columns as when it was prepared.
+    /// It takes at most as many steps as the plan's work, and one for each row that the plan gives.
+    pub fn run_prepared<L: Ledger>(
+        &self,
+        prepared: &Prepared,
+        steps: &mut Steps<L>,
+    ) -> Result<Answer, NoMemory>
+        ensures ends { IfOk result (λ a. (q : Query) (widths : List ℕ → ℕ) → IsPrepared q widths (plan_in prepared.now) → QueryLasts q widths (table_width self.now.tables)
+            → (w : World) → w.tables ≡ self.now.tables → answer q no_self [] no_frame w ≡ ends_with a w) }
+        ensures values { IfOk result (λ a. HasValues a) }
+        ensures work { steps.new ≤ steps.old + most_steps (plan_in prepared.now) self.now.tables }
+    {
+        run_plan(self.alloc, prepared, &self.tables, steps)
     }
 
     /// Does a statement, and answers its reply. A statement with faults in this catalog changes

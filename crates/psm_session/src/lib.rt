@@ -7,9 +7,12 @@ mod database;
 mod effect;
 mod next;
 mod planned;
+mod prepared;
 mod world;
 
 pub use budget::DEFAULT_BUDGET;
 pub use database::Database;
 pub use next::run_next;
+pub use plan_exec::Answer;
+pub use prepared::Prepared;
 pub use reply_text::Reply;

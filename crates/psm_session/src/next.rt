@@ -11,6 +11,7 @@ use sql_lex::{Tokens, place};
 use sql_parse::parse_statement;
 use sql_values::NoMemory;
 use std::alloc::Global;
+use std::mem::drop;
 use token_grammar::ParseFault;
 
 // The reply where no statement is read, with the place up to which one begins.
@@ -47,8 +48,9 @@ pub fn run_next(
 {
     match parse_statement(alloc, tokens, at) {
         Ok((stmt, next)) => {
-            let reply = db.exec_statement(&stmt)?;
-            Ok((reply, next))
+            let reply = db.exec_statement(&stmt);
+            drop(stmt);
+            Ok((reply?, next))
         }
         Err(ParseFault::NoMemory) => Err(NoMemory),
         Err(ParseFault::NoStatement(stop)) => unread(alloc, tokens, FaultText::Syntax, stop),

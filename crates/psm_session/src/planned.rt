@@ -1,4 +1,4 @@
-//! Queries, answered by their plans: no function's body is run.
+//! Queries of a database, answered by their plans.
 
 ghost use Rattle.std.specs.Prelude.{◌≡◌, [], IfOk, true};
 ghost use Rattle.rel_algebra.specs.World.{World, no_self, no_frame};
@@ -9,18 +9,18 @@ ghost use Rattle.psm_session.specs.Answering.{ends_with, HasValues};
 ghost use Rattle.psm_session.specs.Conclusions.{database};
 ghost use Rattle.psm_session.specs.Shapes.{IsWhole};
 
+use crate::prepared::{prepare_query, run_plan};
 use bound_trees::BoundQuery;
 use catalog_store::Catalog;
-use plan_exec::{Answer, collect, execute};
-use query_plan::plan_query;
+use plan_exec::Answer;
 use row_types::Steps;
 use sql_values::NoMemory;
 use std::alloc::Global;
 use std::sync::ledger::Ledger;
 use table_store::Tables;
 
-/// How a query ends whose functions all have plans, in any world of these tables: its plan is
-/// executed.
+/// How a query ends whose functions all have plans, in any world of these tables: it is prepared,
+/// and run.
 pub(crate) fn planned_answer<L: Ledger>(
     alloc: Global,
     query: &BoundQuery,
@@ -33,9 +33,7 @@ pub(crate) fn planned_answer<L: Ledger>(
     ensures ends { IfOk result (λ a. (w : World) → w.tables ≡ tables.now.tables → answer (query_of catalog.now query.now) no_self [] no_frame w ≡ ends_with a w) }
     ensures values { IfOk result (λ a. HasValues a) }
 {
-    let _tables = tables.len();
     let _entries = catalog.len();
-    let plan = plan_query(alloc, query, catalog)?;
-    let rows = execute(alloc, &plan, tables, &[], steps)?;
-    collect(rows, steps)
+    let prepared = prepare_query(alloc, query, catalog)?;
+    run_plan(alloc, &prepared, tables, steps)
 }

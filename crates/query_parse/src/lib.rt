@@ -1,14 +1,11 @@
-//! The parser of queries, by recursive descent, over that of expressions. Each function gives what
-//! the grammar's reader gives for its rule, and where it fails leaves the input at the token that
-//! does not go on with what was read.
+//! The parser of expressions and queries, by recursive descent: an expression holds queries, and a
+//! query expressions. Each function gives what the grammar's reader gives for its rule, and where
+//! it fails leaves the input at the token that does not go on with what was read.
 #![tactic(auto)]
 
-mod grouping;
 mod order;
+mod parts;
 mod queries;
-mod rows;
-mod select_list;
 
 pub use order::ordered_query;
-pub use queries::query;
-pub use rows::values;
+pub use queries::{after, expr, query, values};

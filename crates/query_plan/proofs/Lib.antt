@@ -1,6 +1,10 @@
 pub mod Places
-pub mod Tests
 pub mod Own
 pub mod Choosing
 pub mod Queries
+pub mod Rows
 pub mod Joining
+pub mod Tests
+pub mod Emitting
+pub mod Asked
+pub mod Costs

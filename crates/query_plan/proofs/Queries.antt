@@ -1,15 +1,16 @@
 -- Whole queries.
-use Rattle.std.proofs.Common.{ℕ, ◌≡◌, ◌<◌, ◌≤◌, ◌+◌, ◌∷◌, [], ◌++◌, List, Option, Some, None, MatchOption, Bool, true, false, ◌&&◌, if◌then◌else◌, replicate, length, map, drop, get_or, slice_get, suc, refl, sym, ap, ◌∙◌, subst, arith, append_assoc}
+use Rattle.std.proofs.Common.{ℕ, slice_index_or, ◌≡◌, ◌<◌, ◌≤◌, ◌+◌, ◌∷◌, [], ◌++◌, List, Option, Some, None, MatchOption, Bool, true, false, ◌&&◌, if◌then◌else◌, replicate, length, map, drop, get_or, slice_get, suc, refl, sym, ap, ◌∙◌, subst, arith, append_assoc}
 use Rattle.std.proofs.lemmas.List.{drop_all, length-replicate, append-nil}
 use Rattle.bound_trees.specs.declared.expr.BoundExpr.{BoundExpr}
 use Rattle.bound_trees.specs.declared.query.BoundFromItem.{BoundFromItem}
 use Rattle.bound_trees.specs.declared.query.BoundGrouping.{BoundGrouping}
 use Rattle.bound_trees.specs.declared.query.BoundRow.{BoundRow}
-use Rattle.bound_trees.specs.declared.query.BoundSelect.{BoundSelect}
+use Rattle.bound_trees.specs.declared.query.BoundSelect.{BoundSelect, out-BoundSelect}
 use Rattle.catalog_store.specs.Catalog.{Catalog}
-use Rattle.catalog_store.specs.View.{exprs_of, rows_of, from_of, item_of, selected, select_of}
+use Rattle.std.specs.Option.{option_map}
+use Rattle.catalog_store.specs.View.{exprs_of, row_of, rows_of, from_of, item_of, grouping_of, selected, select_of}
 use Rattle.rel_algebra.specs.declared.plan.ScalarRow.{ScalarRow}
-use Rattle.rel_algebra.specs.Tree.{Aggregate, Exprs, count, From, Values}
+use Rattle.rel_algebra.specs.Tree.{Aggregate, count, Values, Select, Grouped}
 use Rattle.rel_algebra.specs.Plan.{Scalar, Scalars, PlanTree, Nodes, no_node, extend_by, apply_by, values, unit_row, on_each}
 use Rattle.rel_algebra.specs.Joins.{query_width, rows_width}
 use Rattle.rel_algebra.specs.PlanView.{scalars_of, lists_of}
@@ -24,7 +25,7 @@ use Rattle.query_plan.specs.Plainness.{ArePlain}
 use Rattle.expr_plan.specs.Drafts.{is_unit_row}
 use Rattle.query_plan.specs.Choosing.{columns_from, with_row, closed, all_arms_of}
 use Rattle.catalog_store.specs.Widths.{width_in}
-use Rattle.catalog_store.proofs.Laws.{select_of-parts}
+use Rattle.catalog_store.proofs.Laws.{select_of-parts, grouping_of-parts}
 use Rattle.expr_plan.proofs.Laws.{on_each-joined, width-joined}
 use Rattle.expr_plan.proofs.Laws.{rest, map-last}
 use Rattle.expr_plan.proofs.Laws.{plain_unit}
@@ -42,106 +43,119 @@ listed_emission f n t start between ss end tree wide d is =
 -- ---- SELECT
 
 -- a Filter for each conjunct over the rows of a plan, and the list
-pub selected_plan : (k : Catalog) (items tests : List BoundExpr) (columns : ℕ) (start filtered between : Draft) (ss : Scalars) (end : PlanTree) → columns ≡ (drafted start).width →
-    (drafted filtered).tree ≡ filters (emit_tests (exprs_of k tests) (width_in k) (entered (top 0) columns) none_waits (drafted start).width) (drafted start).tree →
-    (drafted filtered).width ≡ filters_width (emit_tests (exprs_of k tests) (width_in k) (entered (top 0) columns) none_waits (drafted start).width) (drafted start).width →
-    EmitsAll filtered between ss (emit_all (exprs_of k items) (width_in k) (entered (top 0) columns) (drafted filtered).width) →
+pub selected_plan : (k : Catalog) (items tests : List BoundExpr) (e within : Env) (columns : ℕ) (start filtered between : Draft) (ss : Scalars) (end : PlanTree) → columns ≡ (drafted start).width →
+    within ≡ entered e columns →
+    (drafted filtered).tree ≡ filters (emit_tests (exprs_of k tests) (width_in k) within none_waits (drafted start).width) (drafted start).tree →
+    (drafted filtered).width ≡ filters_width (emit_tests (exprs_of k tests) (width_in k) within none_waits (drafted start).width) (drafted start).width →
+    EmitsAll filtered between ss (emit_all (exprs_of k items) (width_in k) within (drafted filtered).width) →
     end ≡ listed_only ss (drafted between).width (drafted between).tree →
-    end ≡ selected_rows (exprs_of k items) (exprs_of k tests) (width_in k) (drafted start).width (drafted start).tree
-selected_plan k items tests columns start filtered between ss end same kept kept_width d is =
+    end ≡ selected_rows (exprs_of k items) (exprs_of k tests) (width_in k) e (drafted start).width (drafted start).tree
+selected_plan k items tests e within columns start filtered between ss end same env kept kept_width d is =
     let S = width_in k in
     let n = (drafted start).width in
     let input = (drafted start).tree in
-    let list : ℕ → ℕ → EmittedAll = λ q m. emit_all (exprs_of k items) S (entered (top 0) q) m in
-    let conjuncts : ℕ → List Emitted = λ q. emit_tests (exprs_of k tests) S (entered (top 0) q) none_waits n in
-    listed_emission (list columns) (filters_width (conjuncts columns) n) (filters (conjuncts columns) input) filtered between ss end kept kept_width d is
-    ∙ ap (λ q. let m = filters_width (conjuncts q) n in listed (list q m) m (filters (conjuncts q) input)) same
+    let list : Env → ℕ → EmittedAll = λ q m. emit_all (exprs_of k items) S q m in
+    let conjuncts : Env → List Emitted = λ q. emit_tests (exprs_of k tests) S q none_waits n in
+    listed_emission (list within) (filters_width (conjuncts within) n) (filters (conjuncts within) input) filtered between ss end kept kept_width d is
+    ∙ ap (λ q. let m = filters_width (conjuncts q) n in listed (list q m) m (filters (conjuncts q) input)) (env ∙ ap (entered e) same)
 
--- the plan of a query over the rows of FROM that has no groups
-pub ungrouped_plan : (k : Catalog) (grouping : Option BoundGrouping) (items tests : List BoundExpr) (rows : Draft) (f : From) (end : PlanTree) → grouping ≡ None → IsFrom k rows f →
-    end ≡ selected_rows (exprs_of k items) (exprs_of k tests) (width_in k) (drafted rows).width (drafted rows).tree →
-    end ≡ plan (selected k grouping (exprs_of k items) f (exprs_of k tests)) (width_in k) (top 0)
-ungrouped_plan k grouping items tests rows f end none is made =
-    made ∙ (λ j. selected_rows (exprs_of k items) (exprs_of k tests) (width_in k) (is.width j) (is.tree j))
-    ∙ ap (λ g. plan (selected k g (exprs_of k items) f (exprs_of k tests)) (width_in k) (top 0)) (sym none)
+-- what a bound select stands for, by its parts
+pub select_of-fields : (k : Catalog) (s : BoundSelect) → select_of k s ≡ selected (option_map (grouping_of k) (out-BoundSelect s).grouping) (exprs_of k (out-BoundSelect s).items) (from_of (map (item_of k) (out-BoundSelect s).from)) (exprs_of k (out-BoundSelect s).conjuncts)
+select_of-fields k s = select_of-parts k s
+
+pub select_of-grouped : (k : Catalog) (s : BoundSelect) (g : BoundGrouping) → (out-BoundSelect s).grouping ≡ Some g →
+    select_of k s ≡ Grouped (from_of (map (item_of k) (out-BoundSelect s).from)) (exprs_of k (out-BoundSelect s).conjuncts) g.keys (exprs_of k g.parts) g.aggregates (exprs_of k g.having) (exprs_of k (out-BoundSelect s).items)
+select_of-grouped k s g h =
+    select_of-fields k s ∙ ap (λ (o : Option BoundGrouping). selected (option_map (grouping_of k) o) (exprs_of k (out-BoundSelect s).items) (from_of (map (item_of k) (out-BoundSelect s).from)) (exprs_of k (out-BoundSelect s).conjuncts)) h
+    ∙ ap (λ q. Grouped (from_of (map (item_of k) (out-BoundSelect s).from)) (exprs_of k (out-BoundSelect s).conjuncts) q.keys q.parts q.aggregates q.having (exprs_of k (out-BoundSelect s).items)) (grouping_of-parts k g)
+
+pub select_of-ungrouped : (k : Catalog) (s : BoundSelect) → (out-BoundSelect s).grouping ≡ None →
+    select_of k s ≡ Select (exprs_of k (out-BoundSelect s).items) (from_of (map (item_of k) (out-BoundSelect s).from)) (exprs_of k (out-BoundSelect s).conjuncts)
+select_of-ungrouped k s h =
+    select_of-fields k s ∙ ap (λ (o : Option BoundGrouping). selected (option_map (grouping_of k) o) (exprs_of k (out-BoundSelect s).items) (from_of (map (item_of k) (out-BoundSelect s).from)) (exprs_of k (out-BoundSelect s).conjuncts)) h
+
+-- the plan of a select over the rows of FROM that has no groups
+pub ungrouped_plan : (k : Catalog) (s : BoundSelect) (e : Env) (items tests : List BoundExpr) (from : List BoundFromItem) (rows : Draft) (end : PlanTree) → (out-BoundSelect s).grouping ≡ None →
+    from ≡ (out-BoundSelect s).from → items ≡ (out-BoundSelect s).items → tests ≡ (out-BoundSelect s).conjuncts → IsFrom k e rows (from_of (map (item_of k) from)) →
+    end ≡ selected_rows (exprs_of k items) (exprs_of k tests) (width_in k) e (drafted rows).width (drafted rows).tree →
+    end ≡ plan (select_of k s) (width_in k) e
+ungrouped_plan k s e items tests from rows end free f i c is made =
+    made ∙ (λ j. selected_rows (exprs_of k items) (exprs_of k tests) (width_in k) e (is.width j) (is.tree j))
+    ∙ (λ j. plan (Select (exprs_of k (i j)) (from_of (map (item_of k) (f j))) (exprs_of k (c j))) (width_in k) e)
+    ∙ ap (λ q. plan q (width_in k) e) (sym (select_of-ungrouped k s free))
 
 -- and that of one that has
-pub grouped_plan : (k : Catalog) (g : BoundGrouping) (items tests parts having : List BoundExpr) (aggregates : List Aggregate) (rows least groups : Draft) (f : From) (end : PlanTree) →
-    parts ≡ g.parts → aggregates ≡ g.aggregates → having ≡ g.having → IsFrom k rows f →
-    (drafted least).tree ≡ selected_rows (exprs_of k parts) (exprs_of k tests) (width_in k) (drafted rows).width (drafted rows).tree →
+pub grouped_plan : (k : Catalog) (s : BoundSelect) (g : BoundGrouping) (e : Env) (items tests parts having : List BoundExpr) (from : List BoundFromItem) (aggregates : List Aggregate) (rows least groups : Draft)
+    (end : PlanTree) → (out-BoundSelect s).grouping ≡ Some g → from ≡ (out-BoundSelect s).from → items ≡ (out-BoundSelect s).items → tests ≡ (out-BoundSelect s).conjuncts → parts ≡ g.parts → aggregates ≡ g.aggregates → having ≡ g.having →
+    IsFrom k e rows (from_of (map (item_of k) from)) →
+    (drafted least).tree ≡ selected_rows (exprs_of k parts) (exprs_of k tests) (width_in k) e (drafted rows).width (drafted rows).tree →
     (drafted groups).tree ≡ grouped_rows g.keys aggregates (drafted least).tree → (drafted groups).width ≡ g.keys + length aggregates →
-    end ≡ selected_rows (exprs_of k items) (exprs_of k having) (width_in k) (drafted groups).width (drafted groups).tree →
-    end ≡ plan (selected k (Some g) (exprs_of k items) f (exprs_of k tests)) (width_in k) (top 0)
-grouped_plan k g items tests parts having aggregates rows least groups f end p a h is made tree wide last =
+    end ≡ selected_rows (exprs_of k items) (exprs_of k having) (width_in k) e (drafted groups).width (drafted groups).tree →
+    end ≡ plan (select_of k s) (width_in k) e
+grouped_plan k s g e items tests parts having from aggregates rows least groups end some f i c p a h is made tree wide last =
     let S = width_in k in
-    let below = made ∙ (λ j. selected_rows (exprs_of k (p j)) (exprs_of k tests) S (is.width j) (is.tree j)) in
-    let many = wide ∙ ap (λ (ags : List Aggregate). g.keys + length ags) a in
-    let between = tree ∙ (λ j. grouped_rows g.keys (a j) (below j)) in
-    last ∙ (λ j. selected_rows (exprs_of k items) (exprs_of k (h j)) S (many j) (between j))
-
--- the same of a bound select
-pub select_there : (k : Catalog) (s : BoundSelect) (items conjuncts : List BoundExpr) (from : List BoundFromItem) (p : PlanTree) → from ≡ s.from → items ≡ s.items → conjuncts ≡ s.conjuncts →
-    p ≡ plan (selected k s.grouping (exprs_of k items) (from_of (map (item_of k) from)) (exprs_of k conjuncts)) (width_in k) (top 0) → p ≡ plan (select_of k s) (width_in k) (top 0)
-select_there k s items conjuncts from p f i c is =
-    is ∙ (λ j. plan (selected k s.grouping (exprs_of k (i j)) (from_of (map (item_of k) (f j))) (exprs_of k (c j))) (width_in k) (top 0))
-    ∙ ap (λ q. plan q (width_in k) (top 0)) (sym (select_of-parts k s))
+    let below = made ∙ (λ j. selected_rows (exprs_of k parts) (exprs_of k tests) S e (is.width j) (is.tree j)) in
+    let between = tree ∙ ap (grouped_rows g.keys aggregates) below in
+    last ∙ (λ j. selected_rows (exprs_of k items) (exprs_of k having) S e (wide j) (between j))
+    ∙ (λ j. plan (Grouped (from_of (map (item_of k) (f j))) (exprs_of k (c j)) g.keys (exprs_of k (p j)) (a j) (exprs_of k (h j)) (exprs_of k (i j))) S e)
+    ∙ ap (λ q. plan q S e) (sym (select_of-grouped k s g some))
 
 -- a query is as wide as its list
-pub selected-width : (k : Catalog) (grouping : Option BoundGrouping) (items tests : Exprs) (f : From) (widths : List ℕ → ℕ) → query_width (selected k grouping items f tests) widths ≡ count items
-selected-width k None items tests f widths = refl
-selected-width k (Some g) items tests f widths = refl
+pub select-width : (k : Catalog) (s : BoundSelect) (widths : List ℕ → ℕ) → query_width (select_of k s) widths ≡ count (exprs_of k (out-BoundSelect s).items)
+select-width k s widths = by (out-BoundSelect s).grouping refl
+  where
+    by : (o : Option BoundGrouping) → (out-BoundSelect s).grouping ≡ o → query_width (select_of k s) widths ≡ count (exprs_of k (out-BoundSelect s).items)
+    by None h = ap (λ q. query_width q widths) (select_of-ungrouped k s h)
+    by (Some g) h = ap (λ q. query_width q widths) (select_of-grouped k s g h)
 
 -- ---- VALUES
-
-abbrev pub nowhere_env : Env
-nowhere_env = lifted (top 0)
 
 pub count-exprs : (k : Catalog) (es : List BoundExpr) → count (exprs_of k es) ≡ length es
 count-exprs k [] = refl
 count-exprs k (e ∷ es) = ap suc (count-exprs k es)
 
-pub width_first : (k : Catalog) (rs : List BoundRow) (r : BoundRow) → Some r ≡ slice_get rs 0 → rows_width (rows_of k rs) ≡ length r.values
-width_first k [] r h = absurd (let never = h in cc)
-width_first k (x ∷ rs) r h = count-exprs k x.values ∙ (let same : x ≡ r = cc in ap (λ (y : BoundRow). length y.values) same)
+pub width_first : (k : Catalog) (rs : List BoundRow) (r : BoundRow) (vs : List BoundExpr) → Some r ≡ slice_get rs 0 → exprs_of k vs ≡ row_of k r → rows_width (rows_of k rs) ≡ length vs
+width_first k [] r vs h g = absurd (let never = h in cc)
+width_first k (x ∷ rs) r vs h g = let same : x ≡ r = cc in ap (λ (y : BoundRow). count (row_of k y)) same ∙ ap count (sym g) ∙ count-exprs k vs
 
 rows_counted : (k : Catalog) (rs : List BoundRow) (S : List ℕ → ℕ) (e : Env) (n : ℕ) → length (emit_rows (rows_of k rs) S e n) ≡ length rs
 rows_counted k [] S e n = refl
-rows_counted k (r ∷ rs) S e n = ap suc (rows_counted k rs S e (width (emit_all (exprs_of k r.values) S e n).nodes n))
+rows_counted k (r ∷ rs) S e n = ap suc (rows_counted k rs S e (width (emit_all (row_of k r) S e n).nodes n))
 
 -- what is left of rows begins with the row at its place
 rows_at : (k : Catalog) (rs : List BoundRow) (i : ℕ) (r : BoundRow) (S : List ℕ → ℕ) (e : Env) (n : ℕ) → i < length rs → r ≡ get_or rs i r →
-    emit_rows (rows_of k (drop i rs)) S e n ≡ emit_all (exprs_of k r.values) S e n ∷ emit_rows (rows_of k (drop (i + 1) rs)) S e (width (emit_all (exprs_of k r.values) S e n).nodes n)
+    emit_rows (rows_of k (drop i rs)) S e n ≡ emit_all (row_of k r) S e n ∷ emit_rows (rows_of k (drop (i + 1) rs)) S e (width (emit_all (row_of k r) S e n).nodes n)
 rows_at k rs i r S e n h is = ap (λ (xs : List BoundRow). emit_rows (rows_of k xs) S e n) (rest rs i r h is)
 
 -- of the rows this much is done
-pub record Numbering (k : Catalog) (w : ℕ) (rs : List BoundRow) (i : ℕ) (start now : Draft) (held : List ScalarRow) : Type 0 where
-  pub tree : on_each (list_nodes (emit_rows (rows_of k (drop i rs)) (width_in k) nowhere_env (drafted now).width)) (drafted now).tree
-      ≡ on_each (list_nodes (emit_rows (rows_of k rs) (width_in k) nowhere_env (drafted start).width)) (drafted start).tree
-  pub columns : width (list_nodes (emit_rows (rows_of k (drop i rs)) (width_in k) nowhere_env (drafted now).width)) (drafted now).width
-      ≡ width (list_nodes (emit_rows (rows_of k rs) (width_in k) nowhere_env (drafted start).width)) (drafted start).width
-  pub cells : columns_from (all_arms_of held) (chosen w i (emit_rows (rows_of k (drop i rs)) (width_in k) nowhere_env (drafted now).width))
-      ≡ chosen w 0 (emit_rows (rows_of k rs) (width_in k) nowhere_env (drafted start).width)
+pub record Numbering (k : Catalog) (e : Env) (w : ℕ) (rs : List BoundRow) (i : ℕ) (start now : Draft) (held : List ScalarRow) : Type 0 where
+  pub tree : on_each (list_nodes (emit_rows (rows_of k (drop i rs)) (width_in k) e (drafted now).width)) (drafted now).tree
+      ≡ on_each (list_nodes (emit_rows (rows_of k rs) (width_in k) e (drafted start).width)) (drafted start).tree
+  pub columns : width (list_nodes (emit_rows (rows_of k (drop i rs)) (width_in k) e (drafted now).width)) (drafted now).width
+      ≡ width (list_nodes (emit_rows (rows_of k rs) (width_in k) e (drafted start).width)) (drafted start).width
+  pub cells : columns_from (all_arms_of held) (chosen w i (emit_rows (rows_of k (drop i rs)) (width_in k) e (drafted now).width))
+      ≡ chosen w 0 (emit_rows (rows_of k rs) (width_in k) e (drafted start).width)
   pub narrow : length (all_arms_of held) ≤ w
 
-pub numbering_first : (k : Catalog) (w : ℕ) (rs : List BoundRow) (start : Draft) (columns : List ScalarRow) → all_arms_of columns ≡ replicate w [] → Numbering k w rs 0 start start columns
-numbering_first k w rs start columns h = record {
+pub numbering_first : (k : Catalog) (e : Env) (w : ℕ) (rs : List BoundRow) (start : Draft) (columns : List ScalarRow) → all_arms_of columns ≡ replicate w [] → Numbering k e w rs 0 start start columns
+numbering_first k e w rs start columns h = record {
   tree = refl;
   columns = refl;
   cells =
-      ap (λ cs. columns_from cs (chosen w 0 (emit_rows (rows_of k rs) (width_in k) nowhere_env (drafted start).width))) h
-      ∙ columns_first w (emit_rows (rows_of k rs) (width_in k) nowhere_env (drafted start).width);
+      ap (λ cs. columns_from cs (chosen w 0 (emit_rows (rows_of k rs) (width_in k) e (drafted start).width))) h
+      ∙ columns_first w (emit_rows (rows_of k rs) (width_in k) e (drafted start).width);
   narrow = omega (arith, ap length h, length-replicate {A = List Scalar} w []);
 }
 
-pub numbering_next : (k : Catalog) (w : ℕ) (rs : List BoundRow) (i : ℕ) (r : BoundRow) (start old new : Draft) (columns grown : List ScalarRow) (ss : Scalars) → i < length rs → r ≡ get_or rs i r →
-    Numbering k w rs i start old columns → EmitsAll old new ss (emit_all (exprs_of k r.values) (width_in k) nowhere_env (drafted old).width) →
-    all_arms_of grown ≡ with_row i (all_arms_of columns) ss → Numbering k w rs (i + 1) start new grown
-numbering_next k w rs i r start old new columns grown ss h is b d g =
+pub numbering_next : (k : Catalog) (e : Env) (w : ℕ) (rs : List BoundRow) (i : ℕ) (r : BoundRow) (start old new : Draft) (columns grown : List ScalarRow) (ss : Scalars) → i < length rs → r ≡ get_or rs i r →
+    Numbering k e w rs i start old columns → EmitsAll old new ss (emit_all (row_of k r) (width_in k) e (drafted old).width) →
+    all_arms_of grown ≡ with_row i (all_arms_of columns) ss → Numbering k e w rs (i + 1) start new grown
+numbering_next k e w rs i r start old new columns grown ss h is b d g =
     let S = width_in k in
     let n = (drafted old).width in
-    let a = emit_all (exprs_of k r.values) S nowhere_env n in
-    let others : ℕ → List EmittedAll = emit_rows (rows_of k (drop (i + 1) rs)) S nowhere_env in
-    let at = rows_at k rs i r S nowhere_env n h is in
+    let a = emit_all (row_of k r) S e n in
+    let others : ℕ → List EmittedAll = emit_rows (rows_of k (drop (i + 1) rs)) S e in
+    let at = rows_at k rs i r S e n h is in
     let left = others (width a.nodes n) in
     let next : i + 1 ≡ suc i = omega arith in
     record {
@@ -159,30 +173,34 @@ numbering_next k w rs i r start old new columns grown ss h is b d g =
     }
 
 -- the plan of rows over their numbers
-pub numbered_plan : (k : Catalog) (w : ℕ) (rs : List BoundRow) (i : ℕ) (start now : Draft) (columns : List ScalarRow) (ss : Scalars) (end : PlanTree) → length rs ≤ i →
-    Numbering k w rs i start now columns → (drafted start).tree ≡ values (numbers 0 (length rs)) → (drafted start).width ≡ 1 → ss ≡ closed (all_arms_of columns) →
-    end ≡ listed_only ss (drafted now).width (drafted now).tree → end ≡ several w (emit_rows (rows_of k rs) (width_in k) nowhere_env 1)
-numbered_plan k w rs i start now columns ss end h b tree wide is made =
+pub numbered_plan : (k : Catalog) (e : Env) (w : ℕ) (rs : List BoundRow) (i : ℕ) (start now : Draft) (columns : List ScalarRow) (ss : Scalars) (end : PlanTree) → length rs ≤ i →
+    Numbering k e w rs i start now columns → (drafted start).tree ≡ values (numbers 0 (length rs)) → (drafted start).width ≡ 1 → ss ≡ closed (all_arms_of columns) →
+    end ≡ listed_only ss (drafted now).width (drafted now).tree → end ≡ several w (emit_rows (rows_of k rs) (width_in k) e 1)
+numbered_plan k e w rs i start now columns ss end h b tree wide is made =
     let S = width_in k in
-    let whole : ℕ → List EmittedAll = emit_rows (rows_of k rs) S nowhere_env in
+    let whole : ℕ → List EmittedAll = emit_rows (rows_of k rs) S e in
     let done = drop_all i rs h in
     let cells : ss ≡ chosen w 0 (whole (drafted start).width) =
     is ∙ sym (columns_last (all_arms_of columns) w b.narrow)
-    ∙ ap (λ (xs : List BoundRow). columns_from (all_arms_of columns) (chosen w i (emit_rows (rows_of k xs) S nowhere_env (drafted now).width))) (sym done) ∙ b.cells in
+    ∙ ap (λ (xs : List BoundRow). columns_from (all_arms_of columns) (chosen w i (emit_rows (rows_of k xs) S e (drafted now).width))) (sym done) ∙ b.cells in
     let tree_now : (drafted now).tree ≡ on_each (list_nodes (whole (drafted start).width)) (drafted start).tree =
-    ap (λ (xs : List BoundRow). on_each (list_nodes (emit_rows (rows_of k xs) S nowhere_env (drafted now).width)) (drafted now).tree) (sym done) ∙ b.tree in
+    ap (λ (xs : List BoundRow). on_each (list_nodes (emit_rows (rows_of k xs) S e (drafted now).width)) (drafted now).tree) (sym done) ∙ b.tree in
     let width_now : (drafted now).width ≡ width (list_nodes (whole (drafted start).width)) (drafted start).width =
-    ap (λ (xs : List BoundRow). width (list_nodes (emit_rows (rows_of k xs) S nowhere_env (drafted now).width)) (drafted now).width) (sym done) ∙ b.columns in
+    ap (λ (xs : List BoundRow). width (list_nodes (emit_rows (rows_of k xs) S e (drafted now).width)) (drafted now).width) (sym done) ∙ b.columns in
     listed_emission (λ n. record { nodes = list_nodes (whole n); scalars = chosen w 0 (whole n) }) 1 (values (numbers 0 (length rs))) start now ss end tree wide
     (record { tree = tree_now; columns = width_now; scalars = cells }) made
-    ∙ ap (λ q. listed (record { nodes = list_nodes (whole 1); scalars = chosen w 0 (whole 1) }) 1 (values (numbers 0 q))) (sym (rows_counted k rs S nowhere_env 1))
+    ∙ ap (λ q. listed (record { nodes = list_nodes (whole 1); scalars = chosen w 0 (whole 1) }) 1 (values (numbers 0 q))) (sym (rows_counted k rs S e 1))
 
 -- one row
-pub single_plan : (k : Catalog) (rs : List BoundRow) (r : BoundRow) → length rs ≡ 1 → r ≡ get_or rs 0 r →
-    listed (emit_all (exprs_of k r.values) (width_in k) nowhere_env 0) 0 unit_row ≡ plan (Values (rows_of k rs)) (width_in k) (top 0)
-single_plan k [] r h is = absurd (omega (arith, h))
-single_plan k (x ∷ []) r h is = ap (λ (y : BoundRow). listed (emit_all (exprs_of k y.values) (width_in k) nowhere_env 0) 0 unit_row) is
-single_plan k (x ∷ y ∷ rs) r h is = absurd (omega (arith, h))
+pub single_plan : (k : Catalog) (e : Env) (rs : List BoundRow) (r : BoundRow) → length rs ≡ 1 → r ≡ slice_index_or rs 0 r →
+    listed (emit_all (row_of k r) (width_in k) (lifted e) 0) 0 unit_row ≡ plan (Values (rows_of k rs)) (width_in k) e
+single_plan k e [] r h is = absurd (omega (arith, h))
+single_plan k e (x ∷ []) r h is = ap (λ (y : BoundRow). listed (emit_all (row_of k y) (width_in k) (lifted e) 0) 0 unit_row) is
+single_plan k e (x ∷ y ∷ rs) r h is = absurd (omega (arith, h))
+
+-- the plan of rows by where their names are read
+abbrev pub plan_by : Catalog → List BoundRow → Env → PlanTree
+plan_by k rs q = values_plan (rows_width (rows_of k rs)) (emit_rows (rows_of k rs) (width_in k) q 0) (emit_rows (rows_of k rs) (width_in k) q 1)
 
 -- ---- rows that need no nodes
 
@@ -191,24 +209,24 @@ plain-width no_node n h = refl
 plain-width (extend_by ss a) n h = absurd (let never = h in cc)
 plain-width (apply_by when kind inner a) n h = absurd (let never = h in cc)
 
-pub record Plains (k : Catalog) (rs : List BoundRow) (i : ℕ) (held : List ScalarRow) : Type 0 where
-  pub plain : all_plain (emit_rows (rows_of k (drop i rs)) (width_in k) nowhere_env 0) ≡ all_plain (emit_rows (rows_of k rs) (width_in k) nowhere_env 0)
-  pub lists : lists_of held ++ all_scalars_of (emit_rows (rows_of k (drop i rs)) (width_in k) nowhere_env 0) ≡ all_scalars_of (emit_rows (rows_of k rs) (width_in k) nowhere_env 0)
+pub record Plains (k : Catalog) (e : Env) (rs : List BoundRow) (i : ℕ) (held : List ScalarRow) : Type 0 where
+  pub plain : all_plain (emit_rows (rows_of k (drop i rs)) (width_in k) e 0) ≡ all_plain (emit_rows (rows_of k rs) (width_in k) e 0)
+  pub lists : lists_of held ++ all_scalars_of (emit_rows (rows_of k (drop i rs)) (width_in k) e 0) ≡ all_scalars_of (emit_rows (rows_of k rs) (width_in k) e 0)
 
-plains_at : (k : Catalog) (rs : List BoundRow) (i : ℕ) (r : BoundRow) → i < length rs → r ≡ get_or rs i r →
-    is_plain (emit_all (exprs_of k r.values) (width_in k) nowhere_env 0).nodes ≡ true →
-    emit_rows (rows_of k (drop i rs)) (width_in k) nowhere_env 0 ≡ emit_all (exprs_of k r.values) (width_in k) nowhere_env 0 ∷ emit_rows (rows_of k (drop (i + 1) rs)) (width_in k) nowhere_env 0
-plains_at k rs i r h is p =
-    let a = emit_all (exprs_of k r.values) (width_in k) nowhere_env 0 in
-    rows_at k rs i r (width_in k) nowhere_env 0 h is ∙ ap (λ n. a ∷ emit_rows (rows_of k (drop (i + 1) rs)) (width_in k) nowhere_env n) (plain-width a.nodes 0 p)
+plains_at : (k : Catalog) (e : Env) (rs : List BoundRow) (i : ℕ) (r : BoundRow) → i < length rs → r ≡ get_or rs i r →
+    is_plain (emit_all (row_of k r) (width_in k) e 0).nodes ≡ true →
+    emit_rows (rows_of k (drop i rs)) (width_in k) e 0 ≡ emit_all (row_of k r) (width_in k) e 0 ∷ emit_rows (rows_of k (drop (i + 1) rs)) (width_in k) e 0
+plains_at k e rs i r h is p =
+    let a = emit_all (row_of k r) (width_in k) e 0 in
+    rows_at k rs i r (width_in k) e 0 h is ∙ ap (λ n. a ∷ emit_rows (rows_of k (drop (i + 1) rs)) (width_in k) e n) (plain-width a.nodes 0 p)
 
-pub plains_next : (k : Catalog) (rs : List BoundRow) (i : ℕ) (r : BoundRow) (old new : List ScalarRow) (list : ScalarRow) → i < length rs → r ≡ get_or rs i r → Plains k rs i old →
-    is_plain (emit_all (exprs_of k r.values) (width_in k) nowhere_env 0).nodes ≡ true → scalars_of list.scalars ≡ (emit_all (exprs_of k r.values) (width_in k) nowhere_env 0).scalars →
-    new ≡ old ++ list ∷ [] → Plains k rs (i + 1) new
-plains_next k rs i r old new list h is b p same f =
-    let a = emit_all (exprs_of k r.values) (width_in k) nowhere_env 0 in
-    let left = emit_rows (rows_of k (drop (i + 1) rs)) (width_in k) nowhere_env 0 in
-    let at = plains_at k rs i r h is p in
+pub plains_next : (k : Catalog) (e : Env) (rs : List BoundRow) (i : ℕ) (r : BoundRow) (old new : List ScalarRow) (list : ScalarRow) → i < length rs → r ≡ get_or rs i r → Plains k e rs i old →
+    is_plain (emit_all (row_of k r) (width_in k) e 0).nodes ≡ true → scalars_of list.scalars ≡ (emit_all (row_of k r) (width_in k) e 0).scalars →
+    new ≡ old ++ list ∷ [] → Plains k e rs (i + 1) new
+plains_next k e rs i r old new list h is b p same f =
+    let a = emit_all (row_of k r) (width_in k) e 0 in
+    let left = emit_rows (rows_of k (drop (i + 1) rs)) (width_in k) e 0 in
+    let at = plains_at k e rs i r h is p in
     record {
       plain = ap (λ q. q && all_plain left) (sym p) ∙ ap all_plain (sym at) ∙ b.plain;
       lists =
@@ -218,19 +236,19 @@ plains_next k rs i r old new list h is b p same f =
     }
 
 -- a row that needs nodes
-pub plains_end : (k : Catalog) (rs : List BoundRow) (i : ℕ) (r : BoundRow) (old : List ScalarRow) → i < length rs → r ≡ get_or rs i r → Plains k rs i old →
-    is_plain (emit_all (exprs_of k r.values) (width_in k) nowhere_env 0).nodes ≡ false → all_plain (emit_rows (rows_of k rs) (width_in k) nowhere_env 0) ≡ false
-plains_end k rs i r old h is b p =
-    let a = emit_all (exprs_of k r.values) (width_in k) nowhere_env 0 in
-    let left = emit_rows (rows_of k (drop (i + 1) rs)) (width_in k) nowhere_env (width a.nodes 0) in
-    sym b.plain ∙ ap all_plain (rows_at k rs i r (width_in k) nowhere_env 0 h is) ∙ ap (λ q. q && all_plain left) p
+pub plains_end : (k : Catalog) (e : Env) (rs : List BoundRow) (i : ℕ) (r : BoundRow) (old : List ScalarRow) → i < length rs → r ≡ get_or rs i r → Plains k e rs i old →
+    is_plain (emit_all (row_of k r) (width_in k) e 0).nodes ≡ false → all_plain (emit_rows (rows_of k rs) (width_in k) e 0) ≡ false
+plains_end k e rs i r old h is b p =
+    let a = emit_all (row_of k r) (width_in k) e 0 in
+    let left = emit_rows (rows_of k (drop (i + 1) rs)) (width_in k) e (width a.nodes 0) in
+    sym b.plain ∙ ap all_plain (rows_at k rs i r (width_in k) e 0 h is) ∙ ap (λ q. q && all_plain left) p
 
-pub plains_done : (k : Catalog) (rs : List BoundRow) (i : ℕ) (lists : List ScalarRow) → length rs ≤ i → Plains k rs i lists →
-    (all_plain (emit_rows (rows_of k rs) (width_in k) nowhere_env 0) ≡ true) × (lists_of lists ≡ all_scalars_of (emit_rows (rows_of k rs) (width_in k) nowhere_env 0))
-plains_done k rs i lists h b =
+pub plains_done : (k : Catalog) (e : Env) (rs : List BoundRow) (i : ℕ) (lists : List ScalarRow) → length rs ≤ i → Plains k e rs i lists →
+    (all_plain (emit_rows (rows_of k rs) (width_in k) e 0) ≡ true) × (lists_of lists ≡ all_scalars_of (emit_rows (rows_of k rs) (width_in k) e 0))
+plains_done k e rs i lists h b =
     let done = drop_all i rs h in (
-      sym b.plain ∙ ap (λ (xs : List BoundRow). all_plain (emit_rows (rows_of k xs) (width_in k) nowhere_env 0)) done,
-      sym (append-nil (lists_of lists)) ∙ ap (λ (xs : List BoundRow). lists_of lists ++ all_scalars_of (emit_rows (rows_of k xs) (width_in k) nowhere_env 0)) (sym done) ∙ b.lists,
+      sym b.plain ∙ ap (λ (xs : List BoundRow). all_plain (emit_rows (rows_of k xs) (width_in k) e 0)) done,
+      sym (append-nil (lists_of lists)) ∙ ap (λ (xs : List BoundRow). lists_of lists ++ all_scalars_of (emit_rows (rows_of k xs) (width_in k) e 0)) (sym done) ∙ b.lists,
     )
 
 -- which of the plans of rows it is
@@ -246,40 +264,65 @@ values_there (a ∷ []) m rows h n z p is k numbered = absurd (n (sym h))
 values_there (a ∷ b ∷ lists) m rows h n z p is k numbered =
     ap values is ∙ ap (λ q. if q then values (all_scalars_of (a ∷ b ∷ lists)) else several k numbered) (sym p)
 
-pub rows-length : (k : Catalog) (rs : List BoundRow) → length (emit_rows (rows_of k rs) (width_in k) nowhere_env 0) ≡ length rs
-rows-length k rs = rows_counted k rs (width_in k) nowhere_env 0
+pub rows-length : (k : Catalog) (e : Env) (rs : List BoundRow) → length (emit_rows (rows_of k rs) (width_in k) e 0) ≡ length rs
+rows-length k e rs = rows_counted k rs (width_in k) e 0
 
-pub none_there : (k : Catalog) (rs : List BoundRow) → rs ≡ [] → (w : ℕ) (numbered : List EmittedAll) → several w numbered ≡ values_plan w (emit_rows (rows_of k rs) (width_in k) nowhere_env 0) numbered
-none_there k rs h w numbered = ap (λ (xs : List BoundRow). values_plan w (emit_rows (rows_of k xs) (width_in k) nowhere_env 0) numbered) (sym h)
+pub none_there : (k : Catalog) (e : Env) (rs : List BoundRow) → rs ≡ [] → (w : ℕ) (numbered : List EmittedAll) → several w numbered ≡ values_plan w (emit_rows (rows_of k rs) (width_in k) e 0) numbered
+none_there k e rs h w numbered = ap (λ (xs : List BoundRow). values_plan w (emit_rows (rows_of k xs) (width_in k) e 0) numbered) (sym h)
 
 -- ---- the same of bound trees
 
-pub row_bound : (k : Catalog) (vs ws : List BoundExpr) (start between : Draft) (ss : Scalars) (end : PlanTree) → vs ≡ ws → (drafted start).tree ≡ unit_row → (drafted start).width ≡ 0 →
-    EmitsAll start between ss (emit_all (exprs_of k vs) (width_in k) nowhere_env (drafted start).width) → end ≡ listed_only ss (drafted between).width (drafted between).tree →
-    end ≡ listed (emit_all (exprs_of k ws) (width_in k) nowhere_env 0) 0 unit_row
-row_bound k vs ws start between ss end p tree wide d made =
-    listed_emission (emit_all (exprs_of k vs) (width_in k) nowhere_env) 0 unit_row start between ss end tree wide d made
-    ∙ ap (λ (xs : List BoundExpr). listed (emit_all (exprs_of k xs) (width_in k) nowhere_env 0) 0 unit_row) p
+pub row_bound : (k : Catalog) (e : Env) (vs : List BoundExpr) (r : BoundRow) (start between : Draft) (ss : Scalars) (end : PlanTree) → exprs_of k vs ≡ row_of k r → (drafted start).tree ≡ unit_row →
+    (drafted start).width ≡ 0 → EmitsAll start between ss (emit_all (exprs_of k vs) (width_in k) e (drafted start).width) → end ≡ listed_only ss (drafted between).width (drafted between).tree →
+    end ≡ listed (emit_all (row_of k r) (width_in k) e 0) 0 unit_row
+row_bound k e vs r start between ss end p tree wide d made =
+    listed_emission (emit_all (exprs_of k vs) (width_in k) e) 0 unit_row start between ss end tree wide d made
+    ∙ ap (λ xs. listed (emit_all xs (width_in k) e 0) 0 unit_row) p
 
-pub plain_bound : (k : Catalog) (vs ws : List BoundExpr) (start new : Draft) (ss : Scalars) (b : Bool) → vs ≡ ws → (drafted start).tree ≡ unit_row → (drafted start).width ≡ 0 →
-    EmitsAll start new ss (emit_all (exprs_of k vs) (width_in k) nowhere_env (drafted start).width) → b ≡ is_unit_row (drafted new).tree →
-    (b ≡ is_plain (emit_all (exprs_of k ws) (width_in k) nowhere_env 0).nodes) × (ss ≡ (emit_all (exprs_of k ws) (width_in k) nowhere_env 0).scalars)
-plain_bound k vs ws start new ss b p tree wide d is =
-    let same : emit_all (exprs_of k vs) (width_in k) nowhere_env (drafted start).width ≡ emit_all (exprs_of k ws) (width_in k) nowhere_env 0 =
-    λ j. emit_all (exprs_of k (p j)) (width_in k) nowhere_env (wide j) in
-    let a = emit_all (exprs_of k ws) (width_in k) nowhere_env 0 in
+-- one row
+pub one_row : (k : Catalog) (e within : Env) (rs : List BoundRow) (r : BoundRow) (vs : List BoundExpr) (start between : Draft) (ss : Scalars) (end : PlanTree) → within ≡ lifted e → length rs ≡ 1 →
+    r ≡ slice_index_or rs 0 r → exprs_of k vs ≡ row_of k r → (drafted start).tree ≡ unit_row → (drafted start).width ≡ 0 →
+    EmitsAll start between ss (emit_all (exprs_of k vs) (width_in k) within (drafted start).width) → end ≡ listed_only ss (drafted between).width (drafted between).tree →
+    end ≡ plan (Values (rows_of k rs)) (width_in k) e
+one_row k e within rs r vs start between ss end env one is p tree wide d made =
+    row_bound k within vs r start between ss end p tree wide d made
+    ∙ ap (λ q. listed (emit_all (row_of k r) (width_in k) q 0) 0 unit_row) env ∙ single_plan k e rs r one is
+
+pub plain_bound : (k : Catalog) (e : Env) (vs : List BoundExpr) (r : BoundRow) (start new : Draft) (ss : Scalars) (b : Bool) → exprs_of k vs ≡ row_of k r → (drafted start).tree ≡ unit_row →
+    (drafted start).width ≡ 0 → EmitsAll start new ss (emit_all (exprs_of k vs) (width_in k) e (drafted start).width) → b ≡ is_unit_row (drafted new).tree →
+    (b ≡ is_plain (emit_all (row_of k r) (width_in k) e 0).nodes) × (ss ≡ (emit_all (row_of k r) (width_in k) e 0).scalars)
+plain_bound k e vs r start new ss b p tree wide d is =
+    let same : emit_all (exprs_of k vs) (width_in k) e (drafted start).width ≡ emit_all (row_of k r) (width_in k) e 0 =
+    λ j. emit_all (p j) (width_in k) e (wide j) in
+    let a = emit_all (row_of k r) (width_in k) e 0 in
     (is ∙ ap is_unit_row (d.tree ∙ (λ j. on_each (same j).nodes (tree j))) ∙ plain_unit a.nodes, d.scalars ∙ ap (λ y. y.scalars) same)
 
-pub plain_rows_there : (o : Option (List ScalarRow)) (lists : List EmittedAll) (m : ℕ) → length lists ≡ m → ¬ (m ≡ 1) → ¬ (m ≡ 0) → ArePlain o lists →
-    MatchOption o ((k : ℕ) (numbered : List EmittedAll) → several k numbered ≡ values_plan k lists numbered)
-    (λ rows. (k : ℕ) (numbered : List EmittedAll) → values (lists_of rows) ≡ values_plan k lists numbered)
-plain_rows_there None lists m h n z p = several_there lists m h n p
-plain_rows_there (Some rows) lists m h n z p = values_there lists m (lists_of rows) h n z p.0 p.1
+pub numbering_bound : (k : Catalog) (e : Env) (w : ℕ) (rs : List BoundRow) (i : ℕ) (r : BoundRow) (vs : List BoundExpr) (start old new : Draft) (columns grown : List ScalarRow) (ss : Scalars) →
+    i < length rs → r ≡ get_or rs i r → exprs_of k vs ≡ row_of k r → Numbering k e w rs i start old columns →
+    EmitsAll old new ss (emit_all (exprs_of k vs) (width_in k) e (drafted old).width) →
+    all_arms_of grown ≡ with_row i (all_arms_of columns) ss → Numbering k e w rs (i + 1) start new grown
+numbering_bound k e w rs i r vs start old new columns grown ss h is p b d g =
+    numbering_next k e w rs i r start old new columns grown ss h is b
+    (subst (λ es. EmitsAll old new ss (emit_all es (width_in k) e (drafted old).width)) p d) g
 
-pub numbering_bound : (k : Catalog) (w : ℕ) (rs : List BoundRow) (i : ℕ) (r : BoundRow) (vs : List BoundExpr) (start old new : Draft) (columns grown : List ScalarRow) (ss : Scalars) →
-    i < length rs → r ≡ get_or rs i r → vs ≡ r.values → Numbering k w rs i start old columns →
-    EmitsAll old new ss (emit_all (exprs_of k vs) (width_in k) nowhere_env (drafted old).width) →
-    all_arms_of grown ≡ with_row i (all_arms_of columns) ss → Numbering k w rs (i + 1) start new grown
-numbering_bound k w rs i r vs start old new columns grown ss h is p b d g =
-    numbering_next k w rs i r start old new columns grown ss h is b
-    (subst (λ (xs : List BoundExpr). EmitsAll old new ss (emit_all (exprs_of k xs) (width_in k) nowhere_env (drafted old).width)) p d) g
+-- rows of which there is not one, over their numbers
+pub numbered_there : (k : Catalog) (e within : Env) (rs : List BoundRow) (end : PlanTree) → within ≡ lifted e → ¬ (length rs ≡ 1) →
+    (rs ≡ [] → ⊥) → all_plain (emit_rows (rows_of k rs) (width_in k) within 0) ≡ false →
+    end ≡ several (rows_width (rows_of k rs)) (emit_rows (rows_of k rs) (width_in k) within 1) → end ≡ plan (Values (rows_of k rs)) (width_in k) e
+numbered_there k e within rs end env one some p made =
+    made ∙ several_there (emit_rows (rows_of k rs) (width_in k) within 0) (length rs) (rows-length k within rs) one p (rows_width (rows_of k rs)) (emit_rows (rows_of k rs) (width_in k) within 1)
+    ∙ ap (λ q. plan_by k rs q) env
+
+-- none
+pub no_rows : (k : Catalog) (e within : Env) (rs : List BoundRow) (end : PlanTree) → within ≡ lifted e → rs ≡ [] →
+    end ≡ several (rows_width (rows_of k rs)) (emit_rows (rows_of k rs) (width_in k) within 1) → end ≡ plan (Values (rows_of k rs)) (width_in k) e
+no_rows k e within rs end env none made =
+    made ∙ none_there k within rs none (rows_width (rows_of k rs)) (emit_rows (rows_of k rs) (width_in k) within 1) ∙ ap (λ q. plan_by k rs q) env
+
+-- the lists alone
+pub plain_there : (k : Catalog) (e within : Env) (rs : List BoundRow) (lists : List Scalars) → within ≡ lifted e → ¬ (length rs ≡ 1) → ¬ (length rs ≡ 0) →
+    all_plain (emit_rows (rows_of k rs) (width_in k) within 0) ≡ true → lists ≡ all_scalars_of (emit_rows (rows_of k rs) (width_in k) within 0) →
+    values lists ≡ plan (Values (rows_of k rs)) (width_in k) e
+plain_there k e within rs lists env one none p is =
+    values_there (emit_rows (rows_of k rs) (width_in k) within 0) (length rs) lists (rows-length k within rs) one none p is (rows_width (rows_of k rs)) (emit_rows (rows_of k rs) (width_in k) within 1)
+    ∙ ap (λ q. plan_by k rs q) env

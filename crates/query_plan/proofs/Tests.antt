@@ -1,149 +1,186 @@
--- The conjuncts of a query that no query stands around.
-use Rattle.std.proofs.Common.{ℕ, ◌≡◌, zero, suc, ◌<◌, ◌+◌, ◌∷◌, [], map, slice_index_or, arith, List, Option, Some, None, Bool, true, false, if◌then◌else◌, length, drop, get_or, refl, sym, ap, ◌∙◌, subst}
-use Rattle.sql_values.specs.declared.value.Value.TheVariants.{Null}
+-- The conjuncts of a query, and those of them that wait.
+use Rattle.std.proofs.Common.{ℕ, ◌≡◌, zero, suc, ◌<◌, ◌≤◌, ◌+◌, ◌∷◌, [], ◌++◌, map, reverse, slice_index_or, arith, List, Option, Some, None, true, false, length, drop, get_or, refl, sym, ap, ◌∙◌, subst}
+use Rattle.std.proofs.lemmas.List.{drop_all}
 use Rattle.sql_values.specs.declared.operators.Comparison.{Comparison}
-use Rattle.sql_values.specs.declared.operators.Comparison.TheVariants.{Equals, NotEquals, LessThan, LessThanOrEquals, GreaterThan, GreaterThanOrEquals}
+use Rattle.sql_values.specs.declared.operators.Comparison.TheVariants.{Equals}
 use Rattle.bound_trees.specs.declared.expr.BoundExpr.{BoundExpr}
 use Rattle.bound_trees.specs.declared.expr.BoundOperation.TheVariants.{Comparing as BoundComparing}
 use Rattle.catalog_store.specs.Catalog.{Catalog}
 use Rattle.catalog_store.specs.View.{tree_of, exprs_of, operated}
-use Rattle.rel_algebra.specs.Tree.{Comparing, Expr, Exprs, NoExpr, MoreExprs, Operate, Column, Variable}
-use Rattle.rel_algebra.specs.Plan.{strict, Scalar, constant, word, more, none, filter}
-use Rattle.rel_algebra.specs.Emit.{nowhere, Key, Emitted, Waiting, none_waits, entered, top, read, columns_within, turned, key_of, key_step, test_step, emit, emit_tests, filters, filters_width, width}
+use Rattle.catalog_store.specs.Widths.{width_in}
+use Rattle.rel_algebra.specs.declared.scalar.Scalar.{Scalar as ScalarCode}
+use Rattle.rel_algebra.specs.Tree.{Comparing, Expr, NoExpr, MoreExprs, Operate, Column, Variable, Literal, Chain, And, Or, Case, CaseOf, Coalesce, In, Exists, Single, Call, CallSelf}
+use Rattle.rel_algebra.specs.Plan.{Scalar, PlanTree, filter, on_each}
+use Rattle.rel_algebra.specs.PlanView.{scalar_of}
+use Rattle.rel_algebra.specs.Emit.{Env, Key, Emitted, Waiting, none_waits, all_waiting, turned, key_of, key_step, test_step, emit, emit_tests, filters, filters_width, width}
 use Rattle.expr_plan.specs.declared.draft.Draft.{Draft}
 use Rattle.expr_plan.specs.Drafts.{drafted}
 use Rattle.expr_plan.specs.Emission.{Emits}
-use Rattle.expr_plan.specs.Scopes.{is_zero}
-use Rattle.query_plan.specs.Conjuncts.{inner_place, is_outer, own_place, is_equality, key_place, test_by, test_of, turned_at}
-use Rattle.catalog_store.specs.Widths.{width_in}
-use Rattle.expr_plan.proofs.Laws.{rest}
+use Rattle.expr_plan.specs.Scopes.{place_of}
+use Rattle.expr_plan.proofs.Laws.{rest, turned_last}
+use Rattle.query_plan.specs.Conjuncts.{inner_place, key_with, other_key, key_between, is_equality, held, plain_of, waiting_of}
+use Rattle.query_plan.specs.declared.keys.Key.{Key as KeyCode}
+use Rattle.query_plan.specs.declared.keys.Waiting.{Waiting as WaitingCode}
 
-turned_alone : (x : Expr) (columns : ℕ) (a : Emitted) → test_by (key_of (Operate (Comparing Equals) (MoreExprs x NoExpr)) (entered (top 0) columns)) a ≡ a
-turned_alone (Column zero i) columns a = refl
-turned_alone (Column (suc d) i) columns a = refl
-turned_alone (Variable j) columns a = refl
-turned_alone _ columns a = refl
+-- ---- which conjuncts are keys
 
-turned_sides : (x y : Expr) (columns : ℕ) (a : Emitted) →
-    test_by (key_of (Operate (Comparing Equals) (MoreExprs x (MoreExprs y NoExpr))) (entered (top 0) columns)) a ≡ turned_at columns (own_place x y) a
-turned_sides (Column zero i) (Column (suc d) j) columns a = refl
-turned_sides (Column (suc d) j) (Column zero i) columns a = refl
-turned_sides (Column zero i) (Variable j) columns a = refl
-turned_sides (Variable j) (Column zero i) columns a = refl
-turned_sides _ _ columns a = refl
+-- no key has a side that is neither a column nor a parameter
+no_sides : (x : Expr) (e : Env) → ((i : ℕ) → key_with i x e ≡ None) → (q : Option ℕ) → other_key q x e ≡ None
+no_sides x e h None = refl
+no_sides x e h (Some i) = h i
 
-turned_many : (x y z : Expr) (es : Exprs) (columns : ℕ) (a : Emitted) →
-    test_by (key_of (Operate (Comparing Equals) (MoreExprs x (MoreExprs y (MoreExprs z es)))) (entered (top 0) columns)) a ≡ a
-turned_many (Column zero i) (Column (suc d) j) z es columns a = refl
-turned_many (Column (suc d) j) (Column zero i) z es columns a = refl
-turned_many (Column zero i) (Variable j) z es columns a = refl
-turned_many (Variable j) (Column zero i) z es columns a = refl
-turned_many _ _ z es columns a = refl
+sides : (x y : Expr) (e : Env) → key_between (inner_place x) x y e ≡ key_of (Operate (Comparing Equals) (MoreExprs x (MoreExprs y NoExpr))) e
+sides (Column zero i) (Column zero j) e = refl
+sides (Column zero i) (Column (suc d) j) e = refl
+sides (Column (suc d) j) (Column zero i) e = refl
+sides (Column (suc c) i) (Column (suc d) j) e = refl
+sides (Column zero i) (Variable j) e = refl
+sides (Column (suc d) i) (Variable j) e = refl
+sides (Variable j) (Column zero i) e = refl
+sides (Variable j) (Column (suc d) i) e = refl
+sides (Variable i) (Variable j) e = refl
+sides (Column zero i) _ e = refl
+sides (Column (suc d) i) _ e = refl
+sides (Variable i) _ e = refl
+sides (Literal v) y e = no_sides (Literal v) e (λ i. refl) (inner_place y)
+sides (Chain x links) y e = no_sides (Chain x links) e (λ i. refl) (inner_place y)
+sides (Operate operation es) y e = no_sides (Operate operation es) e (λ i. refl) (inner_place y)
+sides (And es) y e = no_sides (And es) e (λ i. refl) (inner_place y)
+sides (Or es) y e = no_sides (Or es) e (λ i. refl) (inner_place y)
+sides (Case es) y e = no_sides (Case es) e (λ i. refl) (inner_place y)
+sides (CaseOf x test result arms) y e = no_sides (CaseOf x test result arms) e (λ i. refl) (inner_place y)
+sides (Coalesce es) y e = no_sides (Coalesce es) e (λ i. refl) (inner_place y)
+sides (In x query) y e = no_sides (In x query) e (λ i. refl) (inner_place y)
+sides (Exists query) y e = no_sides (Exists query) e (λ i. refl) (inner_place y)
+sides (Single query) y e = no_sides (Single query) e (λ i. refl) (inner_place y)
+sides (Call name routine es) y e = no_sides (Call name routine es) e (λ i. refl) (inner_place y)
+sides (CallSelf types es) y e = no_sides (CallSelf types es) e (λ i. refl) (inner_place y)
 
-not_turned : (comparison : Comparison) (es : Exprs) (columns : ℕ) (a : Emitted) → is_equality comparison ≡ false →
-    a ≡ turned_at columns (key_place (Operate (Comparing comparison) es)) a
-not_turned comparison NoExpr columns a h = refl
-not_turned comparison (MoreExprs x NoExpr) columns a h = refl
-not_turned comparison (MoreExprs x (MoreExprs y NoExpr)) columns a h = ap (λ b. turned_at columns (if b then own_place x y else None) a) (sym h)
-not_turned comparison (MoreExprs x (MoreExprs y (MoreExprs z es))) columns a h = refl
+-- an equality of two sides
+pub key_of_equality : (k : Catalog) (comparison : Comparison) (es : List BoundExpr) (x y : BoundExpr) (e : Env) → is_equality comparison ≡ true → length es ≡ 2 → x ≡ slice_index_or es 0 x →
+    y ≡ slice_index_or es 1 y → key_between (inner_place (tree_of k x)) (tree_of k x) (tree_of k y) e ≡ key_of (operated (BoundComparing comparison) (map (tree_of k) es)) e
+key_of_equality k Equals [] x y e equal two first second = absurd (omega (arith, two))
+key_of_equality k Equals (a ∷ []) x y e equal two first second = absurd (omega (arith, two))
+key_of_equality k Equals (a ∷ b ∷ []) x y e equal two first second =
+    (λ j. key_between (inner_place (tree_of k (first j))) (tree_of k (first j)) (tree_of k (second j)) e) ∙ sides (tree_of k a) (tree_of k b) e
+key_of_equality k Equals (a ∷ b ∷ c ∷ es) x y e equal two first second = absurd (omega (arith, two))
+key_of_equality k _ es x y e equal two first second = absurd (let never = equal in cc)
 
--- which place each conjunct is turned at
-pub turned_there : (x : Expr) (columns : ℕ) (a : Emitted) → test_by (key_of x (entered (top 0) columns)) a ≡ turned_at columns (key_place x) a
-turned_there (Operate (Comparing Equals) NoExpr) columns a = refl
-turned_there (Operate (Comparing Equals) (MoreExprs x NoExpr)) columns a = turned_alone x columns a
-turned_there (Operate (Comparing Equals) (MoreExprs x (MoreExprs y NoExpr))) columns a = turned_sides x y columns a
-turned_there (Operate (Comparing Equals) (MoreExprs x (MoreExprs y (MoreExprs z es)))) columns a = turned_many x y z es columns a
-turned_there (Operate (Comparing NotEquals) es) columns a = not_turned NotEquals es columns a refl
-turned_there (Operate (Comparing LessThan) es) columns a = not_turned LessThan es columns a refl
-turned_there (Operate (Comparing LessThanOrEquals) es) columns a = not_turned LessThanOrEquals es columns a refl
-turned_there (Operate (Comparing GreaterThan) es) columns a = not_turned GreaterThan es columns a refl
-turned_there (Operate (Comparing GreaterThanOrEquals) es) columns a = not_turned GreaterThanOrEquals es columns a refl
-turned_there _ columns a = refl
+pub param_there : (own place : ℕ) (e : Env) (key : Key) → key.own ≡ e.columns 0 own → key.other ≡ e.params place → key.of_column ≡ false → Some key ≡ key_with own (Variable place) e
+param_there own place e key a b c = λ j. Some (record { own = a j; other = b j; of_column = c j })
 
--- a key's name is read nowhere
-abbrev OtherNowhere : Option Key → Type 0
-OtherNowhere None = Unit {0}
-OtherNowhere (Some key) = key.other ≡ nowhere
+-- ---- Filters
 
-others_nowhere : (x : Expr) (columns : ℕ) → OtherNowhere (key_of x (entered (top 0) columns))
-others_nowhere (Operate (Comparing Equals) (MoreExprs (Column zero i) (MoreExprs (Column (suc d) j) NoExpr))) columns = refl
-others_nowhere (Operate (Comparing Equals) (MoreExprs (Column (suc d) j) (MoreExprs (Column zero i) NoExpr))) columns = refl
-others_nowhere (Operate (Comparing Equals) (MoreExprs (Column zero i) (MoreExprs (Variable j) NoExpr))) columns = refl
-others_nowhere (Operate (Comparing Equals) (MoreExprs (Variable j) (MoreExprs (Column zero i) NoExpr))) columns = refl
-others_nowhere _ columns = tt
+filters-after : (a b : List Emitted) (t : PlanTree) → filters (a ++ b) t ≡ filters b (filters a t)
+filters-after [] b t = refl
+filters-after (x ∷ a) b t = filters-after a b (filter x.scalar (on_each x.nodes t))
 
-nothing_waits : (of_column : Bool) (t : Emitted) (go : Waiting → ℕ → List Emitted) (n : ℕ) → key_step of_column nowhere t go none_waits n ≡ t ∷ go none_waits n
-nothing_waits true t go n = refl
-nothing_waits false t go n = refl
+width-after : (a b : List Emitted) (n : ℕ) → filters_width (a ++ b) n ≡ filters_width b (filters_width a n)
+width-after [] b n = refl
+width-after (x ∷ a) b n = width-after a b (width x.nodes n)
 
-in_turn : (o : Option Key) (a : Emitted) (go : Waiting → ℕ → List Emitted) (n : ℕ) → OtherNowhere o →
-    test_step o a go none_waits n ≡ test_by o a ∷ go none_waits (width (test_by o a).nodes n)
-in_turn None a go n h = refl
-in_turn (Some key) a go n h =
-    ap (λ p. key_step key.of_column p (turned key.own key.other) go none_waits n) h ∙ nothing_waits key.of_column (turned key.own key.other) go n
+plain-wide : (ss : List ScalarCode) (n : ℕ) → filters_width (map plain_of ss) n ≡ n
+plain-wide [] n = refl
+plain-wide (s ∷ ss) n = plain-wide ss n
 
--- so no conjunct waits
-pub tests_first : (x : Expr) (es : Exprs) (S : List ℕ → ℕ) (columns n : ℕ) →
-    emit_tests (MoreExprs x es) S (entered (top 0) columns) none_waits n
-    ≡ test_of x S (entered (top 0) columns) n ∷ emit_tests es S (entered (top 0) columns) none_waits (width (test_of x S (entered (top 0) columns) n).nodes n)
-tests_first x es S columns n =
-    let e = entered (top 0) columns in in_turn (key_of x e) (emit x S e n) (emit_tests es S e) n (others_nowhere x columns)
+waiting-wide : (w : WaitingCode) (n : ℕ) → filters_width (all_waiting (waiting_of w)) n ≡ n
+waiting-wide w n = width-after (map plain_of w.parameters) (map plain_of w.columns) n ∙ plain-wide w.columns (filters_width (map plain_of w.parameters) n) ∙ plain-wide w.parameters n
+
+-- all that wait
+pub both_filtered : (w : WaitingCode) (old mid new : Draft) → (drafted mid).tree ≡ filters (map plain_of w.parameters) (drafted old).tree →
+    (drafted new).tree ≡ filters (map plain_of w.columns) (drafted mid).tree → (drafted new).tree ≡ filters (all_waiting (waiting_of w)) (drafted old).tree
+both_filtered w old mid new a b = b ∙ ap (filters (map plain_of w.columns)) a ∙ sym (filters-after (map plain_of w.parameters) (map plain_of w.columns) (drafted old).tree)
+
+-- one more of those that are left
+pub each_next : (left others : List ScalarCode) (x : ScalarCode) (old new : Draft) (whole : PlanTree) → left ≡ others ++ x ∷ [] → (drafted new).tree ≡ filter (scalar_of x) (drafted old).tree →
+    filters (map plain_of (reverse left)) (drafted old).tree ≡ whole → filters (map plain_of (reverse others)) (drafted new).tree ≡ whole
+each_next left others x old new whole h tree b =
+    ap (filters (map plain_of (reverse others))) tree
+    ∙ ap (λ (xs : List ScalarCode). filters (map plain_of xs) (drafted old).tree) (sym (turned_last others x) ∙ ap reverse (sym h)) ∙ b
+
+pub each_done : (left : List ScalarCode) (now : Draft) (whole : PlanTree) → left ≡ [] → filters (map plain_of (reverse left)) (drafted now).tree ≡ whole → (drafted now).tree ≡ whole
+each_done left now whole h b = ap (λ (xs : List ScalarCode). filters (map plain_of (reverse xs)) (drafted now).tree) (sym h) ∙ b
 
 -- ---- the loop
 
-pub record Filtering (k : Catalog) (columns : ℕ) (es : List BoundExpr) (i : ℕ) (start now : Draft) : Type 0 where
-  pub tree : filters (emit_tests (exprs_of k (drop i es)) (width_in k) (entered (top 0) columns) none_waits (drafted now).width) (drafted now).tree
-      ≡ filters (emit_tests (exprs_of k es) (width_in k) (entered (top 0) columns) none_waits (drafted start).width) (drafted start).tree
-  pub width : filters_width (emit_tests (exprs_of k (drop i es)) (width_in k) (entered (top 0) columns) none_waits (drafted now).width) (drafted now).width
-      ≡ filters_width (emit_tests (exprs_of k es) (width_in k) (entered (top 0) columns) none_waits (drafted start).width) (drafted start).width
+pub record Filtering (k : Catalog) (e : Env) (es : List BoundExpr) (i : ℕ) (start now : Draft) (w : WaitingCode) : Type 0 where
+  pub tree : filters (emit_tests (exprs_of k (drop i es)) (width_in k) e (waiting_of w) (drafted now).width) (drafted now).tree
+      ≡ filters (emit_tests (exprs_of k es) (width_in k) e none_waits (drafted start).width) (drafted start).tree
+  pub width : filters_width (emit_tests (exprs_of k (drop i es)) (width_in k) e (waiting_of w) (drafted now).width) (drafted now).width
+      ≡ filters_width (emit_tests (exprs_of k es) (width_in k) e none_waits (drafted start).width) (drafted start).width
 
-pub filtering_next : (k : Catalog) (columns : ℕ) (es : List BoundExpr) (i : ℕ) (x : BoundExpr) (start old between new : Draft) (s : Scalar) → i < length es → x ≡ get_or es i x →
-    Filtering k columns es i start old → Emits old between s (test_of (tree_of k x) (width_in k) (entered (top 0) columns) (drafted old).width) →
-    (drafted new).tree ≡ filter s (drafted between).tree → (drafted new).width ≡ (drafted between).width → Filtering k columns es (i + 1) start new
-filtering_next k columns es i x start old between new s h is f d tree same =
+pub filtering_first : (k : Catalog) (e : Env) (es : List BoundExpr) (start : Draft) (w : WaitingCode) → waiting_of w ≡ none_waits → Filtering k e es 0 start start w
+filtering_first k e es start w h = record {
+  tree = ap (λ p. filters (emit_tests (exprs_of k es) (width_in k) e p (drafted start).width) (drafted start).tree) h;
+  width = ap (λ p. filters_width (emit_tests (exprs_of k es) (width_in k) e p (drafted start).width) (drafted start).width) h;
+}
+
+-- what is left begins with the conjunct at its place
+tests_at : (k : Catalog) (e : Env) (es : List BoundExpr) (i : ℕ) (x : BoundExpr) (p : Waiting) (n : ℕ) → i < length es → x ≡ get_or es i x →
+    emit_tests (exprs_of k (drop i es)) (width_in k) e p n
+    ≡ test_step (key_of (tree_of k x) e) (emit (tree_of k x) (width_in k) e n) (emit_tests (exprs_of k (drop (i + 1) es)) (width_in k) e) p n
+tests_at k e es i x p n h is = ap (λ (xs : List BoundExpr). emit_tests (exprs_of k xs) (width_in k) e p n) (rest es i x h is)
+
+-- a key
+pub filtering_key : (k : Catalog) (e : Env) (es : List BoundExpr) (i : ℕ) (x : BoundExpr) (o : Option KeyCode) (key : KeyCode) (start old new : Draft) (v w : WaitingCode) → i < length es → x ≡ get_or es i x →
+    o ≡ Some key → held o ≡ key_of (tree_of k x) e →
+    ((go : Waiting → ℕ → List Emitted) → filters (go (waiting_of w) (drafted new).width) (drafted new).tree
+    ≡ filters (key_step key.of_column (place_of key.other) (turned (place_of key.own) (place_of key.other)) go (waiting_of v) (drafted old).width) (drafted old).tree) →
+    ((go : Waiting → ℕ → List Emitted) → filters_width (go (waiting_of w) (drafted new).width) (drafted new).width
+    ≡ filters_width (key_step key.of_column (place_of key.other) (turned (place_of key.own) (place_of key.other)) go (waiting_of v) (drafted old).width) (drafted old).width) →
+    Filtering k e es i start old v → Filtering k e es (i + 1) start new w
+filtering_key k e es i x o key start old new v w h is some there tree wide f =
     let S = width_in k in
-    let e = entered (top 0) columns in
     let n = (drafted old).width in
-    let a = test_of (tree_of k x) S e n in
-    let more_tests = exprs_of k (drop (i + 1) es) in
-    let go : ℕ → List Emitted = emit_tests more_tests S e none_waits in
-    let wide : (drafted new).width ≡ width a.nodes n = same ∙ d.columns in
-    let at : emit_tests (exprs_of k (drop i es)) S e none_waits n ≡ a ∷ go (width a.nodes n) =
-    ap (λ (xs : List BoundExpr). emit_tests (exprs_of k xs) S e none_waits n) (rest es i x h is) ∙ tests_first (tree_of k x) more_tests S columns n in
+    let go : Waiting → ℕ → List Emitted = emit_tests (exprs_of k (drop (i + 1) es)) S e in
+    let step : emit_tests (exprs_of k (drop i es)) S e (waiting_of v) n
+    ≡ key_step key.of_column (place_of key.other) (turned (place_of key.own) (place_of key.other)) go (waiting_of v) n =
+    tests_at k e es i x (waiting_of v) n h is ∙ ap (λ (q : Option Key). test_step q (emit (tree_of k x) S e n) go (waiting_of v) n) (sym there ∙ ap held some) in
     record {
-      tree =
-          (λ j. filters (go (wide j)) ((tree ∙ (λ q. filter (d.scalar q) (d.tree q))) j))
-          ∙ ap (λ ts. filters ts (drafted old).tree) (sym at) ∙ f.tree;
-      width = (λ j. filters_width (go (wide j)) (wide j)) ∙ ap (λ ts. filters_width ts n) (sym at) ∙ f.width;
+      tree = tree go ∙ ap (λ ts. filters ts (drafted old).tree) (sym step) ∙ f.tree;
+      width = wide go ∙ ap (λ ts. filters_width ts n) (sym step) ∙ f.width;
     }
 
--- ---- what the functions on single conjuncts answer
+-- another conjunct: all that wait go before it
+pub filtering_other : (k : Catalog) (e : Env) (es : List BoundExpr) (i : ℕ) (x : BoundExpr) (o : Option KeyCode) (start old flushed between new : Draft) (v w : WaitingCode) (s : Scalar) → i < length es →
+    x ≡ get_or es i x → o ≡ None → held o ≡ key_of (tree_of k x) e → (drafted flushed).tree ≡ filters (all_waiting (waiting_of v)) (drafted old).tree →
+    (drafted flushed).width ≡ (drafted old).width → waiting_of w ≡ none_waits → Emits flushed between s (emit (tree_of k x) (width_in k) e (drafted flushed).width) →
+    (drafted new).tree ≡ filter s (drafted between).tree → (drafted new).width ≡ (drafted between).width → Filtering k e es i start old v → Filtering k e es (i + 1) start new w
+filtering_other k e es i x o start old flushed between new v w s h is no_such there tree wide fresh d made same f =
+    let S = width_in k in
+    let n = (drafted old).width in
+    let a = emit (tree_of k x) S e n in
+    let go : Waiting → ℕ → List Emitted = emit_tests (exprs_of k (drop (i + 1) es)) S e in
+    let step : emit_tests (exprs_of k (drop i es)) S e (waiting_of v) n ≡ all_waiting (waiting_of v) ++ a ∷ go none_waits (width a.nodes n) =
+    tests_at k e es i x (waiting_of v) n h is ∙ ap (λ (q : Option Key). test_step q a go (waiting_of v) n) (sym there ∙ ap held no_such) in
+    let emitted : emit (tree_of k x) S e (drafted flushed).width ≡ a = ap (emit (tree_of k x) S e) wide in
+    let wide_now : (drafted new).width ≡ width a.nodes n = same ∙ d.columns ∙ (λ j. width (emitted j).nodes (wide j)) in
+    let tree_now : (drafted new).tree ≡ filter a.scalar (on_each a.nodes (filters (all_waiting (waiting_of v)) (drafted old).tree)) =
+    made ∙ (λ j. filter ((d.scalar ∙ ap (λ y. y.scalar) emitted) j) ((d.tree ∙ (λ q. on_each (emitted q).nodes (tree q))) j)) in
+    record {
+      tree =
+          (λ j. filters (go (fresh j) (wide_now j)) (tree_now j)) ∙ sym (filters-after (all_waiting (waiting_of v)) (a ∷ go none_waits (width a.nodes n)) (drafted old).tree)
+          ∙ ap (λ ts. filters ts (drafted old).tree) (sym step) ∙ f.tree;
+      width =
+          (λ j. filters_width (go (fresh j) (wide_now j)) (wide_now j))
+          ∙ ap (λ m. filters_width (a ∷ go none_waits (width a.nodes n)) m) (sym (waiting-wide v n))
+          ∙ sym (width-after (all_waiting (waiting_of v)) (a ∷ go none_waits (width a.nodes n)) n)
+          ∙ ap (λ ts. filters_width ts n) (sym step) ∙ f.width;
+    }
 
-pub own_column : (level i : ℕ) (y : Expr) (b o : Bool) → b ≡ is_zero level → o ≡ is_outer y →
-    (if b then (if o then Some i else None) else inner_place y) ≡ own_place (Column level i) y
-own_column level i y b o h g = λ j. if h j then (if g j then Some i else None) else inner_place y
+-- the same draft and the same tests
+pub filtering_same : (k : Catalog) (e : Env) (es : List BoundExpr) (i : ℕ) (start now new : Draft) (v w : WaitingCode) → new ≡ now → w ≡ v → Filtering k e es i start now v → Filtering k e es i start new w
+filtering_same k e es i start now new v w same there f = subst (λ (p : Draft × WaitingCode). Filtering k e es i start p.0 p.1) (λ j. (sym same j, sym there j)) f
 
--- a comparison of two sides
-pub own_of_equality : (k : Catalog) (comparison : Comparison) (es : List BoundExpr) (x y : BoundExpr) → is_equality comparison ≡ true → length es ≡ 2 → x ≡ slice_index_or es 0 x →
-    y ≡ slice_index_or es 1 y → own_place (tree_of k x) (tree_of k y) ≡ key_place (operated (BoundComparing comparison) (map (tree_of k) es))
-own_of_equality k comparison [] x y equal two first second = absurd (omega (arith, two))
-own_of_equality k comparison (a ∷ []) x y equal two first second = absurd (omega (arith, two))
-own_of_equality k comparison (a ∷ b ∷ []) x y equal two first second =
-    (λ j. own_place (tree_of k (first j)) (tree_of k (second j))) ∙ ap (λ t. if t then own_place (tree_of k a) (tree_of k b) else None) (sym equal)
-own_of_equality k comparison (a ∷ b ∷ c ∷ es) x y equal two first second = absurd (omega (arith, two))
+-- no conjunct is left
+pub filtering_done : (k : Catalog) (e : Env) (es : List BoundExpr) (i : ℕ) (start now new : Draft) (w : WaitingCode) → length es ≤ i →
+    (drafted new).tree ≡ filters (all_waiting (waiting_of w)) (drafted now).tree → Filtering k e es i start now w →
+    (drafted new).tree ≡ filters (emit_tests (exprs_of k es) (width_in k) e none_waits (drafted start).width) (drafted start).tree
+filtering_done k e es i start now new w h tree f =
+    tree ∙ ap (λ (xs : List BoundExpr). filters (emit_tests (exprs_of k xs) (width_in k) e (waiting_of w) (drafted now).width) (drafted now).tree) (sym (drop_all i es h)) ∙ f.tree
 
--- ---- what is emitted for a conjunct
-
-pub emits_turned : (x : Expr) (S : List ℕ → ℕ) (columns i : ℕ) (old : Draft) (s : Scalar) → Some i ≡ key_place x →
-    s ≡ word (strict (Comparing Equals)) (more (read (columns_within (top 0) columns 0 i)) (more (constant Null) none)) →
-    Emits old old s (test_of x S (entered (top 0) columns) (drafted old).width)
-emits_turned x S columns i old s h is =
-    let a = emit x S (entered (top 0) columns) (drafted old).width in
-    let same : turned_at columns (Some i) a ≡ test_of x S (entered (top 0) columns) (drafted old).width = ap (λ o. turned_at columns o a) h ∙ sym (turned_there x columns a) in
-    subst (λ t. Emits old old s t) same (record { tree = refl; columns = refl; scalar = is })
-
-pub emits_plain : (x : Expr) (S : List ℕ → ℕ) (columns : ℕ) (old new : Draft) (s : Scalar) → None ≡ key_place x →
-    Emits old new s (emit x S (entered (top 0) columns) (drafted old).width) → Emits old new s (test_of x S (entered (top 0) columns) (drafted old).width)
-emits_plain x S columns old new s h d =
-    let a = emit x S (entered (top 0) columns) (drafted old).width in
-    subst (λ t. Emits old new s t) (ap (λ o. turned_at columns o a) h ∙ sym (turned_there x columns a)) d
+pub filtering_wide : (k : Catalog) (e : Env) (es : List BoundExpr) (i : ℕ) (start now new : Draft) (w : WaitingCode) → length es ≤ i → (drafted new).width ≡ (drafted now).width →
+    Filtering k e es i start now w → (drafted new).width ≡ filters_width (emit_tests (exprs_of k es) (width_in k) e none_waits (drafted start).width) (drafted start).width
+filtering_wide k e es i start now new w h same f =
+    same ∙ sym (waiting-wide w (drafted now).width)
+    ∙ ap (λ (xs : List BoundExpr). filters_width (emit_tests (exprs_of k xs) (width_in k) e (waiting_of w) (drafted now).width) (drafted now).width) (sym (drop_all i es h)) ∙ f.width

@@ -1,45 +1,50 @@
--- Which conjuncts of a query that no query stands around are read as a comparison of a column with NULL: those of a column with a name from
--- outside, of which there is none.
-use Rattle.std.specs.Prelude.{ℕ, List, Bool, true, false, if◌then◌else◌, Option, Some, None}
+-- Which conjuncts compare a column with a name from outside, and those that wait. ISO/IEC 9075-2, 7.12 (where clause) and 8.2 (comparison
+-- predicate).
+use Rattle.std.specs.Prelude.{ℕ, zero, suc, List, map, Bool, true, false, if◌then◌else◌, Option, Some, None}
 use Rattle.sql_values.specs.declared.operators.Comparison.{Comparison}
 use Rattle.sql_values.specs.declared.operators.Comparison.TheVariants.{Equals}
+use Rattle.rel_algebra.specs.declared.scalar.Scalar.{Scalar as ScalarCode}
 use Rattle.rel_algebra.specs.Tree.{Expr, Column, Variable, Comparing, Operate, NoExpr, MoreExprs}
-use Rattle.rel_algebra.specs.Emit.{Env, Key, Emitted, nowhere, key_of, turned, emit, columns_within, top}
-use Rattle.expr_plan.specs.Scopes.{is_zero}
+use Rattle.rel_algebra.specs.PlanView.{scalar_of}
+use Rattle.rel_algebra.specs.Emit.{Env, Key, Emitted, Waiting, plain, column_key, param_key}
+use Rattle.expr_plan.specs.Scopes.{is_zero, place_of}
+use Rattle.query_plan.specs.declared.keys.Key.{Key as KeyCode}
+use Rattle.query_plan.specs.declared.keys.Waiting.{Waiting as WaitingCode}
 
 -- the place of a column of the query's own row
 abbrev pub inner_place : Expr → Option ℕ
 inner_place (Column level i) = if is_zero level then Some i else None
 inner_place _ = None
 
--- a name from outside
-abbrev pub is_outer : Expr → Bool
-is_outer (Column level i) = if is_zero level then false else true
-is_outer (Variable i) = true
-is_outer _ = false
+-- an own column with the other side, where this is a name from outside
+abbrev pub key_with : ℕ → Expr → Env → Option Key
+key_with i (Column zero j) e = None
+key_with i (Column (suc d) j) e = Some (column_key e i d j)
+key_with i (Variable j) e = Some (param_key e i j)
+key_with i _ e = None
 
--- the place of the column that is compared with a name from outside
-abbrev pub own_place : Expr → Expr → Option ℕ
-own_place (Column level i) y = if is_zero level then (if is_outer y then Some i else None) else inner_place y
-own_place (Variable i) y = inner_place y
-own_place _ y = None
+abbrev pub other_key : Option ℕ → Expr → Env → Option Key
+other_key None x e = None
+other_key (Some i) x e = key_with i x e
+
+abbrev pub key_between : Option ℕ → Expr → Expr → Env → Option Key
+key_between None x y e = other_key (inner_place y) x e
+key_between (Some i) x y e = key_with i y e
 
 abbrev pub is_equality : Comparison → Bool
 is_equality Equals = true
 is_equality _ = false
 
-abbrev pub key_place : Expr → Option ℕ
-key_place (Operate (Comparing comparison) (MoreExprs x (MoreExprs y NoExpr))) = if is_equality comparison then own_place x y else None
-key_place _ = None
+-- as they are held
+abbrev pub key_view : KeyCode → Key
+key_view k = record { own = place_of k.own; other = place_of k.other; of_column = k.of_column }
 
--- what a conjunct is read as
-abbrev pub test_by : Option Key → Emitted → Emitted
-test_by None a = a
-test_by (Some key) a = turned key.own key.other
+abbrev pub held : Option KeyCode → Option Key
+held None = None
+held (Some k) = Some (key_view k)
 
-abbrev pub test_of : Expr → (List ℕ → ℕ) → Env → ℕ → Emitted
-test_of x S e n = test_by (key_of x e) (emit x S e n)
+abbrev pub plain_of : ScalarCode → Emitted
+plain_of s = plain (scalar_of s)
 
-abbrev pub turned_at : ℕ → Option ℕ → Emitted → Emitted
-turned_at columns None a = a
-turned_at columns (Some i) a = turned (columns_within (top 0) columns 0 i) nowhere
+abbrev pub waiting_of : WaitingCode → Waiting
+waiting_of w = record { params = map plain_of w.parameters; columns = map plain_of w.columns }

@@ -4,12 +4,12 @@ use Rattle.std.specs.Prelude.{ℕ, List, length}
 use Rattle.rel_algebra.specs.Tree.{Aggregate, Exprs}
 use Rattle.rel_algebra.specs.Joins.{places, numbered}
 use Rattle.rel_algebra.specs.Plan.{PlanTree, filter, group}
-use Rattle.rel_algebra.specs.Emit.{top, entered, none_waits, emit_all, emit_tests, all_values, selected}
+use Rattle.rel_algebra.specs.Emit.{Env, entered, none_waits, emit_all, emit_tests, all_values, selected}
 
 -- of rows of n columns those for which each conjunct is true, and of each the list
-abbrev pub selected_rows : Exprs → Exprs → (List ℕ → ℕ) → ℕ → PlanTree → PlanTree
-selected_rows list conjuncts S n input =
-    let within = entered (top 0) n in selected (emit_tests conjuncts S within none_waits) (emit_all list S within) n input
+abbrev pub selected_rows : Exprs → Exprs → (List ℕ → ℕ) → Env → ℕ → PlanTree → PlanTree
+selected_rows list conjuncts S e n input =
+    let within = entered e n in selected (emit_tests conjuncts S within none_waits) (emit_all list S within) n input
 
 -- the groups by the first k columns, where all of their aggregates, which are of the columns behind these, are values
 abbrev pub grouped_rows : ℕ → List Aggregate → PlanTree → PlanTree

@@ -5,3 +5,5 @@ pub mod Choosing
 pub mod Plainness
 pub mod Grouping
 pub mod Examples
+pub mod Folding
+pub mod Cost

@@ -10,9 +10,10 @@ ghost use Rattle.catalog_store.specs.Kept.{IsPlan, IsKept};
 ghost use Rattle.catalog_store.specs.View.{tree_of};
 ghost use Rattle.catalog_store.specs.Widths.{width_in};
 
+use crate::emit::emit_expr;
 use bound_trees::BoundExpr;
 use catalog_store::{Catalog, FunctionPlan, Object, RoutineRecord};
-use expr_plan::{Draft, Scope, assigned, emit_expr};
+use expr_plan::{Draft, Scope, assigned};
 use rel_algebra::Leaf;
 use sql_values::{NoMemory, SqlType};
 use std::alloc::Global;
@@ -31,7 +32,8 @@ pub fn plan_function(
         (emit_body (Function false types returns (tree_of catalog.now returned.now)) (width_in catalog.now) (top parameters) 0)) }
 {
     let mut draft = Draft::over(alloc, Leaf::Unit, 0);
-    let value = emit_expr(returned, Scope::Arguments(parameters), &mut draft, catalog)?;
+    let scope = Scope::top(alloc, parameters);
+    let value = emit_expr(returned, &scope, &mut draft, catalog)?;
     let scalar = assigned(alloc, returns, value)?;
     let nodes = draft.into_nodes();
     Ok(FunctionPlan { nodes, scalar })

@@ -30,8 +30,8 @@ pub fn group(keys: usize, aggregates: &[FoldKind], draft: &mut Draft) -> Result<
     Ok(())
 }
 
-// Aggregates of the columns from one on.
-fn numbered(
+/// Aggregates of the columns from one on.
+pub fn numbered(
     alloc: Global,
     first: usize,
     aggregates: &[FoldKind],

@@ -3,12 +3,15 @@
 
 ghost use Rattle.query_plan.specs.Examples.{JoinsPlanned, GroupsPlanned};
 
+mod asking;
 mod chosen;
 mod conjuncts;
+mod emit;
 mod from;
 mod functions;
 mod groups;
 mod joins;
+mod keys;
 mod listing;
 mod plans;
 mod selects;

@@ -1,76 +1,70 @@
 //! Queries over the rows of FROM (ISO/IEC 9075-2, 7.16).
 
-ghost use Rattle.std.specs.Prelude.{◌≡◌, Some, IfOk};
-ghost use Rattle.rel_algebra.specs.Emit.{top, plan};
+ghost use Rattle.std.specs.Prelude.{◌≡◌, IfOk};
+ghost use Rattle.rel_algebra.specs.Emit.{plan};
 ghost use Rattle.rel_algebra.specs.PlanView.{tree_of};
-ghost use Rattle.rel_algebra.specs.Tree.{From};
-ghost use Rattle.catalog_store.specs.View.{exprs_of, selected as selected_by};
+ghost use Rattle.catalog_store.specs.View.{exprs_of, select_of};
 ghost use Rattle.catalog_store.specs.Widths.{width_in};
 ghost use Rattle.expr_plan.specs.Drafts.{drafted};
+ghost use Rattle.expr_plan.specs.Scopes.{env_of};
 ghost use Rattle.query_plan.specs.Grouping.{selected_rows};
-ghost use Rattle.query_plan.specs.Joining.{IsFrom};
 
 use crate::conjuncts::filter_by;
+use crate::emit::emit_list;
+use crate::from::draft_from;
 use crate::groups::group;
 use crate::listing::list;
-use bound_trees::{BoundExpr, BoundGrouping};
+use bound_trees::{BoundExpr, BoundSelect};
 use catalog_store::Catalog;
-use expr_plan::{Draft, Scope, emit_list};
+use expr_plan::{Draft, Scope};
 use rel_algebra::Plan;
 use sql_values::NoMemory;
+use std::alloc::Global;
 
-/// The plan of a list over the rows of FROM that the conjuncts of WHERE leave, or over the groups of
-/// these rows.
-pub fn plan_over(
-    rows: Draft,
-    items: &[BoundExpr],
-    conjuncts: &[BoundExpr],
-    grouping: &Option<BoundGrouping>,
+/// The plan of a SELECT: its list over the rows of FROM that the conjuncts of WHERE leave, or over
+/// the groups of these rows (7.13) that those of HAVING leave (7.14).
+#[cycle(query)]
+pub fn plan_select(
+    alloc: Global,
+    select: &BoundSelect,
+    scope: &Scope,
     catalog: &Catalog,
 ) -> Result<Plan, NoMemory>
-    ensures { IfOk result (λ p. (f : From) → IsFrom catalog.now rows f → tree_of p ≡ plan (selected_by catalog.now grouping.now (exprs_of catalog.now items.now) f (exprs_of catalog.now conjuncts.now)) (width_in catalog.now) (top 0)) }
+    ensures { IfOk result (λ p. tree_of p ≡ plan (select_of catalog.now select.now) (width_in catalog.now) (env_of scope.now)) }
 {
-    match grouping {
+    let rows = draft_from(alloc, select.from.as_slice(), scope, catalog)?;
+    let items = select.items.as_slice();
+    let conjuncts = select.conjuncts.as_slice();
+    match &select.grouping {
         Some(grouping) => {
-            let draft = grouped(rows, items, conjuncts, grouping, catalog)?;
+            let parts = grouping.parts.as_slice();
+            let mut groups = selected(rows, parts, conjuncts, scope, catalog)?;
+            group(grouping.keys, grouping.aggregates.as_slice(), &mut groups)?;
+            let draft = selected(groups, items, grouping.having.as_slice(), scope, catalog)?;
             Ok(draft.into_plan())
         }
         None => {
-            let draft = selected(rows, items, conjuncts, catalog)?;
+            let draft = selected(rows, items, conjuncts, scope, catalog)?;
             Ok(draft.into_plan())
         }
     }
 }
 
-// A Filter for each conjunct, and the list.
-fn selected(
+/// A Filter for each conjunct over the rows of a plan, and the list.
+#[cycle(query)]
+pub fn selected(
     rows: Draft,
     items: &[BoundExpr],
     conjuncts: &[BoundExpr],
+    scope: &Scope,
     catalog: &Catalog,
 ) -> Result<Draft, NoMemory>
-    ensures { IfOk result (λ d. (drafted d).tree ≡ selected_rows (exprs_of catalog.now items.now) (exprs_of catalog.now conjuncts.now) (width_in catalog.now) (drafted rows).width (drafted rows).tree) }
+    ensures { IfOk result (λ d. (drafted d).tree ≡ selected_rows (exprs_of catalog.now items.now) (exprs_of catalog.now conjuncts.now) (width_in catalog.now) (env_of scope.now) (drafted rows).width (drafted rows).tree) }
 {
     let mut draft = rows;
-    let columns = draft.columns();
-    filter_by(conjuncts, columns, &mut draft, catalog)?;
-    let scalars = emit_list(items, Scope::Row(columns), &mut draft, catalog)?;
+    let within = scope.entered(draft.allocator(), draft.columns())?;
+    filter_by(conjuncts, &within, &mut draft, catalog)?;
+    let scalars = emit_list(items, &within, &mut draft, catalog)?;
     list(scalars, &mut draft)?;
     Ok(draft)
-}
-
-// The parts of each row, their groups (7.13), and over these the conjuncts of HAVING (7.14) and the
-// list.
-fn grouped(
-    rows: Draft,
-    items: &[BoundExpr],
-    conjuncts: &[BoundExpr],
-    grouping: &BoundGrouping,
-    catalog: &Catalog,
-) -> Result<Draft, NoMemory>
-    ensures { IfOk result (λ d. (f : From) → IsFrom catalog.now rows f → (drafted d).tree ≡ plan (selected_by catalog.now (Some grouping.now) (exprs_of catalog.now items.now) f (exprs_of catalog.now conjuncts.now)) (width_in catalog.now) (top 0)) }
-{
-    let mut draft = selected(rows, grouping.parts.as_slice(), conjuncts, catalog)?;
-    group(grouping.keys, grouping.aggregates.as_slice(), &mut draft)?;
-    Ok(selected(draft, items, grouping.having.as_slice(), catalog)?)
 }

@@ -10,18 +10,20 @@ ghost use Rattle.catalog_store.specs.View.{nothing, query_of};
 ghost use Rattle.catalog_store.specs.Widths.{width_in};
 ghost use Rattle.expr_plan.specs.Drafts.{drafted};
 ghost use Rattle.query_plan.specs.Joining.{IsFrom};
+ghost use Rattle.rel_algebra.specs.Emit.{Env};
 
-use crate::values::{first_width, plan_values};
+use crate::values::first_width;
 use bound_trees::BoundQuery;
 use catalog_store::{Catalog, Object};
 use expr_plan::Draft;
 use rel_algebra::{Leaf, Plan};
 use sql_values::{Name, NoMemory};
+use sqlite_items::Items;
 use std::alloc::Global;
 
 /// The rows of the table of a name (ISO/IEC 9075-2, 7.6).
 pub fn draft_table(alloc: Global, name: &Name, catalog: &Catalog) -> Result<Draft, NoMemory>
-    ensures { IfOk result (λ d. IsFrom catalog.now d (PlainTable name.now)) }
+    ensures { IfOk result (λ d. (e : Env) → IsFrom catalog.now e d (PlainTable name.now)) }
 {
     let columns = table_width(name, catalog);
     Ok(Draft::over(alloc, Leaf::Scan(name.copied()?, columns), columns))
@@ -38,11 +40,13 @@ pub fn settled(alloc: Global, plan: Plan, columns: usize) -> Result<Draft, NoMem
 }
 
 /// No rows, of no columns.
-pub fn draft_nothing(alloc: Global, catalog: &Catalog) -> Result<Draft, NoMemory>
-    ensures { IfOk result (λ d. IsFrom catalog.now d nothing) }
+pub fn draft_nothing(alloc: Global) -> Result<Draft, NoMemory>
+    ensures { IfOk result (λ d. (known : PlainCatalog) (e : Env) → IsFrom known e d nothing) }
 {
-    let plan = plan_values(alloc, &[], catalog)?;
-    Ok(settled(alloc, plan, 0)?)
+    let mut draft = Draft::over(alloc, Leaf::Values(Items::new(alloc)), 1);
+    draft.keep(Items::new(alloc))?;
+    draft.settle()?;
+    Ok(draft)
 }
 
 /// The number of columns of a query's rows; of VALUES that of the first one.

@@ -1,65 +1,59 @@
--- No node of a plan is an Apply.
-use Rattle.std.proofs.Common.{◌≡◌, List, [], ◌∷◌, map, refl, ap, sym, ◌∙◌, subst, arith}
+-- How many Apply nodes each node adds to those of the plan below it.
+use Rattle.std.proofs.Common.{◌≡◌, ◌+◌, ℕ, List, [], ◌∷◌, refl, ap, sym, subst, arith}
+use Rattle.std.specs.List.{sum_by}
+use Rattle.std.proofs.lemmas.List.Sums.{sum_by-cons}
 use Rattle.rel_algebra.specs.Applies.{applies, applies_in}
-use Rattle.rel_algebra.specs.Plan.{PlanTree, Nodes}
-use Rattle.rel_algebra.specs.PlanView.{NodeTree, run, all_over, leaf_of, node_step, plan_step, node_of, tree_of}
+use Rattle.rel_algebra.specs.Plan.{PlanTree, Nodes, no_node, unit_row}
+use Rattle.rel_algebra.specs.PlanView.{NodeTree, leaf_of, node_step, plan_step, node_of, with_node, with_nodes, run_of, tree_of}
 use Rattle.rel_algebra.specs.declared.plan.Leaf.{Leaf}
 use Rattle.rel_algebra.specs.declared.plan.Leaf.TheVariants as leaf
-use Rattle.rel_algebra.specs.declared.plan.Node.{Node, roll-Node}
-use Rattle.rel_algebra.specs.declared.plan.Node.TheOpen.{Node-F, Plan-F}
-use Rattle.rel_algebra.specs.declared.plan.Node.TheFolds.{map-Node, map-Plan, fold-roll-Node, fold-roll-Plan, ind-Plan}
-use Rattle.rel_algebra.specs.declared.plan.Plan.{Plan, roll-Plan}
+use Rattle.rel_algebra.specs.declared.plan.Node.{Node, out-Node}
+use Rattle.rel_algebra.specs.declared.plan.Node.TheViews.{roll-out-Node}
+use Rattle.rel_algebra.specs.declared.plan.Node.TheOpen.{Node-F}
+use Rattle.rel_algebra.specs.declared.plan.Node.TheFolds.{fold-roll-Node, fold-roll-Plan}
+use Rattle.rel_algebra.specs.declared.plan.Plan.{Plan}
 
-leaf_applies_nothing : (l : Leaf) → applies (leaf_of l) ≡ 0
-leaf_applies_nothing leaf.Unit = refl
-leaf_applies_nothing (leaf.Scan name columns) = refl
-leaf_applies_nothing (leaf.Values rows) = refl
+-- what a node adds in a plan, and in a run
+abbrev pub over_count : Node → ℕ
+over_count n = applies (with_node n unit_row)
 
--- a node that has no Apply, in a plan or in a run
-record Quiet (n : NodeTree) : Type 0 where
-  over : (input : PlanTree) → applies (n.over input) ≡ applies input
-  below : (rest : Nodes) → applies_in (n.below rest) ≡ applies_in rest
+abbrev pub below_count : Node → ℕ
+below_count n = applies_in ((node_of n).below no_node)
 
-abbrev IsQuiet : Node → Type 0
-IsQuiet n = Quiet (node_of n)
+record Counts (n : NodeTree) : Type 0 where
+  over : (input : PlanTree) → applies (n.over input) ≡ applies (n.over unit_row) + applies input
+  below : (rest : Nodes) → applies_in (n.below rest) ≡ applies_in (n.below no_node) + applies_in rest
 
-abbrev AppliesNothing : Plan → Type 0
-AppliesNothing p = applies (tree_of p) ≡ 0
+counts_at : (y : Node-F NodeTree PlanTree) → Counts (node_step y)
+counts_at (Node-F.Extend ss) = record { over = λ input. omega arith; below = λ rest. omega arith }
+counts_at (Node-F.Apply s k inner) = record { over = λ input. omega arith; below = λ rest. omega arith }
+counts_at (Node-F.Filter s) = record { over = λ input. omega arith; below = λ rest. omega arith }
+counts_at (Node-F.Keep places) = record { over = λ input. omega arith; below = λ rest. omega arith }
+counts_at (Node-F.Cross right) = record { over = λ input. omega arith; below = λ rest. omega arith }
+counts_at (Node-F.LeftOuter nodes s n right) = record { over = λ input. omega arith; below = λ rest. omega arith }
+counts_at Node-F.Settle = record { over = λ input. omega arith; below = λ rest. omega arith }
+counts_at (Node-F.Group places aggregates) = record { over = λ input. omega arith; below = λ rest. omega arith }
+counts_at (Node-F.Sort keys) = record { over = λ input. omega arith; below = λ rest. omega arith }
 
-abbrev Shown : Type 0
-Shown = (n : Node) × IsQuiet n
+counts : (n : Node) → Counts (node_of n)
+counts n =
+    subst (λ m. Counts (node_of m)) (roll-out-Node n)
+    (subst Counts (sym (fold-roll-Node NodeTree PlanTree node_step plan_step (out-Node n))) (counts_at _))
 
-abbrev ShownPlan : Type 0
-ShownPlan = (p : Plan) × AppliesNothing p
+all_over_count : (ns : List Node) (input : PlanTree) → applies (with_nodes ns input) ≡ sum_by over_count ns + applies input
+all_over_count [] input = omega arith
+all_over_count (n ∷ ns) input = omega (arith, all_over_count ns (with_node n input), (counts n).over input, sum_by-cons over_count n ns)
 
-run_quiet : (ns : List Shown) → applies_in (run (map node_of (map (λ n. n.0) ns))) ≡ 0
-run_quiet [] = refl
-run_quiet (n ∷ ns) = n.1.below (run (map node_of (map (λ m. m.0) ns))) ∙ run_quiet ns
+pub run_count : (ns : List Node) → applies_in (run_of ns) ≡ sum_by below_count ns
+run_count [] = refl
+run_count (n ∷ ns) = omega (arith, run_count ns, (counts n).below (run_of ns), sum_by-cons below_count n ns)
 
-all_quiet : (ns : List Shown) (input : PlanTree) → applies (all_over (map node_of (map (λ n. n.0) ns)) input) ≡ applies input
-all_quiet [] input = refl
-all_quiet (n ∷ ns) input = all_quiet ns ((node_of n.0).over input) ∙ n.1.over input
+leaf_count : (l : Leaf) → applies (leaf_of l) ≡ 0
+leaf_count leaf.Unit = refl
+leaf_count (leaf.Scan name columns) = refl
+leaf_count (leaf.Values rows) = refl
 
-abbrev layer : Node-F Shown ShownPlan → Node-F Node Plan
-layer y = map-Node Shown ShownPlan Node Plan (λ n. n.0) (λ p. p.0) y
-
-at_layer : (y : Node-F Shown ShownPlan) → Quiet (node_step (map-Node Node Plan NodeTree PlanTree node_of tree_of (layer y)))
-at_layer (Node-F.Extend ss) = record { over = λ input. refl; below = λ rest. refl }
-at_layer (Node-F.Filter s) = record { over = λ input. refl; below = λ rest. refl }
-at_layer (Node-F.Keep places) = record { over = λ input. refl; below = λ rest. refl }
-at_layer (Node-F.Cross right) = record { over = λ input. omega (arith, right.1); below = λ rest. refl }
-at_layer (Node-F.LeftOuter nodes s n right) = record { over = λ input. omega (arith, run_quiet nodes, right.1); below = λ rest. refl }
-at_layer Node-F.Settle = record { over = λ input. refl; below = λ rest. refl }
-at_layer (Node-F.Group places aggregates) = record { over = λ input. refl; below = λ rest. refl }
-at_layer (Node-F.Sort keys) = record { over = λ input. refl; below = λ rest. refl }
-
-of_layer : (y : Node-F Shown ShownPlan) → IsQuiet (roll-Node (layer y))
-of_layer y = subst Quiet (sym (fold-roll-Node NodeTree PlanTree node_step plan_step (layer y))) (at_layer y)
-
-of_plan : (y : Plan-F Shown ShownPlan) → AppliesNothing (roll-Plan (map-Plan Shown ShownPlan Node Plan (λ n. n.0) (λ p. p.0) y))
-of_plan y =
-    ap applies (fold-roll-Plan NodeTree PlanTree node_step plan_step (map-Plan Shown ShownPlan Node Plan (λ n. n.0) (λ p. p.0) y))
-    ∙ (all_quiet y.nodes (leaf_of y.leaf) ∙ leaf_applies_nothing y.leaf)
-
-pub applies_nothing : (p : Plan) → applies (tree_of p) ≡ 0
-applies_nothing = ind-Plan IsQuiet AppliesNothing (λ x y is. subst (λ z. IsQuiet (roll-Node z)) is (of_layer y)) (λ x y is. subst (λ z. AppliesNothing (roll-Plan z)) is (of_plan y))
+pub plan_count : (p : Plan) → applies (tree_of p) ≡ sum_by over_count p.nodes
+plan_count p =
+    let whole : tree_of p ≡ with_nodes p.nodes (leaf_of p.leaf) = fold-roll-Plan NodeTree PlanTree node_step plan_step (record { leaf = p.leaf; nodes = p.nodes }) in
+    omega (arith, ap applies whole, all_over_count p.nodes (leaf_of p.leaf), leaf_count p.leaf)

@@ -1,5 +1,5 @@
 -- How many Apply nodes a plan has, inner plans included.
-use Rattle.std.specs.Prelude.{ℕ, suc, ◌+◌}
+use Rattle.std.specs.Prelude.{ℕ, suc, ◌+◌, ◌-◌, ◌^◌, min}
 use Rattle.rel_algebra.specs.Plan.{Nodes, PlanTree, apply, apply_by, cross, extend, extend_by, filter, group, keep, left_outer, no_node, scan, settle, sort, unit_row, values}
 
 abbrev mutual
@@ -22,3 +22,7 @@ abbrev mutual
   applies_in no_node = 0
   applies_in (extend_by ss rest) = applies_in rest
   applies_in (apply_by when kind inner rest) = suc (applies inner + applies_in rest)
+
+-- a count as a number of 64 bits, which stands still at the greatest
+abbrev pub counted : ℕ → ℕ
+counted n = min n (2 ^ 64 - 1)

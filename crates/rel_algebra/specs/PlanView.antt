@@ -11,12 +11,14 @@ use Rattle.rel_algebra.specs.declared.scalar.ListWord.TheVariants as listed
 use Rattle.rel_algebra.specs.declared.plan.ScalarRow.{ScalarRow}
 use Rattle.rel_algebra.specs.declared.plan.Leaf.{Leaf}
 use Rattle.rel_algebra.specs.declared.plan.Leaf.TheVariants as leaf
+use Rattle.rel_algebra.specs.declared.plan.ApplyKind.{ApplyKind}
+use Rattle.rel_algebra.specs.declared.plan.ApplyKind.TheVariants as kind
 use Rattle.rel_algebra.specs.declared.plan.Node.{Node, fold-Node}
 use Rattle.rel_algebra.specs.declared.plan.Node.TheOpen.{Node-F, Plan-F}
 use Rattle.rel_algebra.specs.declared.plan.Plan.{Plan, fold-Plan}
 use Rattle.row_types.specs.declared.aggregate_column.AggregateColumn.{AggregateColumn}
 use Rattle.rel_algebra.specs.Tree.{Aggregate, Operation, Negation, Arithmetic, Comparing, Modulo, CharLength, Substring, Cast, Assign, Opposite, NullTest, TrueTest, FalseTest, AnyOf}
-use Rattle.rel_algebra.specs.Plan.{Word, strict, and_word, or_word, case_word, coalesce_word, Scalar, constant, column, argument, word, Scalars, none, more, PlanTree, unit_row, scan, values, extend, filter, keep, cross, left_outer, settle, group, sort, Nodes, no_node, extend_by}
+use Rattle.rel_algebra.specs.Plan.{Word, strict, and_word, or_word, case_word, coalesce_word, Scalar, constant, column, argument, word, Scalars, none, more, Kind, single, exists, member, aggregate, PlanTree, unit_row, scan, values, extend, apply, filter, keep, cross, left_outer, settle, group, sort, Nodes, no_node, extend_by, apply_by}
 
 -- an operator with the plain scalar right of it
 pub record Link : Type 0 where
@@ -86,7 +88,13 @@ leaf_of (leaf.Values rows) = values (lists_of rows)
 abbrev pub aggregates_of : List AggregateColumn → List (Aggregate × ℕ)
 aggregates_of columns = map (λ a. (a.kind, a.place)) columns
 
--- what a node makes of the plan below it, and of a run of nodes one that has an Extend more at its lower end
+abbrev pub kind_of : ApplyKind → Kind
+kind_of kind.Single = single
+kind_of kind.Exists = exists
+kind_of (kind.Member s) = member (scalar_of s)
+kind_of (kind.Aggregate columns) = aggregate (aggregates_of columns)
+
+-- what a node makes of the plan below it, and of a run of nodes one that has an Extend or an Apply more at its lower end
 pub record NodeTree : Type 0 where
   pub over : PlanTree → PlanTree
   pub below : Nodes → Nodes
@@ -95,7 +103,7 @@ pub record NodeTree : Type 0 where
 abbrev pub acting : (PlanTree → PlanTree) → NodeTree
 acting f = record { over = f; below = λ rest. rest }
 
--- the nodes of a run, the first of them lowest; only an Extend is one
+-- the nodes of a run, the first of them lowest; only an Extend and an Apply are such nodes
 abbrev pub run : List NodeTree → Nodes
 run [] = no_node
 run (n ∷ ns) = n.below (run ns)
@@ -103,6 +111,8 @@ run (n ∷ ns) = n.below (run ns)
 -- one level, with what stands inside already seen as its plain tree
 abbrev pub node_step : Node-F NodeTree PlanTree → NodeTree
 node_step (Node-F.Extend ss) = record { over = λ input. extend (scalars_of ss) input; below = λ rest. extend_by (scalars_of ss) rest }
+node_step (Node-F.Apply s k inner) =
+    record { over = λ input. apply (scalar_of s) (kind_of k) inner input; below = λ rest. apply_by (scalar_of s) (kind_of k) inner rest }
 node_step (Node-F.Filter s) = acting (λ input. filter (scalar_of s) input)
 node_step (Node-F.Keep places) = acting (λ input. keep places input)
 node_step (Node-F.Cross right) = acting (λ input. cross input right)

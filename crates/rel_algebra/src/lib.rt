@@ -13,10 +13,12 @@ ghost use Rattle.rel_algebra.specs.WordExamples.{WordsWorked};
 ghost use Rattle.rel_algebra.specs.Theorem.{FunctionPlans, KeptTablesFit, Means, MeansAsked, MeansPassing, MeansUnder};
 ghost use Rattle.rel_algebra.specs.WellFormed.{WellFormedPlans};
 
+mod count;
 mod plan;
 mod scalar;
 
-pub use plan::{Leaf, Node, Plan, ScalarRow, apply_count};
+pub use count::apply_count;
+pub use plan::{ApplyKind, Leaf, Node, Plan, ScalarRow};
 pub use scalar::{ListWord, Scalar, ScalarLink, UnaryWord};
 
 /// The inverse of each row raises at the row with zero; where that row is left out it is a record.

@@ -1,9 +1,5 @@
 //! Plans: a leaf, which has rows, and a list of nodes, each of which makes rows of the rows below it.
 
-ghost use Rattle.std.specs.Prelude.{◌≡◌};
-ghost use Rattle.rel_algebra.specs.Applies.{applies};
-ghost use Rattle.rel_algebra.specs.PlanView.{tree_of};
-
 use crate::scalar::Scalar;
 use row_types::{AggregateColumn, SortKey};
 use sql_values::Name;
@@ -26,6 +22,24 @@ pub enum Leaf {
     Values(Items<ScalarRow>),
 }
 
+/// What an Apply makes of the rows of its inner plan: one cell, or one for each aggregate. Where one
+/// of these rows is poisoned, or a cell of one is a condition, the first such area in the order of
+/// the rows stands in each of these cells.
+#[derive(Drop)]
+pub enum ApplyKind {
+    /// The value of the one row that there is; of none NULL, and of several the condition 21000
+    /// (ISO/IEC 9075-2, 7.19).
+    Single,
+    /// Whether there is a row (8.10).
+    Exists,
+    /// Whether the scalar's value is in the list (8.4). The scalar is read on the row outside, and
+    /// where it is a condition, this goes before those of the rows.
+    Member(Scalar),
+    /// These aggregates of the rows (10.9). Where one of them raises, the first that does stands in
+    /// each cell.
+    Aggregate(Items<AggregateColumn>),
+}
+
 /// A node of a plan. A poisoned row passes each of those that act row by row as it is. The others
 /// settle what they take: where a row is poisoned, or a cell of one is a condition, the first such
 /// area in the order of the rows is all that they give, in one poisoned row.
@@ -35,6 +49,10 @@ pub enum Node {
     /// Each row with the cells of the scalars behind its own. Each scalar is read on the row as it
     /// came.
     Extend(Items<Scalar>),
+    /// Each row with the cells that the kind makes of the rows of the plan, which is run anew for
+    /// each row, with this row as the innermost outside it. Where the scalar, which is read on the
+    /// row, is not true, the cells are NULL, and where it raises, its area.
+    Apply(Scalar, ApplyKind, Boxed<Plan>),
     /// The rows of which the scalar is true. A row whose test raises stays, poisoned.
     Filter(Scalar),
     /// Of each row the cells at these places, in this order.
@@ -43,7 +61,8 @@ pub enum Node {
     Cross(Boxed<Plan>),
     /// Each row with those rows of the plan at its right for which the scalar is true, or, where
     /// there is none, with so many NULLs; both settled as before, and the result too. The nodes are
-    /// run on each pair before the scalar is read on it; of these only an Extend does anything.
+    /// run on each pair before the scalar is read on it; of these only an Extend and an Apply do
+    /// anything.
     LeftOuter(Items<Node>, Scalar, usize, Boxed<Plan>),
     /// The rows, settled.
     Settle,
@@ -62,13 +81,4 @@ pub enum Node {
 pub struct Plan {
     pub leaf: Leaf,
     pub nodes: Items<Node>,
-}
-
-/// The number of Apply nodes of a plan, inner plans included. Of the nodes of which plans are made
-/// none is an Apply, so that today it is 0; a node that is one has to count here, or the clause is no
-/// longer proved.
-pub fn apply_count(plan: &Plan) -> u64
-    ensures { result ≡ applies (tree_of plan.now) }
-{
-    0
 }

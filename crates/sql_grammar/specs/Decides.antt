@@ -6,9 +6,9 @@ use Rattle.token_grammar.specs.Grammar.{Grammar}
 use Rattle.token_grammar.specs.Reading.{decides, goes_on, nullable, same_kind}
 use Rattle.sql_grammar.specs.declared.function_word.FunctionWord.TheVariants.{Coalesce, Modulo, CharLength, Substring, Cast, Aggregate}
 use Rattle.sql_values.specs.declared.fold.FoldKind.TheVariants.{Count, Sum, Avg, Min, Max}
-use Rattle.sql_grammar.specs.Trees.{Rule, Tree, Columns, Parameters, Length, Arguments, Exprs, Bracketed, Operands, Subquery, Names, Cases, bracketed, ident, varchar_length, plain_type, varchar, data_type}
-use Rattle.sql_grammar.specs.Expressions.{constant, literal, dotted, column_name, named, function_call, aggregate, function, case_expression, primary, unary_sign, factor, operator, term, sum, comparison_sign, comparison, compared, truth_test, asked, tested, in_word, among, predicate_part, predicate, not_word, negation, conjunction, expr, after, more_exprs, exprs, for_length, as_type, all_rows, argument, operands, when_clause, more_when_clauses, when_clauses, else_clause, arms, cases}
-use Rattle.sql_grammar.specs.Queries.{more_idents, idents, column_list, alias, select_value, more_select_values, select_values, all_columns, select_list, named_table, derived_table, table_ref, on_condition, joined_on, comma_item, cross_join, left_join, inner_join, from_item, more_from_items, first_item, from_items, from_clause, filter, more_column_names, column_names, group_clause, group_by, having, grouping, select_word, select, row, more_rows, rows, values_word, values, query, direction, sort_specification, more_sort_specifications, sort_specifications, order_clause, order_by, ordered_query}
+use Rattle.sql_grammar.specs.Trees.{Rule, Tree, Columns, Parameters, Length, Arguments, Exprs, Bracketed, Among, Operands, Subquery, Names, Cases, bracketed, ident, varchar_length, plain_type, varchar, data_type}
+use Rattle.sql_grammar.specs.Expressions.{constant, literal, dotted, column_name, named, function_call, aggregate, function, case_expression, exists, primary, unary_sign, factor, operator, term, sum, comparison_sign, comparison, compared, truth_test, asked, tested, in_word, among, predicate_part, predicate, not_word, negation, conjunction, expr, after, more_exprs, exprs, for_length, as_type, all_rows, argument, operands, when_clause, more_when_clauses, when_clauses, else_clause, arms, cases}
+use Rattle.sql_grammar.specs.Queries.{more_idents, idents, column_list, alias, select_value, more_select_values, select_values, all_columns, select_list, named_table, derived_table, table_ref, on_condition, joined_on, comma_item, cross_join, left_join, inner_join, from_item, more_from_items, first_item, from_items, from_clause, filter, more_column_names, column_names, group_clause, group_by, having, grouping, select_word, select, row, more_rows, rows, values_word, values, query, query_or_expr, query_or_exprs, direction, sort_specification, more_sort_specifications, sort_specifications, order_clause, order_by, ordered_query}
 use Rattle.sql_grammar.specs.Writing.{insert_source, insertion, into_table, insert_word, insert, dml}
 use Rattle.sql_grammar.specs.Definitions.{not_null, primary_key, column_constraint, constraints, column, more_columns, columns, parameter, more_parameters, parameters, table_definition, create_table, returns_type, return_value, body, function_definition, create_function, create_word, created, ddl}
 use Rattle.sql_grammar.specs.Sql.{unended, statement, rules, shut}
@@ -31,6 +31,7 @@ record AllAreSound : Type 0 where
   arguments_rule : RuleIsSound Arguments
   exprs_rule : RuleIsSound Exprs
   bracketed_rule : RuleIsSound Bracketed
+  among_rule : RuleIsSound Among
   coalesce_rule : RuleIsSound (Operands Coalesce)
   modulo_rule : RuleIsSound (Operands Modulo)
   char_length_rule : RuleIsSound (Operands CharLength)
@@ -52,7 +53,7 @@ record AllAreSound : Type 0 where
   statement_end : (summary shut false statement).goes_on ≡ []
 
 all_are_sound : AllAreSound
-unfolding same_kind bracketed ident varchar_length plain_type varchar data_type constant literal dotted column_name named function_call aggregate function case_expression primary unary_sign factor operator term sum comparison_sign comparison compared truth_test asked tested in_word among predicate_part predicate not_word negation conjunction expr after more_exprs exprs for_length as_type all_rows argument operands when_clause more_when_clauses when_clauses else_clause arms cases more_idents idents column_list alias select_value more_select_values select_values all_columns select_list named_table derived_table table_ref on_condition joined_on comma_item cross_join left_join inner_join from_item more_from_items first_item from_items from_clause filter more_column_names column_names group_clause group_by having grouping select_word select row more_rows rows values_word values query direction sort_specification more_sort_specifications sort_specifications order_clause order_by ordered_query insert_source insertion into_table insert_word insert dml not_null primary_key column_constraint constraints column more_columns columns parameter more_parameters parameters table_definition create_table returns_type return_value body function_definition create_function create_word created ddl unended statement
+unfolding same_kind bracketed ident varchar_length plain_type varchar data_type constant literal dotted column_name named function_call aggregate function case_expression exists primary unary_sign factor operator term sum comparison_sign comparison compared truth_test asked tested in_word among predicate_part predicate not_word negation conjunction expr after more_exprs exprs for_length as_type all_rows argument operands when_clause more_when_clauses when_clauses else_clause arms cases more_idents idents column_list alias select_value more_select_values select_values all_columns select_list named_table derived_table table_ref on_condition joined_on comma_item cross_join left_join inner_join from_item more_from_items first_item from_items from_clause filter more_column_names column_names group_clause group_by having grouping select_word select row more_rows rows values_word values query query_or_expr query_or_exprs direction sort_specification more_sort_specifications sort_specifications order_clause order_by ordered_query insert_source insertion into_table insert_word insert dml not_null primary_key column_constraint constraints column more_columns columns parameter more_parameters parameters table_definition create_table returns_type return_value body function_definition create_function create_word created ddl unended statement
 all_are_sound = record {
   columns_rule = refl;
   parameters_rule = refl;
@@ -60,6 +61,7 @@ all_are_sound = record {
   arguments_rule = refl;
   exprs_rule = refl;
   bracketed_rule = refl;
+  among_rule = refl;
   coalesce_rule = refl;
   modulo_rule = refl;
   char_length_rule = refl;
@@ -87,6 +89,7 @@ rules_sound Length = all_are_sound.length_rule
 rules_sound Arguments = all_are_sound.arguments_rule
 rules_sound Exprs = all_are_sound.exprs_rule
 rules_sound Bracketed = all_are_sound.bracketed_rule
+rules_sound Among = all_are_sound.among_rule
 rules_sound (Operands Coalesce) = all_are_sound.coalesce_rule
 rules_sound (Operands Modulo) = all_are_sound.modulo_rule
 rules_sound (Operands CharLength) = all_are_sound.char_length_rule

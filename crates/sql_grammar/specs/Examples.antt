@@ -31,6 +31,7 @@ use Rattle.syntax_trees.specs.declared.query.SelectItem.TheVariants as item
 use Rattle.syntax_trees.specs.declared.query.TableRef.{TableRef}
 use Rattle.syntax_trees.specs.declared.query.TableRef.TheVariants as ref
 use Rattle.syntax_trees.specs.declared.query.ValueRow.TheVariants as value_row
+use Rattle.syntax_trees.specs.declared.query.Values.{roll-Values}
 use Rattle.syntax_trees.specs.declared.statement.Constraint.TheVariants as constraint
 use Rattle.syntax_trees.specs.declared.statement.Stmt.TheVariants as stmt
 use Rattle.token_grammar.specs.Examples.{tokens_of}
@@ -38,8 +39,8 @@ use Rattle.token_grammar.specs.Reading.{same_kind, reading, NoSpelling, TooDeep}
 use Rattle.token_grammar.specs.Statement.{most_open}
 use Rattle.sql_grammar.specs.Constructs.{open_after}
 use Rattle.sql_grammar.specs.Trees.{bracketed, ident, varchar_length, plain_type, varchar, data_type}
-use Rattle.sql_grammar.specs.Expressions.{unqualified, qualified, constant, literal, dotted, column_name, named, function_call, aggregate, function, case_expression, primary, unary_sign, factor, operator, term, sum, comparison_sign, comparison, compared, truth_test, asked, tested, in_word, among, predicate_part, predicate, not_word, negation, conjunction, expr, after, more_exprs, exprs, for_length, as_type, all_rows, argument, operands, when_clause, more_when_clauses, when_clauses, else_clause, arms, cases}
-use Rattle.sql_grammar.specs.Queries.{more_idents, idents, column_list, alias, select_value, more_select_values, select_values, all_columns, select_list, named_table, derived_table, table_ref, on_condition, joined_on, comma_item, cross_join, left_join, inner_join, from_item, more_from_items, first_item, from_items, from_clause, filter, more_column_names, column_names, group_clause, group_by, having, grouping, select_word, select, row, more_rows, rows, values_word, values, query, direction, sort_specification, more_sort_specifications, sort_specifications, order_clause, order_by, ordered_query}
+use Rattle.sql_grammar.specs.Expressions.{unqualified, qualified, constant, literal, dotted, column_name, named, function_call, aggregate, function, case_expression, exists, primary, unary_sign, factor, operator, term, sum, comparison_sign, comparison, compared, truth_test, asked, tested, in_word, among, predicate_part, predicate, not_word, negation, conjunction, expr, after, more_exprs, exprs, for_length, as_type, all_rows, argument, operands, when_clause, more_when_clauses, when_clauses, else_clause, arms, cases}
+use Rattle.sql_grammar.specs.Queries.{more_idents, idents, column_list, alias, select_value, more_select_values, select_values, all_columns, select_list, named_table, derived_table, table_ref, on_condition, joined_on, comma_item, cross_join, left_join, inner_join, from_item, more_from_items, first_item, from_items, from_clause, filter, more_column_names, column_names, group_clause, group_by, having, grouping, select_word, select, row, more_rows, rows, values_word, values, query, query_or_expr, query_or_exprs, direction, sort_specification, more_sort_specifications, sort_specifications, order_clause, order_by, ordered_query}
 use Rattle.sql_grammar.specs.Writing.{insert_source, insertion, into_table, insert_word, insert, dml}
 use Rattle.sql_grammar.specs.Definitions.{not_null, primary_key, column_constraint, constraints, column, more_columns, columns, parameter, more_parameters, parameters, table_definition, create_table, returns_type, return_value, body, function_definition, create_function, create_word, created, ddl}
 use Rattle.sql_grammar.specs.Sql.{unended, statement, rules}
@@ -136,10 +137,10 @@ pub record Rows : Type 0 where
     stmt.Insert (record {
       anchor = at 0;
       table = id_t 2;
-      source = q.Values (record {
+      source = q.Values (roll-Values (record {
         anchor = at 3;
         rows = value_row.Row (number_one 5 ∷ e.Operation (at 7) operation.Minus (number_one 8 ∷ []) ∷ []) ∷ value_row.Row (name_k 13 ∷ []) ∷ [];
-      });
+      }));
     }),
     [],
   )
@@ -169,7 +170,7 @@ pub record Rows : Type 0 where
   pub is_too_deep : reading rules 1 statement an_insert ≡ Err (TooDeep (drop 12 an_insert))
 
 pub rows_hold : Rows
-unfolding same_kind bracketed ident varchar_length plain_type varchar data_type constant literal dotted column_name named function_call aggregate function case_expression primary unary_sign factor operator term sum comparison_sign comparison compared truth_test asked tested in_word among predicate_part predicate not_word negation conjunction expr after more_exprs exprs for_length as_type all_rows argument operands when_clause more_when_clauses when_clauses else_clause arms cases more_idents idents column_list alias select_value more_select_values select_values all_columns select_list named_table derived_table table_ref on_condition joined_on comma_item cross_join left_join inner_join from_item more_from_items first_item from_items from_clause filter more_column_names column_names group_clause group_by having grouping select_word select row more_rows rows values_word values query direction sort_specification more_sort_specifications sort_specifications order_clause order_by ordered_query insert_source insertion into_table insert_word insert dml not_null primary_key column_constraint constraints column more_columns columns parameter more_parameters parameters table_definition create_table returns_type return_value body function_definition create_function create_word created ddl unended statement
+unfolding same_kind bracketed ident varchar_length plain_type varchar data_type constant literal dotted column_name named function_call aggregate function case_expression exists primary unary_sign factor operator term sum comparison_sign comparison compared truth_test asked tested in_word among predicate_part predicate not_word negation conjunction expr after more_exprs exprs for_length as_type all_rows argument operands when_clause more_when_clauses when_clauses else_clause arms cases more_idents idents column_list alias select_value more_select_values select_values all_columns select_list named_table derived_table table_ref on_condition joined_on comma_item cross_join left_join inner_join from_item more_from_items first_item from_items from_clause filter more_column_names column_names group_clause group_by having grouping select_word select row more_rows rows values_word values query query_or_expr query_or_exprs direction sort_specification more_sort_specifications sort_specifications order_clause order_by ordered_query insert_source insertion into_table insert_word insert dml not_null primary_key column_constraint constraints column more_columns columns parameter more_parameters parameters table_definition create_table returns_type return_value body function_definition create_function create_word created ddl unended statement
 rows_hold = record {
   select_is_read = refl;
   insert_is_read = refl;
@@ -205,8 +206,9 @@ derived_in_derived = tokens_of (wd w.Select ∷ sg s.Asterisk ∷ wd w.From ∷ 
 abbrev ordered_values : List Token
 ordered_values = tokens_of (wd w.Values ∷ sg s.LeftParen ∷ one ∷ sg s.RightParen ∷ wd w.Order ∷ wd w.By ∷ k ∷ [])
 
-abbrev values_of_one : Query
-values_of_one = q.Values (record { anchor = at 0; rows = value_row.Row (number_one 2 ∷ []) ∷ [] })
+-- VALUES (1) from a token on
+abbrev values_at : ℕ → Query
+values_at n = q.Values (roll-Values (record { anchor = at n; rows = value_row.Row (number_one (n + 2) ∷ []) ∷ [] }))
 
 -- SELECT k FROM t JOIN k;
 abbrev no_condition : List Token
@@ -249,7 +251,7 @@ pub record QueryRows : Type 0 where
         items = item.All (at 1) ∷ [];
         from = from.Comma (table_t 3)
             ∷ from.Left (
-            ref.Derived (q.Values (record { anchor = at 7; rows = value_row.Row (number_one 9 ∷ number_one 11 ∷ []) ∷ [] })) (id_k 15) (id_k 17 ∷ id_t 19 ∷ []))
+            ref.Derived (q.Values (roll-Values (record { anchor = at 7; rows = value_row.Row (number_one 9 ∷ number_one 11 ∷ []) ∷ [] }))) (id_k 15) (id_k 17 ∷ id_t 19 ∷ []))
             (e.Operation (at 25) (operation.Compare cmp.Equals) (e.Name (qualified (id_t 22) (id_k 24)) ∷ number_one 26 ∷ []))
             ∷ from.Comma (ref.Table (id_t 28) (Some (id_k 30)))
             ∷ from.Cross (table_k 33)
@@ -277,7 +279,7 @@ pub record QueryRows : Type 0 where
     [],
   )
   -- a query by itself has no order
-  pub stops_before_order : reading rules most_open query ordered_values ≡ Ok (values_of_one, drop 4 ordered_values)
+  pub stops_before_order : reading rules most_open query ordered_values ≡ Ok (values_at 0, drop 4 ordered_values)
   pub three_may_be_open : reading rules 3 query derived_in_derived ≡ Ok (
     q.Select (roll-Select (record {
       anchor = at 0;
@@ -286,7 +288,7 @@ pub record QueryRows : Type 0 where
           ref.Derived (q.Select (roll-Select (record {
             anchor = at 4;
             items = item.All (at 5) ∷ [];
-            from = from.Comma (ref.Derived (q.Values (record { anchor = at 8; rows = value_row.Row (number_one 10 ∷ []) ∷ [] })) (id_t 13) []) ∷ [];
+            from = from.Comma (ref.Derived (q.Values (roll-Values (record { anchor = at 8; rows = value_row.Row (number_one 10 ∷ []) ∷ [] }))) (id_t 13) []) ∷ [];
             filter = None;
             group_by = [];
             having = None;
@@ -329,7 +331,7 @@ pub record QueryRows : Type 0 where
   pub groups_are_by_columns : reading rules most_open statement by_a_number ≡ Err (NoSpelling (drop 6 by_a_number))
 
 pub query_rows_hold : QueryRows
-unfolding same_kind bracketed ident varchar_length plain_type varchar data_type constant literal dotted column_name named function_call aggregate function case_expression primary unary_sign factor operator term sum comparison_sign comparison compared truth_test asked tested in_word among predicate_part predicate not_word negation conjunction expr after more_exprs exprs for_length as_type all_rows argument operands when_clause more_when_clauses when_clauses else_clause arms cases more_idents idents column_list alias select_value more_select_values select_values all_columns select_list named_table derived_table table_ref on_condition joined_on comma_item cross_join left_join inner_join from_item more_from_items first_item from_items from_clause filter more_column_names column_names group_clause group_by having grouping select_word select row more_rows rows values_word values query direction sort_specification more_sort_specifications sort_specifications order_clause order_by ordered_query insert_source insertion into_table insert_word insert dml not_null primary_key column_constraint constraints column more_columns columns parameter more_parameters parameters table_definition create_table returns_type return_value body function_definition create_function create_word created ddl unended statement
+unfolding same_kind bracketed ident varchar_length plain_type varchar data_type constant literal dotted column_name named function_call aggregate function case_expression exists primary unary_sign factor operator term sum comparison_sign comparison compared truth_test asked tested in_word among predicate_part predicate not_word negation conjunction expr after more_exprs exprs for_length as_type all_rows argument operands when_clause more_when_clauses when_clauses else_clause arms cases more_idents idents column_list alias select_value more_select_values select_values all_columns select_list named_table derived_table table_ref on_condition joined_on comma_item cross_join left_join inner_join from_item more_from_items first_item from_items from_clause filter more_column_names column_names group_clause group_by having grouping select_word select row more_rows rows values_word values query query_or_expr query_or_exprs direction sort_specification more_sort_specifications sort_specifications order_clause order_by ordered_query insert_source insertion into_table insert_word insert dml not_null primary_key column_constraint constraints column more_columns columns parameter more_parameters parameters table_definition create_table returns_type return_value body function_definition create_function create_word created ddl unended statement
 query_rows_hold = record {
   joins_are_read = refl;
   names_are_read = refl;
@@ -546,7 +548,7 @@ pub record ExprRows : Type 0 where
   pub cases_past_the_limit : reading rules most_open expr (case_in_case 25) ≡ Err (TooDeep (drop 48 (case_in_case 25)))
 
 pub expr_rows_hold : ExprRows
-unfolding same_kind bracketed ident varchar_length plain_type varchar data_type constant literal dotted column_name named function_call aggregate function case_expression primary unary_sign factor operator term sum comparison_sign comparison compared truth_test asked tested in_word among predicate_part predicate not_word negation conjunction expr after more_exprs exprs for_length as_type all_rows argument operands when_clause more_when_clauses when_clauses else_clause arms cases more_idents idents column_list alias select_value more_select_values select_values all_columns select_list named_table derived_table table_ref on_condition joined_on comma_item cross_join left_join inner_join from_item more_from_items first_item from_items from_clause filter more_column_names column_names group_clause group_by having grouping select_word select row more_rows rows values_word values query direction sort_specification more_sort_specifications sort_specifications order_clause order_by ordered_query insert_source insertion into_table insert_word insert dml not_null primary_key column_constraint constraints column more_columns columns parameter more_parameters parameters table_definition create_table returns_type return_value body function_definition create_function create_word created ddl unended statement
+unfolding same_kind bracketed ident varchar_length plain_type varchar data_type constant literal dotted column_name named function_call aggregate function case_expression exists primary unary_sign factor operator term sum comparison_sign comparison compared truth_test asked tested in_word among predicate_part predicate not_word negation conjunction expr after more_exprs exprs for_length as_type all_rows argument operands when_clause more_when_clauses when_clauses else_clause arms cases more_idents idents column_list alias select_value more_select_values select_values all_columns select_list named_table derived_table table_ref on_condition joined_on comma_item cross_join left_join inner_join from_item more_from_items first_item from_items from_clause filter more_column_names column_names group_clause group_by having grouping select_word select row more_rows rows values_word values query query_or_expr query_or_exprs direction sort_specification more_sort_specifications sort_specifications order_clause order_by ordered_query insert_source insertion into_table insert_word insert dml not_null primary_key column_constraint constraints column more_columns columns parameter more_parameters parameters table_definition create_table returns_type return_value body function_definition create_function create_word created ddl unended statement
 expr_rows_hold = record {
   or_is_loosest = refl;
   bars_are_additive = refl;
@@ -572,6 +574,127 @@ expr_rows_hold = record {
   not_stands_once = refl;
   cases_at_the_limit = refl;
   cases_past_the_limit = refl;
+}
+
+-- ---- reading of queries in expressions
+
+-- VALUES (1)
+abbrev a_query : List Lexeme
+a_query = wd w.Values ∷ sg s.LeftParen ∷ one ∷ sg s.RightParen ∷ []
+
+-- k + (SELECT k FROM t)
+abbrev a_subquery : List Token
+a_subquery = tokens_of (k ∷ sg s.Plus ∷ sg s.LeftParen ∷ wd w.Select ∷ k ∷ wd w.From ∷ t ∷ sg s.RightParen ∷ [])
+
+-- ((VALUES (1)))
+abbrev in_more_brackets : List Token
+in_more_brackets = tokens_of (sg s.LeftParen ∷ sg s.LeftParen ∷ a_query ++ sg s.RightParen ∷ sg s.RightParen ∷ [])
+
+-- NOT EXISTS (VALUES (1))
+abbrev not_exists : List Token
+not_exists = tokens_of (wd w.Not ∷ wd w.Exists ∷ sg s.LeftParen ∷ a_query ++ sg s.RightParen ∷ [])
+
+-- k IN (VALUES (1))
+abbrev in_a_query : List Token
+in_a_query = tokens_of (k ∷ wd w.In ∷ sg s.LeftParen ∷ a_query ++ sg s.RightParen ∷ [])
+
+-- k NOT IN (VALUES (1))
+abbrev not_in_a_query : List Token
+not_in_a_query = tokens_of (k ∷ wd w.Not ∷ wd w.In ∷ sg s.LeftParen ∷ a_query ++ sg s.RightParen ∷ [])
+
+-- k IN ((VALUES (1)))
+abbrev in_a_value : List Token
+in_a_value = tokens_of (k ∷ wd w.In ∷ sg s.LeftParen ∷ sg s.LeftParen ∷ a_query ++ sg s.RightParen ∷ sg s.RightParen ∷ [])
+
+-- SELECT k FROM t WHERE EXISTS (SELECT * FROM k WHERE t.k IN (VALUES (1)))
+abbrev query_in_query : List Token
+query_in_query = tokens_of (wd w.Select ∷ k ∷ wd w.From ∷ t ∷ wd w.Where ∷ wd w.Exists ∷ sg s.LeftParen ∷ wd w.Select ∷ sg s.Asterisk ∷ wd w.From ∷ k
+    ∷ wd w.Where ∷ t ∷ sg s.Period ∷ k ∷ wd w.In ∷ sg s.LeftParen ∷ a_query ++ sg s.RightParen ∷ sg s.RightParen ∷ [])
+
+-- EXISTS (k
+abbrev exists_of_a_value : List Token
+exists_of_a_value = tokens_of (wd w.Exists ∷ sg s.LeftParen ∷ k ∷ [])
+
+-- k IN (VALUES (1), t
+abbrev a_query_and_more : List Token
+a_query_and_more = tokens_of (k ∷ wd w.In ∷ sg s.LeftParen ∷ a_query ++ sg s.Comma ∷ t ∷ [])
+
+-- k IN (k, VALUES
+abbrev a_query_too_late : List Token
+a_query_too_late = tokens_of (k ∷ wd w.In ∷ sg s.LeftParen ∷ k ∷ sg s.Comma ∷ wd w.Values ∷ [])
+
+-- (VALUES (1) ORDER
+abbrev an_ordered_subquery : List Token
+an_ordered_subquery = tokens_of (sg s.LeftParen ∷ a_query ++ wd w.Order ∷ [])
+
+-- k + VALUES
+abbrev a_query_without_brackets : List Token
+a_query_without_brackets = tokens_of (k ∷ sg s.Plus ∷ wd w.Values ∷ [])
+
+pub record SubqueryRows : Type 0 where
+  pub subquery_is_read : reading rules most_open expr a_subquery ≡ Ok (
+    e.Chain (name_k 0) (
+        link (chain_operator.Value op.Add) 1 (e.Subquery (q.Select (roll-Select (record {
+          anchor = at 3;
+          items = item.Value (name_k 4) None ∷ [];
+          from = from.Comma (table_t 6) ∷ [];
+          filter = None;
+          group_by = [];
+          having = None;
+        })))) ∷ []),
+    [],
+  )
+  -- brackets round a subquery's brackets leave no node
+  pub more_brackets_change_nothing : reading rules 3 expr in_more_brackets ≡ Ok (e.Subquery (values_at 2), [])
+  pub subquery_is_too_deep : reading rules 2 expr in_more_brackets ≡ Err (TooDeep (drop 3 in_more_brackets))
+  pub not_exists_is_read : reading rules most_open expr not_exists ≡ Ok (e.Operation (at 0) operation.Not (e.Exists (at 1) (values_at 3) ∷ []), [])
+  pub in_query_is_read : reading rules most_open expr in_a_query ≡ Ok (e.InQuery (at 1) false (name_k 0) (values_at 3), [])
+  pub not_in_query_is_read : reading rules most_open expr not_in_a_query ≡ Ok (e.InQuery (at 2) true (name_k 0) (values_at 4), [])
+  -- in brackets of its own a query stands for a value: IN is over a list of one
+  pub in_value_is_read : reading rules most_open expr in_a_value ≡ Ok (e.Operation (at 1) operation.In (name_k 0 ∷ e.Subquery (values_at 4) ∷ []), [])
+  pub query_in_query_is_read : reading rules 3 query query_in_query ≡ Ok (
+    q.Select (roll-Select (record {
+      anchor = at 0;
+      items = item.Value (name_k 1) None ∷ [];
+      from = from.Comma (table_t 3) ∷ [];
+      filter = Some (
+          e.Exists (at 5) (q.Select (roll-Select (record {
+            anchor = at 7;
+            items = item.All (at 8) ∷ [];
+            from = from.Comma (table_k 10) ∷ [];
+            filter = Some (e.InQuery (at 15) false (e.Name (qualified (id_t 12) (id_k 14))) (values_at 17));
+            group_by = [];
+            having = None;
+          }))));
+      group_by = [];
+      having = None;
+    })),
+    [],
+  )
+  -- EXISTS is of a query alone
+  pub query_is_wanted : reading rules most_open expr exists_of_a_value ≡ Err (NoSpelling (drop 2 exists_of_a_value))
+  -- a row is wanted after the comma of VALUES, and a value after that of a list
+  pub query_stands_alone : reading rules most_open expr a_query_and_more ≡ Err (NoSpelling (drop 8 a_query_and_more))
+  pub query_comes_first : reading rules most_open expr a_query_too_late ≡ Err (NoSpelling (drop 5 a_query_too_late))
+  pub subquery_has_no_order : reading rules most_open expr an_ordered_subquery ≡ Err (NoSpelling (drop 5 an_ordered_subquery))
+  pub brackets_are_wanted : reading rules most_open expr a_query_without_brackets ≡ Err (NoSpelling (drop 2 a_query_without_brackets))
+
+pub subquery_rows_hold : SubqueryRows
+unfolding same_kind bracketed ident varchar_length plain_type varchar data_type constant literal dotted column_name named function_call aggregate function case_expression exists primary unary_sign factor operator term sum comparison_sign comparison compared truth_test asked tested in_word among predicate_part predicate not_word negation conjunction expr after more_exprs exprs for_length as_type all_rows argument operands when_clause more_when_clauses when_clauses else_clause arms cases more_idents idents column_list alias select_value more_select_values select_values all_columns select_list named_table derived_table table_ref on_condition joined_on comma_item cross_join left_join inner_join from_item more_from_items first_item from_items from_clause filter more_column_names column_names group_clause group_by having grouping select_word select row more_rows rows values_word values query query_or_expr query_or_exprs direction sort_specification more_sort_specifications sort_specifications order_clause order_by ordered_query insert_source insertion into_table insert_word insert dml not_null primary_key column_constraint constraints column more_columns columns parameter more_parameters parameters table_definition create_table returns_type return_value body function_definition create_function create_word created ddl unended statement
+subquery_rows_hold = record {
+  subquery_is_read = refl;
+  more_brackets_change_nothing = refl;
+  subquery_is_too_deep = refl;
+  not_exists_is_read = refl;
+  in_query_is_read = refl;
+  not_in_query_is_read = refl;
+  in_value_is_read = refl;
+  query_in_query_is_read = refl;
+  query_is_wanted = refl;
+  query_stands_alone = refl;
+  query_comes_first = refl;
+  subquery_has_no_order = refl;
+  brackets_are_wanted = refl;
 }
 
 -- ---- open constructs, by the tokens alone

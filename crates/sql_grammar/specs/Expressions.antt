@@ -1,12 +1,16 @@
 -- Expressions: ISO/IEC 9075-2, 6.4 (a call of a function), 6.6 (names), 6.12 (CASE), 6.13 (CAST), 6.26 to 6.39
--- (value expressions), 8.2 to 8.8 (predicates) and 10.9 (aggregate functions).
-use Rattle.std.specs.Prelude.{List, [], ◌∷◌, ◌++◌, Option, Some, None}
+-- (value expressions), 7.19 (subqueries), 8.2 to 8.10 (predicates) and 10.9 (aggregate functions).
+use Rattle.std.specs.Prelude.{Bool, true, false, List, [], ◌∷◌, ◌++◌, Option, Some, None}
 use Rattle.sql_grammar.specs.declared.chain_level.ChainLevel.{ChainLevel}
 use Rattle.sql_grammar.specs.declared.chain_level.ChainLevel.TheVariants as level
 use Rattle.sql_grammar.specs.declared.function_word.Function.{Function}
 use Rattle.sql_grammar.specs.declared.function_word.Function.TheVariants as function_of
 use Rattle.sql_grammar.specs.declared.function_word.FunctionWord.{FunctionWord}
 use Rattle.sql_grammar.specs.declared.function_word.FunctionWord.TheVariants as function_word
+use Rattle.sql_grammar.specs.declared.predicate_part.InValue.{InValue}
+use Rattle.sql_grammar.specs.declared.predicate_part.InValue.TheVariants as in_value
+use Rattle.sql_grammar.specs.declared.predicate_part.PredicatePart.{PredicatePart}
+use Rattle.sql_grammar.specs.declared.predicate_part.PredicatePart.TheVariants as part
 use Rattle.sql_lex.specs.declared.token.Kind.{Kind}
 use Rattle.sql_lex.specs.declared.token.Kind.TheVariants as kind
 use Rattle.sql_lex.specs.declared.token.Token.{Token}
@@ -35,7 +39,7 @@ use Rattle.syntax_trees.specs.declared.expr.TruthTest.{TruthTest}
 use Rattle.syntax_trees.specs.declared.expr.TruthTest.TheVariants as test
 use Rattle.token_grammar.specs.Grammar.{token, nested, optional, many}
 use Rattle.token_grammar.specs.Notation.{word, sign, number, text, ◌~◌, ◌~>◌, ◌or◌, ◌=>◌, number_of, text_of, followed, joined}
-use Rattle.sql_grammar.specs.Trees.{G, anchor_of, only, if_one, choice, bracketed, ident, data_type, Arguments, Exprs, Bracketed, Operands, Cases}
+use Rattle.sql_grammar.specs.Trees.{G, anchor_of, only, if_one, choice, bracketed, ident, data_type, Arguments, Bracketed, Among, Operands, Subquery, Cases}
 
 -- ---- literals, names, calls, brackets
 
@@ -130,12 +134,17 @@ function =
 unfoldable pub case_expression : G Expr
 case_expression = operation_of => nested (kind.Word w.Case) Cases (kind.Word w.End)
 
+-- EXISTS '(' query ')'
+unfoldable pub exists : G Expr
+exists = (λ p. e.Exists (anchor_of p.0) p.1) => word w.Exists ~ bracketed Subquery
+
 unfoldable pub primary : G Expr
 primary =
     (λ p. e.Literal p.1 p.0) => literal
     or named
     or bracketed Bracketed
     or case_expression
+    or exists
     or function
 
 -- ---- signs and NOT
@@ -228,26 +237,40 @@ asked = (λ p. is_or_not p.0 p.1.0) => optional not_word ~ truth_test
 unfoldable pub tested : G (Operation × Anchor)
 tested = (λ p. (p.1, anchor_of p.0)) => word w.Is ~ asked
 
--- [NOT] IN
-unfoldable pub in_word : G (Operation × Anchor)
+-- [NOT] IN: whether NOT stands before it
+unfoldable pub in_word : G (Bool × Anchor)
 in_word =
-    (λ t. (operation.In, anchor_of t)) => word w.In
-    or (λ t. (operation.NotIn, anchor_of t)) => word w.Not ~> word w.In
+    (λ t. (false, anchor_of t)) => word w.In
+    or (λ t. (true, anchor_of t)) => word w.Not ~> word w.In
 
--- [NOT] IN '(' e {',' e} ')'
-unfoldable pub among : G ((Operation × Anchor) × List Expr)
-among = in_word ~ bracketed Exprs
+-- [NOT] IN '(' (query | e {',' e}) ')'
+unfoldable pub among : G ((Bool × Anchor) × InValue)
+among = in_word ~ bracketed Among
 
--- what may stand after the left side of a predicate: its operation, and the other operands
-unfoldable pub predicate_part : G ((Operation × Anchor) × List Expr)
+-- what may stand after the left side of a predicate
+unfoldable pub predicate_part : G PredicatePart
 predicate_part =
-    compared
-    or (λ p. (p, [])) => tested
-    or among
+    (λ p. part.Operation p.0 p.1) => compared
+    or (λ p. part.Operation p []) => tested
+    or (λ p. part.In p.0 p.1) => among
 
-abbrev pub predicate_of : Expr → Option ((Operation × Anchor) × List Expr) → Expr
+abbrev pub in_operation : Bool → Operation
+in_operation false = operation.In
+in_operation true = operation.NotIn
+
+-- IN over a list is an operation whose first operand is the left side; over a query it is a node of
+-- its own
+abbrev pub in_of : Expr → Bool × Anchor → InValue → Expr
+in_of x p (in_value.List xs) = e.Operation p.1 (in_operation p.0) (x ∷ xs)
+in_of x p (in_value.Query query) = e.InQuery p.1 p.0 x query
+
+abbrev pub part_of : Expr → PredicatePart → Expr
+part_of x (part.Operation o xs) = e.Operation o.1 o.0 (x ∷ xs)
+part_of x (part.In p values) = in_of x p values
+
+abbrev pub predicate_of : Expr → Option PredicatePart → Expr
 predicate_of x None = x
-predicate_of x (Some p) = e.Operation p.0.1 p.0.0 (x ∷ p.1)
+predicate_of x (Some p) = part_of x p
 
 -- pred := sum [predicate_part]
 unfoldable pub predicate : G Expr

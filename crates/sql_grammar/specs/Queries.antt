@@ -1,6 +1,8 @@
 -- Queries: ISO/IEC 9075-2, 7.3 (VALUES), 7.5 to 7.10 (FROM and joined tables), 7.12 (WHERE), 7.13
 -- (GROUP BY), 7.14 (HAVING), 7.16 (SELECT), 10.10 and 14.3 (ORDER BY).
 use Rattle.std.specs.Prelude.{Bool, true, false, List, ◌∷◌, Option, Some, None}
+use Rattle.sql_grammar.specs.declared.predicate_part.InValue.{InValue}
+use Rattle.sql_grammar.specs.declared.predicate_part.InValue.TheVariants as in_value
 use Rattle.sql_lex.specs.declared.token.Kind.TheVariants as kind
 use Rattle.sql_lex.specs.declared.word.Word.TheVariants as w
 use Rattle.sql_lex.specs.declared.sign.Sign.TheVariants as s
@@ -8,6 +10,7 @@ use Rattle.syntax_trees.specs.declared.anchor.Anchor.{Anchor}
 use Rattle.syntax_trees.specs.declared.anchor.ColumnName.{ColumnName}
 use Rattle.syntax_trees.specs.declared.anchor.Ident.{Ident}
 use Rattle.syntax_trees.specs.declared.expr.Expr.{Expr}
+use Rattle.syntax_trees.specs.declared.expr.Expr.TheVariants as e
 use Rattle.syntax_trees.specs.declared.query.FromItem.{FromItem}
 use Rattle.syntax_trees.specs.declared.query.FromItem.TheVariants as from
 use Rattle.syntax_trees.specs.declared.query.OrderedQuery.{OrderedQuery}
@@ -21,11 +24,11 @@ use Rattle.syntax_trees.specs.declared.query.TableRef.{TableRef}
 use Rattle.syntax_trees.specs.declared.query.TableRef.TheVariants as ref
 use Rattle.syntax_trees.specs.declared.query.ValueRow.{ValueRow}
 use Rattle.syntax_trees.specs.declared.query.ValueRow.TheVariants as value_row
-use Rattle.syntax_trees.specs.declared.query.Values.{Values}
+use Rattle.syntax_trees.specs.declared.query.Values.{Values, roll-Values}
 use Rattle.token_grammar.specs.Grammar.{optional, many}
 use Rattle.token_grammar.specs.Notation.{word, sign, ◌~◌, ◌~>◌, ◌or◌, ◌=>◌}
 use Rattle.sql_grammar.specs.Trees.{G, anchor_of, if_any, only, bracketed, ident, Exprs, Subquery, Names}
-use Rattle.sql_grammar.specs.Expressions.{column_name, expr, after}
+use Rattle.sql_grammar.specs.Expressions.{column_name, expr, exprs, after}
 
 -- ---- names that are written for tables and columns
 
@@ -180,10 +183,20 @@ unfoldable pub values_word : G Anchor
 values_word = anchor_of => word w.Values
 
 unfoldable pub values : G Values
-values = (λ p. record { anchor = p.0; rows = p.1 }) => values_word ~ rows
+values = (λ p. roll-Values (record { anchor = p.0; rows = p.1 })) => values_word ~ rows
 
 unfoldable pub query : G Query
 query = q.Select => select or q.Values => values
+
+-- ---- queries and expressions in brackets
+
+-- query | e: of a query as a value (7.19) its brackets are those of the subquery
+unfoldable pub query_or_expr : G Expr
+query_or_expr = e.Subquery => query or expr
+
+-- query | e {',' e}: what IN looks in (8.4)
+unfoldable pub query_or_exprs : G InValue
+query_or_exprs = in_value.Query => query or in_value.List => exprs
 
 -- ---- ORDER BY
 

@@ -3,6 +3,7 @@
 use Rattle.std.specs.Prelude.{ℤ, List, [], ◌∷◌, Option, Some, None}
 use Rattle.sql_grammar.specs.declared.function_word.Function.{Function}
 use Rattle.sql_grammar.specs.declared.function_word.FunctionWord.{FunctionWord}
+use Rattle.sql_grammar.specs.declared.predicate_part.InValue.{InValue}
 use Rattle.sql_lex.specs.declared.token.Kind.{Kind}
 use Rattle.sql_lex.specs.declared.token.Kind.TheVariants as kind
 use Rattle.sql_lex.specs.declared.token.Token.{Token}
@@ -24,14 +25,15 @@ use Rattle.token_grammar.specs.Notation.{word, name, number, ◌~◌, ◌or◌, 
 -- what stands in a construct
 pub data Rule : Type 0 where
   -- between two brackets: a table's columns; a function's parameters; the length of VARCHAR; the
-  -- arguments of a call; one expression or more; one expression; the operands of a word; a query;
-  -- the names of a derived table's columns
+  -- arguments of a call; one expression or more; one expression, or a query that stands for one;
+  -- what IN looks in; the operands of a word; a query; the names of a derived table's columns
   Columns : Rule
   Parameters : Rule
   Length : Rule
   Arguments : Rule
   Exprs : Rule
   Bracketed : Rule
+  Among : Rule
   Operands : FunctionWord → Rule
   Subquery : Rule
   Names : Rule
@@ -45,6 +47,7 @@ Tree Length = Anchor × ℤ
 Tree Arguments = List Expr
 Tree Exprs = List Expr
 Tree Bracketed = Expr
+Tree Among = InValue
 Tree (Operands f) = Function × List Expr
 Tree Subquery = Query
 Tree Names = List Ident

@@ -4,9 +4,11 @@
 
 mod chain_level;
 mod function_word;
+mod predicate_part;
 
 pub use chain_level::ChainLevel;
 pub use function_word::{Function, FunctionWord};
+pub use predicate_part::{InValue, PredicatePart};
 use token_grammar::{Ending, Part};
 
 /// The statements of a script, each with its `;`. It stands for their grammar in contracts; no code

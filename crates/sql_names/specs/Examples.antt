@@ -23,8 +23,11 @@ use Rattle.bound_trees.specs.declared.expr.BoundExpr.{BoundExpr}
 use Rattle.bound_trees.specs.declared.expr.BoundExpr.TheVariants as bound
 use Rattle.bound_trees.specs.declared.expr.BoundOperation.TheVariants as word_of
 use Rattle.bound_trees.specs.declared.query.BoundFromItem.TheVariants as from
+use Rattle.bound_trees.specs.declared.query.BoundGrouping.{roll-BoundGrouping}
 use Rattle.bound_trees.specs.declared.query.BoundQuery.{BoundQuery}
 use Rattle.bound_trees.specs.declared.query.BoundQuery.TheVariants as query
+use Rattle.bound_trees.specs.declared.query.BoundRow.TheVariants as row
+use Rattle.bound_trees.specs.declared.query.BoundSelect.{roll-BoundSelect}
 use Rattle.bound_trees.specs.declared.query.BoundSource.{BoundSource}
 use Rattle.bound_trees.specs.declared.query.BoundSource.TheVariants as source
 use Rattle.catalog_store.specs.Catalog.{Catalog, TableObject, FunctionObject, missing}
@@ -40,7 +43,7 @@ use Rattle.names_in_sight.specs.Sight.{at_top}
 use Rattle.typed_parts.specs.declared.typed.TypedQuery.{TypedQuery}
 use Rattle.sql_names.specs.Order.{judge_ordered}
 use Rattle.sql_names.specs.Queries.{judge_query}
-use Rattle.sql_names.specs.Written.{Expr, Literal, Name, Call, Operation, Aggregate, Chain, NoLink, MoreLinks, exprs, Item, All, Value, Query, Grouped, Select, Values, From, Comma, Cross, Inner, Left, Ref, Table, Derived, froms, query_of}
+use Rattle.sql_names.specs.Written.{Expr, Literal, Name, Call, Operation, Aggregate, Chain, Subquery, Exists, InQuery, NoLink, MoreLinks, exprs, Item, All, Value, Query, Grouped, Select, Values, From, Comma, Cross, Inner, Left, Ref, Table, Derived, froms, query_of}
 
 abbrev pub at : ℕ → Anchor
 at token = record { token = token; line = 1; column = token }
@@ -204,7 +207,7 @@ abbrev pub table_at : List ℕ → BoundSource
 table_at n = source.Table n
 
 abbrev pub bound_names : BoundQuery
-bound_names = query.Select (record { items = bound.Column 0 0 ∷ bound.Column 0 1 ∷ []; from = from.Comma (table_at (codes "S")) ∷ []; conjuncts = []; grouping = None })
+bound_names = query.Select (roll-BoundSelect (record { items = bound.Column 0 0 ∷ bound.Column 0 1 ∷ []; from = from.Comma (table_at (codes "S")) ∷ []; conjuncts = []; grouping = None }))
 
 pub record OrderByOutputColumns : Type 0 where
   pub unknown : (ordered two_names (by_name (codes "A") 70 ∷ [])).faults ≡ fault UnknownName 70 ∷ []
@@ -231,27 +234,27 @@ conjuncts = select (item (qualified (codes "D") 1 (codes "P")) ∷ [])
     (t ∷ Inner (derived once 60 (called (codes "P") 62 ∷ [])) (chain (equal (qualified (codes "T") 70 (codes "A")) 73 (name (codes "P") 74)) And 75 (equal (qualified (codes "T") 76 (codes "K")) 79 (name (codes "P") 80))) ∷ [])
 
 abbrev pub bound_once : BoundQuery
-bound_once = query.Select (record { items = bound.Column 0 0 ∷ []; from = from.Comma (table_at (codes "T")) ∷ []; conjuncts = []; grouping = None })
+bound_once = query.Select (roll-BoundSelect (record { items = bound.Column 0 0 ∷ []; from = from.Comma (table_at (codes "T")) ∷ []; conjuncts = []; grouping = None }))
 
 abbrev pub output : List ℕ → Kind → Output
 output n kind = record { name = Some n; kind = kind }
 
 pub record BindsByPlaceInFrom : Type 0 where
   -- `*` gives the columns in FROM's order; ON counts from its comma on
-  pub tree : (judged joined).value.tree ≡ query.Select (record {
+  pub tree : (judged joined).value.tree ≡ query.Select (roll-BoundSelect (record {
     items = columns;
     from = from.Comma (table_at (codes "S")) ∷ from.Comma (table_at (codes "T")) ∷ from.Left (table_at (codes "S")) (conjuncts_of (equal_columns 0 2)) ∷ [];
     conjuncts = [];
     grouping = None;
-  })
+  }))
   pub names : (judged joined).value.columns
       ≡ output (codes "A") Integer ∷ output (codes "B") Text ∷ output (codes "K") Integer ∷ output (codes "A") Integer ∷ output (codes "A") Integer ∷ output (codes "B") Text ∷ []
-  pub of_a_derived_table : (judged conjuncts).value.tree ≡ query.Select (record {
+  pub of_a_derived_table : (judged conjuncts).value.tree ≡ query.Select (roll-BoundSelect (record {
     items = bound.Column 0 2 ∷ [];
     from = from.Comma (table_at (codes "T")) ∷ from.Inner (source.Derived bound_once) (conjuncts_of (bound.Operation word_of.And (equal_columns 1 2 ∷ equal_columns 0 2 ∷ []))) ∷ [];
     conjuncts = [];
     grouping = None;
-  })
+  }))
 
 -- ---- groups
 
@@ -319,22 +322,78 @@ unnamed kind = record { name = None; kind = kind }
 
 pub record BindsByPlaceInGroup : Type 0 where
   -- two grouping columns, two aggregates of the list, and one of HAVING
-  pub tree : (judged two_and_one).value.tree ≡ query.Select (record {
+  pub tree : (judged two_and_one).value.tree ≡ query.Select (roll-BoundSelect (record {
     items = bound.Column 0 1 ∷ bound.Column 0 2 ∷ bound.Column 0 3 ∷ [];
     from = from.Comma (table_at (codes "T")) ∷ [];
     conjuncts = conjuncts_of (equal_columns 1 0);
-    grouping = Some (record {
+    grouping = Some (roll-BoundGrouping (record {
       keys = 2;
       parts = bound.Column 0 1 ∷ bound.Column 0 0 ∷ bound.Column 0 1 ∷ bound.Literal (Truth true) ∷ bound.Column 0 1 ∷ [];
       aggregates = Sum ∷ Count ∷ Max ∷ [];
       having = conjuncts_of (equal_columns 4 1);
-    });
-  })
+    }));
+  }))
   pub names : (judged two_and_one).value.columns ≡ output (codes "K") Integer ∷ unnamed Integer ∷ unnamed Integer ∷ []
-  pub of_one_group : (judged counted).value.tree ≡ query.Select (record {
+  pub of_one_group : (judged counted).value.tree ≡ query.Select (roll-BoundSelect (record {
     items = bound.Column 0 0 ∷ [];
     from = from.Comma (table_at (codes "T")) ∷ [];
     conjuncts = [];
-    grouping = Some (record { keys = 0; parts = bound.Literal (Truth true) ∷ []; aggregates = Count ∷ []; having = [] });
-  })
+    grouping = Some (roll-BoundGrouping (record { keys = 0; parts = bound.Literal (Truth true) ∷ []; aggregates = Count ∷ []; having = [] }));
+  }))
   pub of_no_group : (judged once).value.tree ≡ bound_once
+
+-- ---- subqueries
+
+-- a query at a token
+abbrev pub query_at : ℕ → List Item → List From → Query
+query_at token is fs = Select (at token) is (froms fs) None
+
+pub record SubqueriesInExpressions : Type 0 where
+  pub two_columns : Only (select (item (Subquery (query_at 3 (item (name (codes "K") 4) ∷ item (name (codes "A") 6) ∷ []) (t ∷ []))) ∷ []) (t ∷ [])) WrongCount 3
+  pub two_columns_of_in : Only (select_where (item (number 1) ∷ []) (t ∷ []) (InQuery (at 71) false (number 70) (query_at 73 (item (name (codes "K") 4) ∷ item (name (codes "A") 6) ∷ []) (t ∷ [])))) WrongCount 73
+  pub two_columns_of_values : Only (select (item (Subquery (Values (at 3) (exprs (number 4 ∷ number 6 ∷ []) ∷ []))) ∷ []) (t ∷ [])) WrongCount 3
+  pub columns_of_exists : Free (select_where (item (number 1) ∷ []) (t ∷ []) (Exists (at 71) (query_at 73 (item (name (codes "K") 4) ∷ item (name (codes "A") 6) ∷ []) (t ∷ []))))
+  pub in_of_another_kind : Only (select_where (item (number 1) ∷ []) (t ∷ []) (InQuery (at 71) false (text 70) (query_at 73 (item (name (codes "K") 74) ∷ []) (t ∷ [])))) TypeMismatch 73
+  pub not_in_of_another_kind : Only (select_where (item (number 1) ∷ []) (t ∷ []) (InQuery (at 72) true (number 70) (query_at 73 (item (name (codes "B") 74) ∷ []) (s ∷ [])))) TypeMismatch 73
+  pub in_of_its_kind : Free (select_where (item (number 1) ∷ []) (t ∷ []) (InQuery (at 71) false (name (codes "A") 70) (query_at 73 (item (name (codes "K") 74) ∷ []) (t ∷ []))))
+  pub kind_of_its_column : Only (select (item (word Minus 1 (Subquery (query_at 3 (item (name (codes "B") 4) ∷ []) (s ∷ [])) ∷ [])) ∷ []) (t ∷ [])) TypeMismatch 3
+  pub exists_is_a_truth_value : Only (select (item (word Minus 1 (Exists (at 2) (query_at 4 (item (number 5) ∷ []) (s ∷ [])) ∷ [])) ∷ []) (t ∷ [])) TypeMismatch 2
+  pub in_is_a_truth_value : Only (select (item (word Minus 1 (InQuery (at 3) false (number 2) (query_at 5 (item (number 6) ∷ []) (s ∷ [])) ∷ [])) ∷ []) (t ∷ [])) TypeMismatch 3
+  pub fault_inside : Only (select (item (word Minus 1 (Subquery (query_at 3 (item (name (codes "Z") 4) ∷ []) (s ∷ [])) ∷ [])) ∷ []) (t ∷ [])) UnknownName 4
+  pub all_of_an_unknown_table : (judged (select (item (Subquery (query_at 3 (star 4 ∷ []) (Comma (table (codes "V") 60) ∷ []))) ∷ []) (t ∷ []))).faults ≡ fault UnknownName 60 ∷ fault WrongCount 3 ∷ []
+  pub column_of_an_unknown_table : Only (select (item (Subquery (query_at 3 (item (name (codes "Z") 4) ∷ []) (Comma (table (codes "V") 60) ∷ []))) ∷ []) (t ∷ [])) UnknownName 60
+  pub inner_item_hides : Only (select (item (Subquery (query_at 3 (item (qualified (codes "T") 4 (codes "B")) ∷ []) (Comma (aliased (codes "T") 60 (codes "T") 62) ∷ []))) ∷ []) (Comma (aliased (codes "S") 50 (codes "T") 52) ∷ [])) UnknownName 4
+  pub in_on : Free (select (item (number 1) ∷ []) (t ∷ Inner (table (codes "S") 60) (Exists (at 62) (query_at 64 (item (qualified (codes "T") 65 (codes "K")) ∷ []) (s ∷ []))) ∷ []))
+  pub later_item_in_on : Only (select (item (number 1) ∷ []) (t ∷ Inner (table (codes "S") 60) (Exists (at 62) (query_at 64 (item (qualified (codes "X") 65 (codes "A")) ∷ []) (s ∷ []))) ∷ Cross (aliased (codes "S") 80 (codes "X") 82) ∷ [])) UnknownName 65
+  pub column_of_the_group : Free (grouped (item (Subquery (query_at 3 (item (qualified (codes "T") 4 (codes "K")) ∷ []) (s ∷ []))) ∷ []) (t ∷ []) (by (codes "K") 80 ∷ []))
+  pub other_column_of_the_group : Only (grouped (item (Subquery (query_at 3 (item (qualified (codes "T") 4 (codes "A")) ∷ []) (s ∷ []))) ∷ []) (t ∷ []) (by (codes "K") 80 ∷ [])) NotPermitted 4
+  pub other_column_in_an_inner_aggregate : Only (grouped (item (Subquery (query_at 3 (item (aggregate Sum 4 (qualified (codes "T") 6 (codes "A"))) ∷ []) (s ∷ []))) ∷ []) (t ∷ []) (by (codes "K") 80 ∷ [])) NotPermitted 6
+  pub inside_an_aggregate : Free (grouped (item (aggregate Sum 1 (Subquery (query_at 3 (item (qualified (codes "T") 4 (codes "A")) ∷ []) (s ∷ [])))) ∷ []) (t ∷ []) (by (codes "K") 80 ∷ []))
+  pub other_column_in_having : Only (having_of (item (number 1) ∷ []) (t ∷ []) (by (codes "K") 80 ∷ []) (Exists (at 90) (query_at 92 (item (qualified (codes "T") 93 (codes "A")) ∷ []) (s ∷ [])))) NotPermitted 93
+  pub aggregate_of_the_subquery : Free (select (item (name (codes "K") 1) ∷ item (Subquery (query_at 3 (item (aggregate Sum 4 (name (codes "A") 6)) ∷ []) (s ∷ []))) ∷ []) (t ∷ []))
+  pub aggregate_in_its_where : Only (grouped (item (Exists (at 1) (select_where (item (number 4) ∷ []) (s ∷ []) (equal (aggregate Sum 5 (name (codes "A") 7)) 9 (number 10)))) ∷ []) (t ∷ []) (by (codes "K") 80 ∷ [])) NotPermitted 5
+  pub aggregate_in_its_values : Only (grouped (item (Subquery (Values (at 3) (exprs (aggregate Sum 4 (name (codes "K") 6) ∷ []) ∷ []))) ∷ []) (t ∷ []) (by (codes "K") 80 ∷ [])) NotPermitted 4
+  pub other_column_in_its_values : Only (grouped (item (Subquery (Values (at 3) (exprs (name (codes "A") 4 ∷ []) ∷ []))) ∷ []) (t ∷ []) (by (codes "K") 80 ∷ [])) NotPermitted 4
+
+-- SELECT (SELECT (SELECT T.A FROM S) FROM S) FROM T, and SELECT 1 FROM T WHERE T.A NOT IN (SELECT S.A FROM S WHERE EXISTS (VALUES (T.K)))
+abbrev pub two_queries_out : Query
+two_queries_out =
+    select (item (Subquery (query_at 3 (item (Subquery (query_at 5 (item (qualified (codes "T") 6 (codes "A")) ∷ []) (s ∷ []))) ∷ []) (s ∷ []))) ∷ []) (t ∷ [])
+
+abbrev pub members : Query
+members =
+    select_where (item (name (codes "K") 1) ∷ []) (t ∷ [])
+    (InQuery (at 72) true (qualified (codes "T") 68 (codes "A")) (Select (at 74) (item (qualified (codes "S") 75 (codes "A")) ∷ []) (froms (s ∷ [])) (Some (Exists (at 81) (Values (at 83) (exprs (qualified (codes "T") 84 (codes "K") ∷ []) ∷ []))))))
+
+-- a list over FROM one table, and a test
+abbrev pub bound_select : List ℕ → BoundExpr → List BoundExpr → BoundQuery
+bound_select n e conjuncts = query.Select (roll-BoundSelect (record { items = e ∷ []; from = from.Comma (table_at n) ∷ []; conjuncts = conjuncts; grouping = None }))
+
+pub record BindsByLevel : Type 0 where
+  pub two_out : (judged two_queries_out).value.tree
+      ≡ bound_select (codes "T") (bound.Single (bound_select (codes "S") (bound.Single (bound_select (codes "S") (bound.Column 2 1) [])) [])) []
+  pub of_members : (judged members).value.tree
+      ≡ bound_select (codes "T") (bound.Column 0 0)
+      (conjuncts_of (bound.Operation word_of.Opposite (bound.In (bound.Column 0 1) (bound_select (codes "S") (bound.Column 0 0) (conjuncts_of (bound.Exists (query.Values (row.Row (bound.Column 1 0 ∷ []) ∷ []))))) ∷ [])))
+  -- the tables in the order in which they are judged
+  pub uses : (judged members).uses ≡ codes "T" ∷ codes "S" ∷ []

@@ -1,8 +1,10 @@
-pub mod Names
-pub mod ValueRows
+pub mod Judges
 pub mod Lists
 pub mod From
+pub mod ValueRows
+pub mod Selects
 pub mod Queries
+pub mod Names
 pub mod Order
 pub mod Heights
 pub mod Binds

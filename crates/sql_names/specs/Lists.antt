@@ -1,8 +1,7 @@
 -- Select lists, and tests over rows. ISO/IEC 9075-2, 7.12 (where clause), 7.16 (query specification) and 9.2 (store assignment).
 use Rattle.std.specs.Prelude.{List, [], ◌++◌, Option, Some, None}
-use Rattle.syntax_trees.specs.declared.expr.Expr.{Expr}
-use Rattle.syntax_trees.specs.declared.query.SelectItem.{SelectItem}
-use Rattle.syntax_trees.specs.declared.query.SelectItem.TheVariants.{All, Value}
+use Rattle.syntax_trees.specs.declared.anchor.Anchor.{Anchor}
+use Rattle.syntax_trees.specs.declared.anchor.Ident.{Ident}
 use Rattle.bound_trees.specs.declared.expr.BoundExpr.{BoundExpr}
 use Rattle.name_faults.specs.Faults.{Noted, give, as_value}
 use Rattle.name_kinds.specs.declared.kind.Kind.{Kind}
@@ -13,26 +12,28 @@ use Rattle.names_in_sight.specs.Sight.{Seen}
 use Rattle.typed_parts.specs.declared.aggregates.Parts.{Parts}
 use Rattle.typed_parts.specs.declared.list.Outputs.{Outputs}
 use Rattle.typed_parts.specs.declared.typed.Typed.{Typed}
-use Rattle.typed_parts.specs.Lists.{no_outputs, with_output, star, own_name, titled}
+use Rattle.typed_parts.specs.Lists.{no_outputs, with_output, star, titled}
 use Rattle.typed_parts.specs.Turns.{each_noted}
 use Rattle.typed_parts.specs.Typed.{Beside, keeping, alone, no_parts}
-use Rattle.sql_names.specs.Names.{judge_behind}
+use Rattle.sql_names.specs.Judges.{Judge, Expression, JudgedItem, look}
 
 -- ---- items
 
-abbrev pub one_item : Seen → Outputs → SelectItem → Noted Outputs
-one_item seen so (All at) = star at seen.levels so
-one_item seen so (Value e alias) = as_value (with_output so (titled alias (own_name e))) (judge_behind e seen so.parts)
+abbrev pub all_item : Anchor → Seen → Outputs → Noted Outputs
+all_item at seen so = star at seen.levels so
 
-abbrev pub judged_items : Seen → Parts → List SelectItem → Noted Outputs
-judged_items seen parts items = each_noted (one_item seen) (no_outputs parts) items
+abbrev pub value_item : Expression → Option Ident → Seen → Outputs → Noted Outputs
+value_item e alias seen so = as_value (with_output so (titled alias e.name)) (look e.judge seen so.parts)
+
+abbrev pub judged_items : List JudgedItem → Parts → Seen → Noted Outputs
+judged_items items parts seen = each_noted (λ so i. i.judge seen so) (no_outputs parts) items
 
 -- the list, each of the kind of what it is stored into
 abbrev pub stored : List Kind → Noted Outputs → Noted Outputs
 stored targets so = record { value = so.value; faults = so.faults ++ in_turn targets so.value.heads; uses = so.uses }
 
-abbrev pub listed : List Kind → List SelectItem → Parts → Seen → Noted Outputs
-listed targets items parts seen = stored targets (judged_items seen parts items)
+abbrev pub listed : List Kind → List JudgedItem → Parts → Seen → Noted Outputs
+listed targets items parts seen = stored targets (judged_items items parts seen)
 
 -- ---- tests
 
@@ -44,14 +45,14 @@ tested t = record {
   uses = t.uses;
 }
 
-abbrev pub judged_test : Expr → Seen → Noted (List BoundExpr)
-judged_test e seen = alone (tested (judge_behind e seen no_parts))
+abbrev pub judged_test : Judge → Seen → Noted (List BoundExpr)
+judged_test j seen = alone (tested (look j seen no_parts))
 
-abbrev pub judged_filter : Option Expr → Seen → Noted (List BoundExpr)
+abbrev pub judged_filter : Option Expression → Seen → Noted (List BoundExpr)
 judged_filter None seen = give []
-judged_filter (Some e) seen = judged_test e seen
+judged_filter (Some e) seen = judged_test e.judge seen
 
 -- the condition of HAVING, behind the parts of the list
-abbrev pub judged_having : Option Expr → Seen → Parts → Noted (Beside (List BoundExpr))
+abbrev pub judged_having : Option Expression → Seen → Parts → Noted (Beside (List BoundExpr))
 judged_having None seen parts = keeping parts (give [])
-judged_having (Some e) seen parts = tested (judge_behind e seen parts)
+judged_having (Some e) seen parts = tested (look e.judge seen parts)

@@ -1,30 +1,37 @@
 -- The rows of VALUES, each judged with the kinds of those above. ISO/IEC 9075-2, 7.3 (table value constructor).
-use Rattle.std.specs.Prelude.{List, ◌++◌}
+use Rattle.std.specs.Prelude.{ℕ, List, [], ◌∷◌, ◌++◌, length}
 use Rattle.syntax_trees.specs.declared.anchor.Anchor.{Anchor}
-use Rattle.syntax_trees.specs.declared.query.Values.{Values}
-use Rattle.syntax_trees.specs.declared.query.ValueRow.{ValueRow}
-use Rattle.syntax_trees.specs.declared.query.ValueRow.TheVariants.{Row}
 use Rattle.name_faults.specs.Faults.{Noted, as_value}
 use Rattle.name_kinds.specs.declared.kind.Kind.{Kind}
-use Rattle.names_in_sight.specs.Sight.{Seen}
+use Rattle.names_in_sight.specs.Sight.{Seen, inside_values}
 use Rattle.typed_parts.specs.declared.typed.Operands.{Operands}
 use Rattle.typed_parts.specs.declared.typed.TypedQuery.{TypedQuery}
 use Rattle.typed_parts.specs.declared.values.TypedRows.{TypedRows}
 use Rattle.typed_parts.specs.Turns.{each_noted}
-use Rattle.typed_parts.specs.ValueRows.{row_faults, with_row, width_of, no_rows, values_typed}
-use Rattle.sql_names.specs.Names.{judge_all}
+use Rattle.typed_parts.specs.Typed.{alone, no_parts}
+use Rattle.typed_parts.specs.ValueRows.{row_faults, with_row, no_rows, values_typed}
+use Rattle.sql_names.specs.Judges.{JudgedRow, all_of}
 
 abbrev pub row_with : Anchor → List Kind → List Kind → Noted Operands → Noted Operands
 row_with at targets kinds so = record { value = so.value; faults = so.faults ++ row_faults at targets kinds so.value.heads; uses = so.uses }
 
-abbrev pub judged_row : Anchor → List Kind → Seen → List Kind → ValueRow → Noted Operands
-judged_row at targets seen kinds (Row es) = row_with at targets kinds (judge_all es seen)
+abbrev pub row_values : Seen → JudgedRow → Noted Operands
+row_values seen es = alone (all_of seen no_parts es)
 
-abbrev pub one_row : Anchor → List Kind → Seen → TypedRows → ValueRow → Noted TypedRows
+abbrev pub judged_row : Anchor → List Kind → Seen → List Kind → JudgedRow → Noted Operands
+judged_row at targets seen kinds es = row_with at targets kinds (row_values seen es)
+
+abbrev pub one_row : Anchor → List Kind → Seen → TypedRows → JudgedRow → Noted TypedRows
 one_row at targets seen so r = as_value (with_row so) (judged_row at targets seen so.kinds r)
 
-abbrev pub judged_rows : List Kind → Values → Seen → Noted TypedRows
-judged_rows targets v seen = each_noted (one_row v.anchor targets seen) (no_rows (width_of v.rows)) v.rows
+-- how many expressions the first row has
+abbrev pub width_of : List JudgedRow → ℕ
+width_of [] = 0
+width_of (r ∷ rs) = length r
 
-abbrev pub judged_values : List Kind → Values → Seen → Noted TypedQuery
-judged_values targets v seen = as_value (values_typed v.anchor) (judged_rows targets v seen)
+abbrev pub judged_rows : Anchor → List Kind → List JudgedRow → Seen → Noted TypedRows
+judged_rows at targets rows seen = each_noted (one_row at targets seen) (no_rows (width_of rows)) rows
+
+-- no aggregate stands in VALUES
+abbrev pub judged_values : Anchor → List JudgedRow → List Kind → Seen → Noted TypedQuery
+judged_values at rows targets seen = as_value (values_typed at) (judged_rows at targets rows (inside_values seen))

@@ -2,18 +2,15 @@
 //! with its names resolved.
 #![tactic(auto, using(name_faults::proofs::Laws::noted_append))]
 
-ghost use Rattle.sql_names.specs.Examples.{NamesInJoins, NamesOfDerivedTables, OrderByOutputColumns, BindsByPlaceInFrom, GroupedQueries, BindsByPlaceInGroup};
+ghost use Rattle.sql_names.specs.Examples.{NamesInJoins, NamesOfDerivedTables, OrderByOutputColumns, BindsByPlaceInFrom, GroupedQueries, BindsByPlaceInGroup, SubqueriesInExpressions, BindsByLevel};
 
-mod expr;
-mod from;
-mod list;
+mod bind;
+mod grouped;
 mod order;
-mod query;
-mod values;
+mod parts;
 
-pub use expr::bind_expr;
+pub use bind::{bind_expr, bind_typed};
 pub use order::{bind_ordered, bind_query};
-pub use query::bind_typed;
 
 /// Names over several items of FROM, in the list, in WHERE and in ON: each fault at its place.
 pub fn names_in_joins()
@@ -45,4 +42,14 @@ pub fn grouped_queries()
 /// its argument among the parts.
 pub fn binds_by_place_in_group()
     ensures { BindsByPlaceInGroup }
+{}
+
+/// What subqueries see, and what is asked of their columns: each fault at its place.
+pub fn subqueries_in_expressions()
+    ensures { SubqueriesInExpressions }
+{}
+
+/// A column of a query outside is bound by how many queries outwards it stands.
+pub fn binds_by_level()
+    ensures { BindsByLevel }
 {}

@@ -7,7 +7,7 @@ ghost use Rattle.sql_names.specs.Binds.{Binds, HasPlan};
 ghost use Rattle.sql_names.specs.Order as spec;
 ghost use Rattle.sql_names.specs.Queries.{judge_query};
 
-use crate::query::bind_typed;
+use crate::bind::bind_typed;
 use bound_trees::BoundQuery;
 use catalog_store::Catalog;
 use name_faults::{Fault, Notes};

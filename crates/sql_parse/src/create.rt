@@ -7,7 +7,8 @@ ghost use Rattle.sql_grammar.specs.Trees as trees;
 ghost use Rattle.sql_grammar.specs.Definitions as definitions;
 ghost use Rattle.sql_grammar.specs.Sql.{rules};
 
-use expr_parse::{ListItem, after, anchor_in, comma_list, data_type, ident};
+use expr_parse::{ListItem, anchor_in, comma_list, data_type, ident};
+use query_parse::after;
 use sql_lex::{Kind, Sign, Word};
 use sqlite_items::Items;
 use std::alloc::Global;

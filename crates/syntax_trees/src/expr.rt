@@ -1,6 +1,6 @@
 //! Expressions. What only has operands is one node, a word with its operands.
 
-use crate::{Anchor, ColumnName, DataType, Ident};
+use crate::{Anchor, ColumnName, DataType, Ident, Query};
 use sql_values::{Comparison, FoldKind, Operator, Text};
 use sqlite_items::{Boxed, Items};
 use std::mem::size_of;
@@ -91,6 +91,13 @@ pub enum Expr {
     /// A chain of operators, read from the left, with at least one. Its anchor is the first
     /// operator.
     Chain(Boxed<Expr>, Items<Link>),
+    /// A scalar subquery (7.19). Its anchor is the query's.
+    Subquery(Boxed<Query>),
+    /// EXISTS (8.10). Its anchor is the word.
+    Exists(Anchor, Boxed<Query>),
+    /// IN over a query (8.4), or NOT IN: whether NOT stands before it, the left side, and the query.
+    /// Its anchor is IN.
+    InQuery(Anchor, bool, Boxed<Expr>, Boxed<Query>),
 }
 
 /// An operator of a chain, and the operand after it.

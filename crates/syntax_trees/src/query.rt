@@ -4,7 +4,7 @@ use crate::{Anchor, ColumnName, Expr, Ident};
 use sqlite_items::{Boxed, Items};
 
 /// A query expression (ISO/IEC 9075-2, 7.17).
-#[cycle(query)]
+#[cycle(tree)]
 #[derive(Drop)]
 pub enum Query {
     Select(Select),
@@ -12,6 +12,7 @@ pub enum Query {
 }
 
 /// `VALUES rows` (ISO/IEC 9075-2, 7.3): one row or more.
+#[cycle(tree)]
 #[derive(Drop)]
 pub struct Values {
     /// The word VALUES.
@@ -20,6 +21,7 @@ pub struct Values {
 }
 
 /// A row of VALUES (ISO/IEC 9075-2, 7.1).
+#[cycle(tree)]
 #[derive(Drop)]
 pub enum ValueRow {
     /// Its values, of which there is at least one.
@@ -28,7 +30,7 @@ pub enum ValueRow {
 
 /// `SELECT items FROM tables [WHERE condition] [GROUP BY columns] [HAVING condition]` (ISO/IEC
 /// 9075-2, 7.16).
-#[cycle(query)]
+#[cycle(tree)]
 #[derive(Drop)]
 pub struct Select {
     /// The word SELECT.
@@ -46,6 +48,7 @@ pub struct Select {
 }
 
 /// An item of a select list (ISO/IEC 9075-2, 7.16).
+#[cycle(tree)]
 #[derive(Drop)]
 pub enum SelectItem {
     /// `*`, with its place.
@@ -55,7 +58,7 @@ pub enum SelectItem {
 }
 
 /// An item of FROM, and how it is joined to those before it (ISO/IEC 9075-2, 7.5 and 7.10).
-#[cycle(query)]
+#[cycle(tree)]
 #[derive(Drop)]
 pub enum FromItem {
     /// The first, or one after a comma.
@@ -69,7 +72,7 @@ pub enum FromItem {
 }
 
 /// A table reference (ISO/IEC 9075-2, 7.6).
-#[cycle(query)]
+#[cycle(tree)]
 #[derive(Drop)]
 pub enum TableRef {
     /// A table, and the name that is written for it.

@@ -55,8 +55,20 @@ called_as (Some alias) table = alias
 abbrev pub sourced : Ident → List Output → Bool → BoundSource → Sourced
 sourced i columns known source = record { name = i.name; at = i.anchor; columns = columns; known = known; source = source }
 
+-- a table that is known is used
+abbrev pub table_uses : List ℕ → Option RowType → List (List ℕ)
+table_uses name None = []
+table_uses name (Some t) = name ∷ []
+
+abbrev pub table_head : Ident → Option RowType → Noted (Unit {0})
+table_head i t = record { value = tt; faults = unknown_table i t; uses = table_uses i.name t }
+
 abbrev pub table_source : Ident → Option Ident → Option RowType → Noted Sourced
-table_source i alias t = unknown_table i t >> give (sourced (called_as alias i) (columns_of t) (is_some t) (source.Table i.name))
+table_source i alias t = record {
+  value = sourced (called_as alias i) (columns_of t) (is_some t) (source.Table i.name);
+  faults = unknown_table i t;
+  uses = table_uses i.name t;
+}
 
 -- by its name, among the tables of the catalog
 abbrev pub table_judge : Ident → Option Ident → Seen → Noted Sourced
@@ -112,15 +124,15 @@ with_from so f = record { items = so.items; first_item = so.first_item; base = s
 
 -- ON sees the items from the last comma up to its own, and the row of these
 abbrev pub on_level : Opened → Level
-on_level so = record { items = drop so.first_item so.items; base = so.base; keys = []; grouped = false }
+on_level so = record { items = drop so.first_item so.items; base = so.base; keys = []; grouped = false; aggregates = false }
 
 -- WHERE and GROUP BY see all items
 abbrev pub row_level : Opened → Level
-row_level so = record { items = so.items; base = 0; keys = []; grouped = false }
+row_level so = record { items = so.items; base = 0; keys = []; grouped = false; aggregates = false }
 
 -- and so do the list and HAVING; in a grouped query by its grouping columns
 abbrev pub list_level : Opened → List Key → Bool → Level
-list_level so keys grouped = record { items = so.items; base = 0; keys = keys; grouped = grouped }
+list_level so keys grouped = record { items = so.items; base = 0; keys = keys; grouped = grouped; aggregates = grouped }
 
 -- ---- one item more
 

@@ -1,13 +1,7 @@
 -- Whether a query is grouped, and its grouping columns. ISO/IEC 9075-2, 7.13 (group by clause), 7.14 (having clause) and 7.16 (query specification).
-use Rattle.std.specs.Prelude.{ℕ, Bool, true, false, ◌||◌, List, [], ◌∷◌, ◌++◌, Option, is_some}
-use Rattle.std.specs.List.{list_any}
+use Rattle.std.specs.Prelude.{ℕ, Bool, true, false, ◌||◌, List, [], ◌∷◌, ◌++◌}
 use Rattle.syntax_trees.specs.Columns.{anchor_of_column}
 use Rattle.syntax_trees.specs.declared.anchor.ColumnName.{ColumnName}
-use Rattle.syntax_trees.specs.declared.expr.Expr.{Expr, fold-Expr}
-use Rattle.syntax_trees.specs.declared.expr.Expr.TheOpen.{Expr-F, Link-F}
-use Rattle.syntax_trees.specs.declared.expr.Link.{Link, fold-Link}
-use Rattle.syntax_trees.specs.declared.query.SelectItem.{SelectItem}
-use Rattle.syntax_trees.specs.declared.query.SelectItem.TheVariants.{All, Value}
 use Rattle.name_faults.specs.Faults.{Noted, as_value}
 use Rattle.names_in_sight.specs.declared.sight.Found.{Found}
 use Rattle.names_in_sight.specs.Sight.{Seen, stands_for, key_of}
@@ -16,32 +10,6 @@ use Rattle.typed_parts.specs.declared.typed.Typed.{Typed}
 use Rattle.typed_parts.specs.Typed.{named}
 use Rattle.typed_parts.specs.Turns.{each_noted}
 
--- ---- aggregates that stand directly in an expression
-
-abbrev pub any_of : List Bool → Bool
-any_of bs = list_any (λ b. b) bs
-
-abbrev pub aggregate_step : Expr-F Bool Bool → Bool
-aggregate_step (Expr-F.Literal at l) = false
-aggregate_step (Expr-F.Name c) = false
-aggregate_step (Expr-F.Call i args) = any_of args
-aggregate_step (Expr-F.Operation at operation operands) = any_of operands
-aggregate_step (Expr-F.Aggregate at kind args) = true
-aggregate_step (Expr-F.Chain first links) = first || any_of links
-
-abbrev pub aggregate_of_link : Link-F Bool Bool → Bool
-aggregate_of_link l = l.operand
-
-abbrev pub has_aggregate : Expr → Bool
-has_aggregate = fold-Expr Bool Bool aggregate_step aggregate_of_link
-
-abbrev pub link_has_aggregate : Link → Bool
-link_has_aggregate = fold-Link Bool Bool aggregate_step aggregate_of_link
-
-abbrev pub item_has_aggregate : SelectItem → Bool
-item_has_aggregate (All at) = false
-item_has_aggregate (Value e alias) = has_aggregate e
-
 -- ---- grouped queries
 
 abbrev pub is_written : {A : Type 0} → List A → Bool
@@ -49,8 +17,8 @@ is_written [] = false
 is_written (x ∷ xs) = true
 
 -- by GROUP BY, by HAVING, or by an aggregate in the list
-abbrev pub is_grouped : List SelectItem → List ColumnName → Option Expr → Bool
-is_grouped items group_by having = is_written group_by || (is_some having || list_any item_has_aggregate items)
+abbrev pub is_grouped : Bool → List ColumnName → Bool → Bool
+is_grouped aggregates group_by having = is_written group_by || (having || aggregates)
 
 -- ---- grouping columns
 

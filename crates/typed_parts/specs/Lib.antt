@@ -6,3 +6,4 @@ pub mod Grouping
 pub mod From
 pub mod Selects
 pub mod Order
+pub mod Subqueries

@@ -2,8 +2,6 @@
 use Rattle.std.specs.Prelude.{ℕ, ◌+◌, ◌-◌, List, [], ◌∷◌, ◌++◌, Option, Some, None}
 use Rattle.syntax_trees.specs.declared.anchor.Anchor.{Anchor}
 use Rattle.syntax_trees.specs.declared.anchor.Ident.{Ident}
-use Rattle.syntax_trees.specs.declared.expr.Expr.{Expr, fold-Expr}
-use Rattle.syntax_trees.specs.declared.expr.Expr.TheOpen.{Expr-F, Link-F}
 use Rattle.name_faults.specs.Faults.{Noted, give, as_value}
 use Rattle.names_in_sight.specs.declared.item.Item.{Item}
 use Rattle.names_in_sight.specs.declared.output.Output.{Output}
@@ -61,17 +59,6 @@ star at [] so = give so
 star at (l ∷ ls) so = star_items at l so l.items
 
 -- ---- names
-
-abbrev pub name_step : Expr-F (Option (List ℕ)) (Option (List ℕ)) → Option (List ℕ)
-name_step (Expr-F.Name c) = Some c.name.name
-name_step _ = None
-
-abbrev pub no_name : Link-F (Option (List ℕ)) (Option (List ℕ)) → Option (List ℕ)
-no_name l = None
-
--- the name that an expression has by itself: a plain column has its own, also behind the name of its item
-abbrev pub own_name : Expr → Option (List ℕ)
-own_name = fold-Expr (Option (List ℕ)) (Option (List ℕ)) name_step no_name
 
 -- the name that is written, or its own
 abbrev pub titled : Option Ident → Option (List ℕ) → Option (List ℕ)

@@ -4,19 +4,20 @@ use Rattle.std.specs.Prelude.{ℕ, Bool, true, false, List, Option, Some, None}
 use Rattle.syntax_trees.specs.declared.anchor.Anchor.{Anchor}
 use Rattle.bound_trees.specs.declared.expr.BoundExpr.{BoundExpr}
 use Rattle.bound_trees.specs.declared.query.BoundFromItem.{BoundFromItem}
-use Rattle.bound_trees.specs.declared.query.BoundGrouping.{BoundGrouping}
+use Rattle.bound_trees.specs.declared.query.BoundGrouping.{BoundGrouping, roll-BoundGrouping}
 use Rattle.bound_trees.specs.declared.query.BoundQuery.TheVariants as bound
+use Rattle.bound_trees.specs.declared.query.BoundSelect.{roll-BoundSelect}
 use Rattle.typed_parts.specs.declared.aggregates.Parts.{Parts}
 use Rattle.typed_parts.specs.declared.select.Listed.{Listed}
 use Rattle.typed_parts.specs.declared.typed.TypedQuery.{TypedQuery}
 
 abbrev pub grouping_bound : Bool → ℕ → Parts → List BoundExpr → Option BoundGrouping
 grouping_bound false keys parts having = None
-grouping_bound true keys parts having = Some (record { keys = keys; parts = parts.trees; aggregates = parts.aggregates; having = having })
+grouping_bound true keys parts having = Some (roll-BoundGrouping (record { keys = keys; parts = parts.trees; aggregates = parts.aggregates; having = having }))
 
 abbrev pub select_typed : Anchor → List BoundFromItem → List BoundExpr → Bool → ℕ → Listed → TypedQuery
 select_typed at from conjuncts grouped keys l = record {
   at = at;
   columns = l.outputs.columns;
-  tree = bound.Select (record { items = l.outputs.trees; from = from; conjuncts = conjuncts; grouping = grouping_bound grouped keys l.outputs.parts l.having });
+  tree = bound.Select (roll-BoundSelect (record { items = l.outputs.trees; from = from; conjuncts = conjuncts; grouping = grouping_bound grouped keys l.outputs.parts l.having }));
 }

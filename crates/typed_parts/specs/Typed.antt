@@ -1,6 +1,6 @@
 -- Expressions whose names are resolved, with their kinds: what is made of operands, and what is asked of them. ISO/IEC 9075-2, 6.6 (identifier
 -- chain), 6.26 (value expression), 10.4 (routine invocation) and 10.9 (aggregate function).
-use Rattle.std.specs.Prelude.{ℕ, ◌==◌, Bool, true, not, List, [], ◌∷◌, ◌++◌, map, length, Option, Some, None}
+use Rattle.std.specs.Prelude.{ℕ, ◌==◌, Bool, true, not, List, [], ◌∷◌, ◌++◌, map, length, nat_lt, Option, Some, None}
 use Rattle.sql_values.specs.declared.fold.FoldKind.{FoldKind}
 use Rattle.syntax_trees.specs.declared.anchor.Anchor.{Anchor}
 use Rattle.syntax_trees.specs.declared.anchor.Ident.{Ident}
@@ -19,7 +19,7 @@ use Rattle.name_kinds.specs.declared.kind.Kind.TheVariants.{Null}
 use Rattle.name_kinds.specs.declared.kind.Head.{Head}
 use Rattle.name_kinds.specs.Kinds.{kind_of_type, kind_of_literal, head_of, settled, in_turn}
 use Rattle.name_kinds.specs.Operations.{asked, given}
-use Rattle.name_kinds.specs.Aggregates.{aggregate_given, argument_of}
+use Rattle.name_kinds.specs.Aggregates.{aggregate_asked, aggregate_given, argument_of}
 use Rattle.name_kinds.specs.Chains.{links_faults, kind_of_chain, chain_place}
 use Rattle.name_kinds.specs.Words.{value_of, missing, tree_of, chain_of}
 use Rattle.names_in_sight.specs.declared.sight.Found.{Found}
@@ -101,6 +101,10 @@ asked_by_chain operators places first so = links_faults (chain_place first.head.
 -- An aggregate becomes a column of its group's row: it stands where its argument does among the parts.
 abbrev pub aggregate_typed : Anchor → FoldKind → Parts → Operands → Typed
 aggregate_typed at kind parts so = with_kind (aggregate_given kind so.heads) at (bound.Column 0 (length parts.trees))
+
+-- it has one argument at most
+abbrev pub aggregate_faults : Anchor → FoldKind → List Head → List Fault
+aggregate_faults at kind hs = aggregate_asked kind hs ++ fault_if (nat_lt 1 (length hs)) WrongCount at
 
 -- one part more
 abbrev pub with_aggregate : FoldKind → Parts → Operands → Parts

@@ -1,10 +1,9 @@
 -- The rows of VALUES, and what is asked of each. ISO/IEC 9075-2, 7.3 (table value constructor) and 9.2 (store assignment).
 use Rattle.std.specs.Prelude.{ℕ, ◌==◌, not, List, [], ◌∷◌, ◌++◌, map, length, replicate, None}
 use Rattle.syntax_trees.specs.declared.anchor.Anchor.{Anchor}
-use Rattle.syntax_trees.specs.declared.query.ValueRow.{ValueRow}
-use Rattle.syntax_trees.specs.declared.query.ValueRow.TheVariants.{Row}
 use Rattle.bound_trees.specs.declared.expr.BoundExpr.{BoundExpr}
 use Rattle.bound_trees.specs.declared.query.BoundRow.{BoundRow}
+use Rattle.bound_trees.specs.declared.query.BoundRow.TheVariants.{Row}
 use Rattle.bound_trees.specs.declared.query.BoundQuery.TheVariants as bound
 use Rattle.name_faults.specs.declared.fault.Fault.{Fault}
 use Rattle.name_faults.specs.declared.fault.FaultKind.TheVariants.{WrongCount}
@@ -21,7 +20,7 @@ use Rattle.typed_parts.specs.declared.values.TypedRows.{TypedRows}
 -- ---- a row
 
 abbrev pub row_of : List BoundExpr → BoundRow
-row_of es = record { values = es }
+row_of es = Row es
 
 -- a row's first expression; a row without one has another token
 abbrev pub anchor_of_row : Anchor → List Head → Anchor
@@ -38,14 +37,6 @@ row_faults at targets kinds hs =
 -- one row more, whose kinds stand above those below it
 abbrev pub with_row : TypedRows → Operands → TypedRows
 with_row so o = record { kinds = joined_row so.kinds o.heads; rows = so.rows ++ row_of o.trees ∷ [] }
-
-abbrev pub length_of : ValueRow → ℕ
-length_of (Row es) = length es
-
--- how many expressions the first row has
-abbrev pub width_of : List ValueRow → ℕ
-width_of [] = 0
-width_of (r ∷ rs) = length_of r
 
 -- columns of which no value is known yet
 abbrev pub no_rows : ℕ → TypedRows

@@ -3,11 +3,10 @@
 ghost use Rattle.std.specs.Prelude.{◌≡◌, IfOk, OnOk};
 ghost use Rattle.name_faults.specs.Faults.{noted};
 ghost use Rattle.typed_parts.specs.Typed as spec;
-ghost use Rattle.name_kinds.specs.Aggregates.{aggregate_asked};
 
 use crate::typed::{Operands, Typed, with_kind};
 use bound_trees::BoundExpr;
-use name_faults::Fault;
+use name_faults::{Fault, FaultKind, note_if};
 use name_kinds::{aggregate_kind, argument_of, ask_aggregate};
 use sql_values::{FoldKind, NoMemory};
 use sqlite_items::Items;
@@ -53,10 +52,12 @@ pub fn aggregated(
 ) -> Result<Typed, NoMemory>
     ensures value { IfOk result (λ t. t ≡ spec.aggregate_typed at kind parts.old operands) }
     ensures parts { OnOk result (parts.new ≡ spec.with_aggregate kind parts.old operands) }
-    ensures faults { OnOk result (least.new ≡ noted least.old (aggregate_asked kind operands.heads)) }
+    ensures faults { OnOk result (least.new ≡ noted least.old (spec.aggregate_faults at kind operands.heads)) }
 {
     let Operands { heads, trees } = operands;
     ask_aggregate(kind, heads.as_slice(), least);
+    let several = heads.len() > 1;
+    note_if(several, FaultKind::WrongCount, at, least);
     let given = aggregate_kind(kind, heads.as_slice());
     let place = parts.trees.len();
     parts.trees.push(argument_of(trees))?;

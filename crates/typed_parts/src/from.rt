@@ -98,22 +98,40 @@ fn called_as<'a>(alias: &'a Option<Ident>, table: &'a Ident) -> &'a Ident
     }
 }
 
+// Whether a table is known, and that it is used.
+fn note_table(ident: &Ident, table: Option<&RowType>, notes: &mut Notes) -> Result<(), NoMemory>
+    ensures { OnOk result (notes.new ≡ taken notes.old (spec.table_head ident.now (option_copied table.entry))) }
+{
+    match table {
+        Some(_) => notes.add_use(&ident.name),
+        None => {
+            note_if(true, FaultKind::UnknownName, ident.anchor, &mut notes.least);
+            Ok(())
+        }
+    }
+}
+
 // A table, by the name that is written for it or its own. One that is not known has no column.
 fn table_source(
     alloc: Global,
     ident: &Ident,
     alias: &Option<Ident>,
     table: Option<&RowType>,
-    least: &mut Option<Fault>,
+    notes: &mut Notes,
 ) -> Result<Sourced, NoMemory>
     ensures value { IfOk result (λ s. s ≡ (spec.table_source ident.now alias.now (option_copied table.entry)).value) }
-    ensures faults { OnOk result (least.new ≡ noted least.old (spec.table_source ident.now alias.now (option_copied table.entry)).faults) }
+    ensures notes { OnOk result (notes.new ≡ taken notes.old (spec.table_source ident.now alias.now (option_copied table.entry))) }
 {
-    let known = table.is_some();
-    note_if(!known, FaultKind::UnknownName, ident.anchor, least);
+    note_table(ident, table, notes)?;
     let columns = columns_of(alloc, table)?;
     let source = BoundSource::Table(ident.name.copied()?);
-    sourced(alloc, called_as(alias, ident), columns, known, source)
+    sourced(
+        alloc,
+        called_as(alias, ident),
+        columns,
+        table.is_some(),
+        source,
+    )
 }
 
 /// A table of the catalog, by its name, perhaps under another. One that is not known has no column.
@@ -128,7 +146,7 @@ pub fn bind_table(
     ensures notes { OnOk result (notes.new ≡ taken notes.old (spec.table_judge ident.now alias.now (seen_by outside.now))) }
 {
     let table = table_named(&ident.name, outside.catalog);
-    table_source(alloc, ident, alias, table, &mut notes.least)
+    table_source(alloc, ident, alias, table, notes)
 }
 
 fn named_output(name: &Name, kind: Kind) -> Result<Output, NoMemory>
@@ -313,6 +331,7 @@ pub fn on_level<'a>(so: &'a Opened) -> Level<'a>
         base: so.base,
         keys: &[],
         grouped: false,
+        aggregates: false,
     }
 }
 
@@ -325,6 +344,7 @@ pub fn row_level<'a>(so: &'a Opened) -> Level<'a>
         base: 0,
         keys: &[],
         grouped: false,
+        aggregates: false,
     }
 }
 
@@ -337,5 +357,6 @@ pub fn list_level<'a>(so: &'a Opened, keys: &'a [Key], grouped: bool) -> Level<'
         base: 0,
         keys,
         grouped,
+        aggregates: grouped,
     }
 }

@@ -1,80 +1,27 @@
 //! Whether a query is grouped, and its grouping columns (ISO/IEC 9075-2, 7.13 and 7.16).
 
-ghost use Rattle.std.specs.Prelude.{◌≡◌, IfOk, OnOk, map};
-ghost use Rattle.std.specs.List.{list_any};
+ghost use Rattle.std.specs.Prelude.{◌≡◌, IfOk, OnOk};
 ghost use Rattle.name_faults.specs.Faults.{taken};
-ghost use Rattle.names_in_sight.specs.Sight.{seen_by};
+ghost use Rattle.names_in_sight.specs.Sight.{seen_by, inside};
+ghost use Rattle.typed_parts.specs.From.{row_level};
 ghost use Rattle.typed_parts.specs.Grouping as spec;
 
+use crate::from::Opened;
 use crate::parts::bind_found;
 use crate::typed::Typed;
 use bound_trees::BoundExpr;
 use name_faults::Notes;
-use names_in_sight::{Found, Key, Sight, key_of, stands_for};
+use names_in_sight::{Found, Key, Sight, entered, key_of, stands_for};
 use sql_values::{Name, NoMemory};
 use sqlite_items::Items;
 use std::alloc::Global;
-use syntax_trees::{ColumnName, Expr, Link, Select, SelectItem};
+use syntax_trees::ColumnName;
 
 /// The grouping columns so far: what each is to the query, and what it is bound to.
 #[derive(Drop)]
 pub struct Grouping {
     pub keys: Items<Key>,
     pub trees: Items<BoundExpr>,
-}
-
-// Whether an aggregate stands directly in an expression.
-#[cycle(aggregate)]
-fn has_aggregate(expr: &Expr) -> bool
-    ensures { result ≡ spec.has_aggregate expr.now }
-{
-    match expr {
-        Expr::Literal(_, _) => false,
-        Expr::Name(_) => false,
-        Expr::Call(_, args) => any_has(args.as_slice()),
-        Expr::Operation(_, _, operands) => any_has(operands.as_slice()),
-        Expr::Aggregate(_, _, _) => true,
-        Expr::Chain(first, links) => has_aggregate(first.get()) || any_link_has(links.as_slice()),
-    }
-}
-
-#[cycle(aggregate)]
-fn any_has(exprs: &[Expr]) -> bool
-    ensures { result ≡ spec.any_of (map spec.has_aggregate exprs.now) }
-{
-    for expr in exprs {
-        if has_aggregate(expr) {
-            return true;
-        }
-    }
-    false
-}
-
-#[cycle(aggregate)]
-fn any_link_has(links: &[Link]) -> bool
-    ensures { result ≡ spec.any_of (map (λ l. spec.has_aggregate l.operand) links.now) }
-{
-    for link in links {
-        if has_aggregate(&link.operand) {
-            return true;
-        }
-    }
-    false
-}
-
-fn item_has_aggregate(item: &SelectItem) -> bool
-    ensures { result ≡ spec.item_has_aggregate item.now }
-{
-    match item {
-        SelectItem::All(_) => false,
-        SelectItem::Value(expr, _) => has_aggregate(expr),
-    }
-}
-
-fn any_item_has(items: &[SelectItem]) -> bool
-    ensures { result ≡ list_any spec.item_has_aggregate items.now }
-{
-    items.iter().any(|item| item_has_aggregate(item))
 }
 
 fn is_written(columns: &[ColumnName]) -> bool
@@ -87,12 +34,10 @@ fn is_written(columns: &[ColumnName]) -> bool
 }
 
 /// Whether a query is grouped: by GROUP BY, by HAVING, or by an aggregate in its list.
-pub fn is_grouped(select: &Select) -> bool
-    ensures { result ≡ spec.is_grouped select.now.items select.now.group_by select.now.having }
+pub fn is_grouped(aggregates: bool, columns: &[ColumnName], having: bool) -> bool
+    ensures { result ≡ spec.is_grouped aggregates columns.now having }
 {
-    is_written(select.group_by.as_slice())
-        || select.having.is_some()
-        || any_item_has(select.items.as_slice())
+    is_written(columns) || having || aggregates
 }
 
 fn no_grouping(alloc: Global) -> Grouping
@@ -127,8 +72,8 @@ fn bind_key(
     add_key(so, found, &column.name.name, typed)
 }
 
-/// The grouping columns, over FROM's row.
-pub fn bind_grouping(
+// The grouping columns, over FROM's row.
+fn bind_grouping(
     alloc: Global,
     columns: &[ColumnName],
     sight: &Sight<'_>,
@@ -142,4 +87,24 @@ pub fn bind_grouping(
         bind_key(column, sight, &mut so, notes)?;
     }
     Ok(so)
+}
+
+/// The grouping columns, with the columns of FROM in sight.
+pub fn bind_row_grouping(
+    alloc: Global,
+    columns: &[ColumnName],
+    opened: &Opened,
+    outside: &Sight<'_>,
+    notes: &mut Notes,
+) -> Result<Grouping, NoMemory>
+    ensures value { IfOk result (λ g. g ≡ (spec.grouping_of columns.now (inside (row_level opened.now) (seen_by outside.now))).value) }
+    ensures notes { OnOk result (notes.new ≡ taken notes.old (spec.grouping_of columns.now (inside (row_level opened.now) (seen_by outside.now)))) }
+{
+    let levels = entered(alloc, crate::from::row_level(opened), outside.levels)?;
+    let sight = Sight {
+        levels: levels.as_slice(),
+        variables: outside.variables,
+        catalog: outside.catalog,
+    };
+    bind_grouping(alloc, columns, &sight, notes)
 }

@@ -10,6 +10,7 @@ mod list;
 mod order;
 mod parts;
 mod select;
+mod subquery;
 mod typed;
 mod values;
 
@@ -19,10 +20,11 @@ pub use from::{
     Opened, add_from, add_item, bind_table, derived_source, list_level, note_repeated,
     nothing_open, on_level, put_comma, put_cross, row_level, table_named,
 };
-pub use grouping::{Grouping, bind_grouping, is_grouped};
-pub use list::{Outputs, add_output, no_outputs, star, title};
+pub use grouping::{Grouping, bind_row_grouping, is_grouped};
+pub use list::{Outputs, add_output, no_outputs, star};
 pub use order::ordered_by;
 pub use parts::{bind_found, called, chained, function_named, literal, note_call, operated};
 pub use select::{Listed, Rowed, select_typed};
+pub use subquery::{exists, member, single};
 pub use typed::{Operands, Sourced, Typed, TypedQuery, add_operand, no_operands, settle};
-pub use values::{TypedRows, add_row, ask_row, no_rows, values_typed, width_of};
+pub use values::{TypedRows, add_row, ask_row, no_rows, values_typed};

@@ -15,7 +15,7 @@ use names_in_sight::{Item, Level, Output, column_of, copied};
 use sql_values::{Name, NoMemory};
 use sqlite_items::Items;
 use std::alloc::Global;
-use syntax_trees::{Anchor, Expr, Ident};
+use syntax_trees::Anchor;
 
 /// The output columns so far, what is known of each, and what it is bound to, and the parts of the
 /// group so far.
@@ -126,26 +126,5 @@ pub fn star(
     match levels {
         [level, ..] => star_items(at, level, so, notes),
         [] => Ok(()),
-    }
-}
-
-// The name that an expression has by itself.
-fn own_name(expr: &Expr) -> Result<Option<Name>, NoMemory>
-    ensures { IfOk result (λ n. n ≡ spec.own_name expr.now) }
-{
-    match expr {
-        Expr::Name(column) => Ok(Some(column.name.name.copied()?)),
-        Expr::Literal(_, _) | Expr::Call(_, _) | Expr::Aggregate(_, _, _) => Ok(None),
-        Expr::Operation(_, _, _) | Expr::Chain(_, _) => Ok(None),
-    }
-}
-
-/// The name that is written, or its own.
-pub fn title(alias: &Option<Ident>, expr: &Expr) -> Result<Option<Name>, NoMemory>
-    ensures { IfOk result (λ n. n ≡ spec.titled alias.now (spec.own_name expr.now)) }
-{
-    match alias {
-        Some(ident) => Ok(Some(ident.name.copied()?)),
-        None => own_name(expr),
     }
 }

@@ -12,7 +12,7 @@ use names_in_sight::Output;
 use sql_values::NoMemory;
 use sqlite_items::Items;
 use std::alloc::Global;
-use syntax_trees::{Anchor, ValueRow};
+use syntax_trees::Anchor;
 
 /// The rows so far, and the kinds of their columns.
 #[derive(Drop)]
@@ -54,26 +54,8 @@ pub fn add_row(so: &mut TypedRows, row: Operands) -> Result<(), NoMemory>
     ensures { OnOk result (so.new ≡ spec.with_row so.old row) }
 {
     join_row(&mut so.kinds, row.heads.as_slice());
-    so.rows.push(BoundRow { values: row.trees })?;
+    so.rows.push(BoundRow::Row(row.trees))?;
     Ok(())
-}
-
-fn length_of(row: &ValueRow) -> usize
-    ensures { result ≡ spec.length_of row.now }
-{
-    match row {
-        ValueRow::Row(exprs) => exprs.len(),
-    }
-}
-
-/// How many expressions the first row has.
-pub fn width_of(rows: &[ValueRow]) -> usize
-    ensures { result ≡ spec.width_of rows.now }
-{
-    match rows {
-        [first, ..] => length_of(first),
-        [] => 0,
-    }
 }
 
 /// Columns of which no value is known yet.

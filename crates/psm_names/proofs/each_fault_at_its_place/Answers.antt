@@ -4,7 +4,8 @@ use Rattle.sql_values.specs.declared.fold.FoldKind.TheVariants.{Sum, Max}
 use Rattle.name_faults.specs.Faults.{Noted, least}
 use Rattle.psm_names.specs.declared.statement.BoundStmt.{BoundStmt}
 use Rattle.sql_names.specs.Examples.{null, number, name, call, aggregate}
-use Rattle.psm_names.specs.Examples.{integer, new_parameter}
+use Rattle.sql_names.specs.Written.{Subquery}
+use Rattle.psm_names.specs.Examples.{integer, new_parameter, select_of}
 use Rattle.psm_names.proofs.Rows.{select-row, values-row, insert-row, function-row}
 use Rattle.psm_names.proofs.each_fault_at_its_place.Goals as goal
 
@@ -34,5 +35,7 @@ returns c = record {
   length_of_a_column = refl;
   aggregate_in_a_result = ap (λ (x : Noted BoundStmt). least x.faults) (function-row (codes "G") [] (integer 8) (aggregate Sum 10 (number 12)));
   aggregate_in_a_row = ap (λ (x : Noted BoundStmt). least x.faults) (insert-row (codes "T") ((null 5 ∷ aggregate Max 7 (number 9) ∷ []) ∷ []));
+  unknown_table_in_a_subquery = ap (λ (x : Noted BoundStmt). least x.faults) (function-row (codes "G") [] (integer 8) (Subquery (select_of (codes "U") (null 12 ∷ []) None)));
+  parameter_in_a_subquery = ap (λ (x : Noted BoundStmt). x.faults) (function-row (codes "G") (new_parameter (codes "X") 4 (integer 5) ∷ []) (integer 8) (Subquery (select_of (codes "T") (name (codes "X") 12 ∷ []) None)));
   free = refl;
 }

@@ -1,10 +1,18 @@
-//! A statement of each kind, and what a database is made of. Each statement may find no memory
-//! once: it changes nothing then, and is done again.
+//! A statement of each kind, a prepared query, and what a database is made of. Each statement may
+//! find no memory once: it changes nothing then, and is done again.
 
-use crate::{Database, run_next};
+ghost use Rattle.std.specs.Prelude.{◌≡◌};
+
+use crate::{Answer, Database, Prepared, run_next};
+use psm_names::{BoundStmt, bind_statement};
+use row_types::Steps;
 use sql_lex::tokens;
+use sql_parse::parse_statement;
 use sql_values::NoMemory;
 use std::alloc::Global;
+use std::marker::Brand;
+use std::mem::drop;
+use std::sync::ledger::{Blank, Ledger};
 use std::test::Fail;
 
 // Whether a script of one statement has this reply.
@@ -72,6 +80,89 @@ fn each_kind_of_statement(rt: HostRuntime) -> Result<(), Fail> {
     for (script, reply) in rows {
         assert_eq!(rt; replies_in_the_end(alloc, script, reply, &mut db), true);
     }
+    Ok(())
+}
+
+// The query of a script, prepared.
+fn prepared(alloc: Global, script: &[u8], db: &Database) -> Result<Option<Prepared>, NoMemory> {
+    let list = tokens(alloc, script)?;
+    let Ok((stmt, _)) = parse_statement(alloc, &list, 0) else {
+        return Ok(None);
+    };
+    let bound = bind_statement(alloc, &stmt, &db.catalog);
+    drop(stmt);
+    match bound {
+        Ok(BoundStmt::Query(query)) => Ok(Some(db.prepare(&query)?)),
+        _ => Ok(None),
+    }
+}
+
+// How many rows a prepared query has, and none where it raises.
+fn rows_of<L: Ledger>(
+    blank: Blank,
+    prepared: &Prepared,
+    db: &Database,
+) -> Result<Option<usize>, NoMemory>
+    requires name { blank.name ≡ L.name }
+    requires parts { blank.parts ≡ L.parts }
+    requires some { blank.parts ≡ 1 }
+{
+    let (book, share) = blank.open();
+    let mut steps = Steps::<L>::new(book, share);
+    match db.run_prepared(prepared, &mut steps)? {
+        Answer::Rows(rows) => Ok(Some(rows.len())),
+        Answer::Raised(_) => Ok(None),
+    }
+}
+
+fn rows_now(prepared: &Prepared, db: &Database) -> Result<Option<usize>, NoMemory> {
+    rows_of::<Brand>(Blank::new(1), prepared, db)
+}
+
+// Whether a query that is prepared once has one row, then two, and then raises.
+fn reads_the_tables_anew(alloc: Global) -> Result<bool, NoMemory> {
+    let mut db = Database::new(alloc);
+    let made = replies(
+        alloc,
+        b"CREATE TABLE t (k INTEGER PRIMARY KEY);",
+        b"00000\n",
+        &mut db,
+    )?;
+    let one = replies(
+        alloc,
+        b"INSERT INTO t VALUES (1);",
+        b"00000 rows 1\n",
+        &mut db,
+    )?;
+    let Some(query) = prepared(alloc, b"SELECT 100 / k FROM t;", &db)? else {
+        return Ok(false);
+    };
+    let few = rows_now(&query, &db)?;
+    let two = replies(
+        alloc,
+        b"INSERT INTO t VALUES (2);",
+        b"00000 rows 1\n",
+        &mut db,
+    )?;
+    let more = rows_now(&query, &db)?;
+    let zero = replies(
+        alloc,
+        b"INSERT INTO t VALUES (0);",
+        b"00000 rows 1\n",
+        &mut db,
+    )?;
+    let raised = rows_now(&query, &db)?;
+    Ok(made && one && two && zero && few == Some(1) && more == Some(2) && raised.is_none())
+}
+
+#[test]
+fn a_prepared_query_reads_the_tables_of_the_moment(rt: HostRuntime) -> Result<(), Fail> {
+    let alloc = rt.alloc();
+    let anew = match reads_the_tables_anew(alloc) {
+        Ok(anew) => anew,
+        Err(NoMemory) => reads_the_tables_anew(alloc) == Ok(true),
+    };
+    assert_eq!(rt; anew, true);
     Ok(())
 }
 

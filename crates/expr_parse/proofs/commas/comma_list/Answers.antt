@@ -4,7 +4,7 @@ use Rattle.token_grammar.specs.Grammar.{many}
 use Rattle.token_grammar.specs.Notation.{sign, ◌~>◌}
 use Rattle.sql_grammar.specs.Sql as g
 use Rattle.token_grammar.proofs.Laws.{after_step, after_smaller, after_err}
-use Rattle.expr_parse.proofs.Begun.{after_first}
+use Rattle.expr_parse.proofs.FirstItem.{after_first}
 use Rattle.expr_parse.proofs.commas.comma_list.Goals as goal
 
 pub more-init : goal.more-init

@@ -1,18 +1,22 @@
-use Rattle.std.proofs.Common.{ℕ, subst, refl}
+use Rattle.std.proofs.Common.{ℕ, subst}
 use Rattle.rel_algebra.specs.Merged.{moved}
 use Rattle.rel_algebra.specs.PlanView.{scalar_of}
 use Rattle.expr_plan.specs.Emission.{Emits}
 use Rattle.expr_plan.specs.Merging.{move_of}
-use Rattle.expr_plan.proofs.Moving.{merging_next, no_other, merging_done}
-use Rattle.expr_plan.proofs.Running.{no_run}
+use Rattle.expr_plan.proofs.Moving.{merging_next, node_adds, merging_done}
 use Rattle.expr_plan.proofs.merge.merge.Goals as goal
+
+pub merge_node-requires : goal.merge_node-requires
+merge_node-requires c =
+    node_adds (move_of (record { by = c.columns.result; from = c.args.first })) c.args.plan.now.nodes c.loop-node.node-index c.node-item.result
+    c.args.draft.now c.loop-node.draft (rw c.as_slice-node-items.ensures at c.loop-node-test.true) (rw c.as_slice-node-items.ensures at c.node-item.is) c.requires
+    c.loop-node.invariant
 
 pub loop-node-preserved : goal.loop-node-preserved
 loop-node-preserved c =
-    merging_next (move_of (record { by = c.columns.result; from = c.args.first })) c.args.plan.now.nodes c.loop-node.node-index c.node-item.result c.in-Extend.scalars
-    c.in_ok-scalars-in-Extend.scalars c.args.draft.now c.loop-node.draft c.extend.new.self (rw c.as_slice-node-items.ensures at c.loop-node-test.true)
-    (rw c.as_slice-node-items.ensures at c.node-item.is) c.in-Extend.is (rw c.as_slice.ensures at c.in_ok-scalars-in-Extend.ensures) c.in_ok-extend-in-Extend.ensures.tree
-    c.in_ok-extend-in-Extend.ensures.width c.loop-node.invariant
+    merging_next (move_of (record { by = c.columns.result; from = c.args.first })) c.args.plan.now.nodes c.loop-node.node-index c.node-item.result
+    c.args.draft.now c.loop-node.draft c.merge_node.new.draft (rw c.as_slice-node-items.ensures at c.loop-node-test.true)
+    (rw c.as_slice-node-items.ensures at c.node-item.is) c.in_ok-merge_node.ensures c.loop-node.invariant
 
 pub returns : goal.returns
 returns c = λ e is.
@@ -20,9 +24,3 @@ returns c = λ e is.
     (merging_done (move_of (record { by = c.columns.result; from = c.args.first })) c.args.plan.now.nodes c.loop-node.node-index c.args.draft.now c.loop-node.draft
     (scalar_of c.in_ok-moved_scalar.field-0) e (rw c.as_slice-node-items.ensures at c.loop-node-test.false) c.loop-node.invariant is.nodes
     (rw is.scalar at c.in_ok-moved_scalar.ensures))
-
-pub unreachable-requires : goal.unreachable-requires
-unreachable-requires c =
-    no_other (move_of (record { by = c.columns.result; from = c.args.first })) c.args.plan.now.nodes c.loop-node.node-index c.node-item.result c.node-item.result
-    c.args.draft.now c.loop-node.draft (rw c.as_slice-node-items.ensures at c.loop-node-test.true) (rw c.as_slice-node-items.ensures at c.node-item.is) refl c.requires
-    c.loop-node.invariant (λ others. no_run c.node-item.result others c.in_default.not-Extend)

@@ -1,3 +1,4 @@
+use Rattle.std.proofs.Common.{length, refl}
 use Rattle.psm_interp.proofs.Counted.{select_counted, first_counted, none_counted, ordered_counted}
 use Rattle.psm_interp.proofs.widths.+query_width.Goals as goal
 
@@ -6,7 +7,7 @@ returns-in-Select t c = λ known tables. select_counted known tables c.args.quer
 
 pub returns-in-Some : goal.returns-in-Some
 returns-in-Some t c = λ known tables.
-    first_counted known tables c.args.query.now c.in-Values.rows c.in-Some.row.now c.len-in-Some.result c.in-Values.is c.in-Some.ensures.value c.len-in-Some.ensures
+    first_counted known tables c.args.query.now c.in-Values.rows c.in-Some.row.now c.values_in.result.now (length c.values_in.result.now) c.in-Values.is c.in-Some.ensures.value (c.values_in.ensures known) refl
 
 pub returns-in-None : goal.returns-in-None
 returns-in-None t c = λ known tables. none_counted known tables c.args.query.now c.in-Values.rows c.in-Values.is c.in-None.ensures.value

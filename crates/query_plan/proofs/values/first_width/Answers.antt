@@ -1,6 +1,6 @@
-use Rattle.std.proofs.Common.{sym, ◌∙◌}
+use Rattle.std.proofs.Common.{sym}
 use Rattle.query_plan.proofs.Queries.{width_first}
 use Rattle.query_plan.proofs.values.first_width.Goals as goal
 
 pub returns-in-Some : goal.returns-in-Some
-returns-in-Some c = λ k. c.len.ensures ∙ sym (width_first k c.args.rows.now c.in-Some.row.now c.in-Some.ensures.value)
+returns-in-Some c = λ k. sym (width_first k c.args.rows.now c.in-Some.row.now c.values_in.result.now c.in-Some.ensures.value (c.values_in.ensures k))

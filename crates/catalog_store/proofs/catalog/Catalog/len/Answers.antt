@@ -15,4 +15,4 @@ returns-clause-names c =
     subst (λ (k : Catalog). IsDistinct bytes_eq (names_of k)) c.self.view_is (all_distinct [] c.self.inside.objects.entries c.self.invariant none_alike)
 
 pub returns-clause-planned : goal.returns-clause-planned
-returns-clause-planned c = subst AllPlanned c.self.view_is (all_planned [] c.self.inside.objects.entries (λ name. refl))
+returns-clause-planned c = subst AllPlanned c.self.view_is (all_planned [] c.self.inside.objects.entries (λ name. refl) c.self.invariant)

@@ -1,0 +1,208 @@
+-- Expressions without faults, of each form: what is noted is what the bound tree uses, and it has a plan.
+use Rattle.std.proofs.Common.{◌≡◌, refl, sym, ap, ap₂, ◌∙◌, subst, arith, ℕ, suc, Bool, true, false, not, nat_lt, List, [], ◌∷◌, ◌++◌, map, length, Option, Some, None}
+use Rattle.std.proofs.lemmas.List.{length-map, append-nil}
+use Rattle.std.proofs.lemmas.Bool.Decides.{nat_tests}
+use Rattle.sql_values.specs.declared.fold.FoldKind.{FoldKind}
+use Rattle.sql_values.specs.declared.value.Value.TheVariants.{Null, Bool as Truth}
+use Rattle.syntax_trees.specs.declared.anchor.Anchor.{Anchor}
+use Rattle.syntax_trees.specs.declared.anchor.Ident.{Ident}
+use Rattle.syntax_trees.specs.declared.expr.ChainOperator.{ChainOperator}
+use Rattle.syntax_trees.specs.declared.expr.Operation.{Operation}
+use Rattle.bound_trees.specs.declared.expr.BoundExpr.{BoundExpr}
+use Rattle.bound_trees.specs.declared.expr.BoundExpr.TheVariants as bound
+use Rattle.rel_algebra.specs.Plain.{planned_routine}
+use Rattle.catalog_store.specs.Catalog.{Function, Object, TableObject, FunctionObject, Catalog, object_named, routine_named}
+use Rattle.catalog_store.specs.Planning.{AllPlanned}
+use Rattle.catalog_store.specs.Uses.{uses_in}
+use Rattle.catalog_store.specs.declared.entry.Head.{Head}
+use Rattle.name_faults.specs.declared.fault.Fault.{Fault}
+use Rattle.name_faults.specs.declared.fault.FaultKind.TheVariants.{NotPermitted, WrongCount}
+use Rattle.name_faults.specs.Faults.{Noted, fault_if}
+use Rattle.name_kinds.specs.Aggregates.{aggregate_asked, argument_of}
+use Rattle.name_kinds.specs.declared.kind.Kind.{Kind}
+use Rattle.names_in_sight.specs.declared.sight.Found.{Found}
+use Rattle.names_in_sight.specs.declared.sight.Found.TheVariants.{Column, Guessed, Variable, Barred, Several, Unknown}
+use Rattle.names_in_sight.specs.Sight.{Level, Seen, may_stand, ungrouped, inside_aggregate}
+use Rattle.typed_parts.specs.declared.aggregates.Parts.{Parts}
+use Rattle.typed_parts.specs.declared.typed.Operands.{Operands}
+use Rattle.typed_parts.specs.declared.typed.Typed.{Typed}
+use Rattle.typed_parts.specs.declared.typed.TypedQuery.{TypedQuery}
+use Rattle.typed_parts.specs.Typed.{Beside, no_parts, named, asked_of, asked_by_chain, call_faults, argument_faults, aggregate_faults, head_in, head_named, with_aggregate}
+use Rattle.typed_parts.specs.Subqueries.{width_faults, member_faults}
+use Rattle.sql_names.specs.Judges.{Expression, JudgedLink, QueryJudge, Judge, look, all_of, operators, places, operands, called, judge_call, judge_operation, judge_aggregate, judge_chain, judge_single, judge_exists, judge_member}
+use Rattle.sql_names.proofs.Sets.{Names, front_nil, back_nil, no_fault, equal}
+use Rattle.sql_names.proofs.Marks.{Mark, ◌⊕◌, Stands, Covers, covers-as, covers-nothing, Grows, grows-nothing, grows-as, grows-then, grown-alone, right-nothing, marks-one, mark, marks, Alike, alike-is, alike-then, alike-same, alike-both, alike-self}
+use Rattle.sql_names.proofs.Bound.{literal-covers, column-covers, variable-covers, alike-operation, alike-chain, call-mark, alike-call, query-mark, alike-single, alike-exists, alike-member}
+
+module _ (known : Catalog) (planned : AllPlanned known) where
+  -- what an expression makes of a sight of this catalog, where it makes no fault
+  abbrev pub Fitting : Judge → Type 0
+  Fitting j = (s : Seen) (p : Parts) → s.catalog ≡ known → (j s p).faults ≡ [] → Grows known s p (j s p).value.parts (j s p).uses (mark known (j s p).value.value.tree)
+
+  abbrev pub AllFitting : List Expression → Type 0
+  AllFitting [] = Unit {0}
+  AllFitting (e ∷ es) = Fitting e.judge × AllFitting es
+
+  abbrev pub QueryFits : QueryJudge → Type 0
+  QueryFits j = (targets : List Kind) (s : Seen) → s.catalog ≡ known → (j targets s).faults ≡ [] → Covers known (j targets s).uses (query-mark known (j targets s).value.tree)
+
+  -- ---- operands
+
+  pub all-grow : (es : List Expression) (s : Seen) (p : Parts) → AllFitting es → s.catalog ≡ known → (all_of s p es).faults ≡ []
+      → Grows known s p (all_of s p es).value.parts (all_of s p es).uses (marks known (all_of s p es).value.value.trees)
+  all-grow [] s p fs is e = grows-nothing known s p [] (marks known []) (covers-nothing known)
+  all-grow (x ∷ es) s p fs is e =
+      let one = x.judge s p in
+      let rest = all_of s one.value.parts es in
+      grows-then known s p one.value.parts rest.value.parts one.uses rest.uses (mark known one.value.value.tree) (marks known rest.value.value.trees)
+      (fs.0 s p is (front_nil one.faults rest.faults e)) (all-grow es s one.value.parts fs.1 is (back_nil one.faults rest.faults e))
+
+  pub all-length : (s : Seen) (p : Parts) (es : List Expression) → length (all_of s p es).value.value.trees ≡ length es
+  all-length s p [] = refl
+  all-length s p (e ∷ es) = ap (λ n. suc n) (all-length s (e.judge s p).value.parts es)
+
+  pub as-many : (s : Seen) (p : Parts) (es : List Expression) → length (all_of s p es).value.value.trees ≡ length (all_of s p es).value.value.heads
+  as-many s p [] = refl
+  as-many s p (e ∷ es) = ap (λ n. suc n) (as-many s (e.judge s p).value.parts es)
+
+  -- ---- names
+
+  pub named-covers : (at : Anchor) (found : Found) → (named at found).faults ≡ [] → Covers known (named at found).uses (mark known (named at found).value.tree)
+  named-covers at (Column level place kind) p = column-covers known level place
+  named-covers at (Guessed level item) p = literal-covers known Null
+  named-covers at (Variable place kind) p = variable-covers known place
+  named-covers at Barred p = absurd cc
+  named-covers at Several p = absurd cc
+  named-covers at Unknown p = absurd cc
+
+  -- ---- words
+
+  pub operation-fits : (at : Anchor) (operation : Operation) (es : List Expression) → AllFitting es → Fitting (judge_operation at operation es)
+  operation-fits at operation es fs s p is e =
+      let so = all_of s p es in
+      grows-as known s p so.value.parts so.uses (marks known so.value.value.trees) _ (all-grow es s p fs is (front_nil so.faults (asked_of operation so.value.value) e))
+      (alike-operation known operation so.value.value.trees)
+
+  pub chain-fits : (first : Expression) (links : List JudgedLink) → Fitting first.judge → AllFitting (operands links) → Fitting (judge_chain first links)
+  chain-fits first links f fs s p is e =
+      let one = first.judge s p in
+      let rest = all_of s one.value.parts (operands links) in
+      let asked = asked_by_chain (operators links) (places links) (look first.judge s p).value.value rest.value.value in
+      let later = back_nil one.faults (rest.faults ++ asked) e in
+      let many : length (operators links) ≡ length rest.value.value.trees =
+      length-map links (λ (l : JudgedLink). l.operator) ∙ sym (length-map links (λ (l : JudgedLink). l.operand)) ∙ sym (all-length s one.value.parts (operands links)) in
+      grows-as known s p rest.value.parts (one.uses ++ rest.uses) (mark known one.value.value.tree ⊕ marks known rest.value.value.trees) _
+      (grows-then known s p one.value.parts rest.value.parts one.uses rest.uses (mark known one.value.value.tree) (marks known rest.value.value.trees)
+      (f s p is (front_nil one.faults (rest.faults ++ asked) e)) (all-grow (operands links) s one.value.parts fs is (front_nil rest.faults asked later)))
+      (alike-chain known one.value.value.tree (operators links) rest.value.value.trees many)
+
+  -- ---- calls
+
+  stands : (name : List ℕ) (h : Head) (o : Option Object) → object_named name known ≡ o → head_in o ≡ Some h
+      → (f : Function) × (object_named name known ≡ Some (FunctionObject f)) × (length f.parameters ≡ length h.parameters)
+  stands name h None is p = absurd cc
+  stands name h (Some (TableObject t)) is p = absurd cc
+  stands name h (Some (FunctionObject f)) is p = let same : f.parameters ≡ h.parameters = cc in (f, is, ap (λ ps. length ps) same)
+
+  call-covers : (name : List ℕ) (h : Head) (arguments : ℕ) → head_named name known ≡ Some h → arguments ≡ length h.parameters → Covers known (name ∷ []) (call-mark known name arguments)
+  call-covers name h arguments p n =
+      let f = stands name h (object_named name known) refl p in
+      (((f.0, f.1, f.2 ∙ sym n), tt), planned name, λ other. refl)
+
+  called-fits : (i : Ident) (es : List Expression) (s : Seen) (p : Parts) (f : Option Head) → AllFitting es → s.catalog ≡ known → head_named i.name s.catalog ≡ f
+      → (called i (length es) f (all_of s p es)).faults ≡ []
+      → Grows known s p (called i (length es) f (all_of s p es)).value.parts (called i (length es) f (all_of s p es)).uses (mark known (called i (length es) f (all_of s p es)).value.value.tree)
+  called-fits i es s p None fs is at e = absurd cc
+  called-fits i es s p (Some h) fs is at e =
+      let args = all_of s p es in
+      let trees = args.value.value.trees in
+      let faults = call_faults i.anchor (length es) (Some h) in
+      let asked = argument_faults (Some h) args.value.value.heads in
+      let same : length es ≡ length h.parameters = equal (length es) (length h.parameters) (no_fault _ _ i.anchor (front_nil faults (args.faults ++ asked) e)) in
+      let count : length (map uses_in trees) ≡ length h.parameters = length-map trees uses_in ∙ all-length s p es ∙ same in
+      let call = call-mark known i.name (length (map uses_in trees)) in
+      grows-as known s p args.value.parts (i.name ∷ args.uses) (call ⊕ marks known trees) _
+      (grows-then known s p p args.value.parts (i.name ∷ []) args.uses call (marks known trees)
+      (grows-nothing known s p (i.name ∷ []) call (call-covers i.name h (length (map uses_in trees)) (sym (ap (head_named i.name) is) ∙ at) count))
+      (all-grow es s p fs is (front_nil args.faults asked (back_nil faults (args.faults ++ asked) e))))
+      (alike-call known i.name trees)
+
+  pub call-fits : (i : Ident) (es : List Expression) → AllFitting es → Fitting (judge_call i es)
+  call-fits i es fs s p is e = called-fits i es s p (head_named i.name s.catalog) fs is refl e
+
+  -- ---- aggregates
+
+  never : (ls : List Level) → may_stand (ungrouped ls) ≡ false
+  never [] = refl
+  never (l ∷ ls) = refl
+
+  several : (n : ℕ) → nat_lt 1 (suc (suc n)) ≡ false → ⊥
+  several n p = grind (arith, nat_tests)
+
+  alike-argument : (so : Operands) → length so.trees ≡ length so.heads → nat_lt 1 (length so.heads) ≡ false → Alike known (marks known so.trees) (marks known (argument_of so.trees ∷ []))
+  alike-argument so n p = of-trees so.trees (ap (nat_lt 1) n ∙ p)
+    where
+      of-trees : (es : List BoundExpr) → nat_lt 1 (length es) ≡ false → Alike known (marks known es) (marks known (argument_of es ∷ []))
+      of-trees [] q =
+          let c = literal-covers known (Truth true) in
+          alike-then known (marks known []) (mark known (bound.Literal (Truth true))) (marks known (bound.Literal (Truth true) ∷ []))
+          ((λ x. c.0), (λ x. c.1), c.2) (alike-is known (mark known (bound.Literal (Truth true))) (marks known (bound.Literal (Truth true) ∷ [])) (marks-one known (bound.Literal (Truth true))))
+      of-trees (e ∷ []) q = alike-self known (marks known (e ∷ []))
+      of-trees (e ∷ d ∷ es) q = absurd (several (length es) q)
+
+  pub aggregate-fits : (at : Anchor) (kind : FoldKind) (es : List Expression) → AllFitting es → Fitting (judge_aggregate at kind es)
+  aggregate-fits at kind es fs s p is e =
+      let inner = inside_aggregate s in
+      let so = all_of inner no_parts es in
+      let asked = aggregate_asked kind so.value.value.heads in
+      let many = fault_if (nat_lt 1 (length so.value.value.heads)) WrongCount at in
+      let bar = fault_if (not (may_stand s.levels)) NotPermitted at in
+      let behind = back_nil bar (so.faults ++ (asked ++ many)) e in
+      let covers = grown-alone known inner no_parts so.value.parts so.uses (marks known so.value.value.trees) (never s.levels) (all-grow es inner no_parts fs is (front_nil so.faults (asked ++ many) behind)) in
+      let one = no_fault (nat_lt 1 (length so.value.value.heads)) WrongCount at (back_nil asked many (back_nil so.faults (asked ++ many) behind)) in
+      let may = no_fault (not (may_stand s.levels)) NotPermitted at (front_nil bar (so.faults ++ (asked ++ many)) e) in
+      let argument = argument_of so.value.value.trees in
+      let column = bound.Column 0 (length p.trees) in
+      let c = column-covers known 0 (length p.trees) in (
+        argument ∷ [],
+        refl,
+        covers-as known so.uses (marks known so.value.value.trees) (marks known (argument ∷ []) ⊕ mark known column) covers
+            (alike-then known (marks known so.value.value.trees) (marks known (argument ∷ [])) (marks known (argument ∷ []) ⊕ mark known column)
+            (alike-argument so.value.value (as-many inner no_parts es) one) (with-nothing (marks known (argument ∷ [])) (mark known column) c)),
+        λ m. absurd (barred (may_stand s.levels) m may),
+      )
+    where
+      barred : (may : Bool) → may ≡ false → not may ≡ false → ⊥
+      barred true m n = cc
+      barred false m n = cc
+
+      with-nothing : (a b : Mark) → Covers known [] b → Alike known a (a ⊕ b)
+      with-nothing a b c =
+          alike-then known a (a ⊕ marks known []) (a ⊕ b) (alike-is known a (a ⊕ marks known []) (right-nothing known a))
+          (alike-both known a a (marks known []) b (alike-self known a) ((λ x. c.0), (λ x. c.1), c.2))
+
+  -- ---- subqueries
+
+  pub single-fits : (query : QueryJudge) → QueryFits query → Fitting (judge_single query)
+  single-fits query f s p is e =
+      let q = query [] s in
+      grows-nothing known s p q.uses (mark known (bound.Single q.value.tree))
+      (covers-as known q.uses (query-mark known q.value.tree) (mark known (bound.Single q.value.tree)) (f [] s is (front_nil q.faults (width_faults q.value) e)) (alike-single known q.value.tree))
+
+  pub exists-fits : (at : Anchor) (query : QueryJudge) → QueryFits query → Fitting (judge_exists at query)
+  exists-fits at query f s p is e =
+      let q = query [] s in
+      grows-nothing known s p q.uses (mark known (bound.Exists q.value.tree))
+      (covers-as known q.uses (query-mark known q.value.tree) (mark known (bound.Exists q.value.tree)) (f [] s is e) (alike-exists known q.value.tree))
+
+  pub member-fits : (at : Anchor) (negated : Bool) (left : Expression) (query : QueryJudge) → Fitting left.judge → QueryFits query → Fitting (judge_member at negated left query)
+  member-fits at negated left query f g s p is e =
+      let one = left.judge s p in
+      let q = query [] s in
+      let asked = member_faults (look left.judge s p).value.value q.value in
+      let later = back_nil one.faults (q.faults ++ asked) e in
+      grows-as known s p one.value.parts (one.uses ++ q.uses) (mark known one.value.value.tree ⊕ query-mark known q.value.tree) _
+      (grows-then known s p one.value.parts one.value.parts one.uses q.uses (mark known one.value.value.tree) (query-mark known q.value.tree)
+      (f s p is (front_nil one.faults (q.faults ++ asked) e))
+      (grows-nothing known s one.value.parts q.uses (query-mark known q.value.tree) (g [] s is (front_nil q.faults asked later))))
+      (alike-member known negated one.value.value.tree q.value.tree)

@@ -1,0 +1,14 @@
+use Rattle.std.proofs.Common.{ap, []}
+use Rattle.name_faults.specs.Faults.{Noted}
+use Rattle.names_in_sight.specs.Sight.{at_top}
+use Rattle.typed_parts.specs.declared.typed.TypedQuery.{TypedQuery}
+use Rattle.sql_names.specs.Examples.{catalog, two_queries_out, members}
+use Rattle.sql_names.proofs.Rows.{query_plain}
+use Rattle.sql_names.proofs.binds_by_level.Goals as goal
+
+pub returns : goal.returns
+returns c = record {
+  two_out = ap (λ (x : Noted TypedQuery). x.value.tree) (query_plain two_queries_out [] (at_top catalog));
+  of_members = ap (λ (x : Noted TypedQuery). x.value.tree) (query_plain members [] (at_top catalog));
+  uses = ap (λ (x : Noted TypedQuery). x.uses) (query_plain members [] (at_top catalog));
+}
