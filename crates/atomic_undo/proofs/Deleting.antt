@@ -1,41 +1,24 @@
 -- Rows that go out, the last first.
-use Rattle.std.proofs.Common.{ℕ, suc, ◌≡◌, ◌<◌, ◌≤◌, ◌+◌, List, [], ◌∷◌, ◌++◌, refl, sym, ap, ◌∙◌, subst, arith, length, slice_index, get_or, insert, remove, Ok, IsTrue, true}
+use Rattle.std.proofs.Common.{ℕ, ◌≡◌, ◌<◌, ◌≤◌, ◌+◌, List, [], ◌∷◌, ◌++◌, refl, sym, ap, ◌∙◌, subst, arith, length, slice_index, get_or, insert, remove, Ok, IsTrue, true}
+use Rattle.std.proofs.lemmas.List.{length-map}
 use Rattle.std.proofs.lemmas.List.Edits.{length-remove}
 use Rattle.row_types.specs.Ordered.{in_order, rises}
 use Rattle.row_types.specs.Rows.{Row, by_key, well_kept}
 use Rattle.row_types.specs.Tables.{Table, Tables, table_at, with_rows, with_rows_at}
-use Rattle.table_store.specs.Kept.{IsKept}
+use Rattle.table_store.specs.declared.placed_row.PlacedRow.{PlacedRow}
+use Rattle.table_store.specs.Places.{all_placed_at, places_of, inserted_all}
+use Rattle.table_store.specs.Kept.{Kept, IsKept, CanInsertAll, holding}
 use Rattle.table_store.specs.Memory.{Memory, kept_at, NoLess}
 use Rattle.row_types.proofs.Laws.{by_key_total}
 use Rattle.row_types.proofs.Laws.{in_order-rises, first_repeat-rises, insert-remove}
-use Rattle.table_store.proofs.Laws.{kept_rises, well_kept-remove}
+use Rattle.table_store.proofs.Laws.{kept_rises, well_kept-remove, well_kept-removed_all, Climb-last, Climb-front, Climb-more, removed_all-append, inserted-removed, places_of-placed, length-removed_all}
 use Rattle.atomic_undo.specs.declared.log.Edit.{Edit}
-use Rattle.atomic_undo.specs.declared.log.Edit.TheVariants.{Removed}
+use Rattle.atomic_undo.specs.declared.log.Edit.TheVariants.{Removed, RemovedAll}
 use Rattle.atomic_undo.specs.Undo.{rows_before, CanUndo}
 use Rattle.atomic_undo.specs.Changes.{order_in, rows_in, removed_all, Climb, Going_out, IsAnswer}
 use Rattle.atomic_undo.proofs.Places.{rows_at-rows_at, rows_at-same, no_less-trans}
 use Rattle.atomic_undo.proofs.TakingBack.{CanUndo-push, more_undo, rows_before-append}
 use Rattle.atomic_undo.proofs.Steps.{table_after, there_after}
-
-pub removed_all-append : (ps qs : List ℕ) (rows : List Row) → removed_all (ps ++ qs) rows ≡ removed_all ps (removed_all qs rows)
-removed_all-append [] qs rows = refl
-removed_all-append (p ∷ ps) qs rows = ap (λ (xs : List Row). remove xs p) (removed_all-append ps qs rows)
-
-pub Climb-last : (low : ℕ) (ps : List ℕ) (p high : ℕ) → Climb low (ps ++ p ∷ []) high → p < high
-Climb-last low [] p high h = h.1
-Climb-last low (q ∷ qs) p high h = Climb-last (suc q) qs p high h.2
-
-low_last : (low : ℕ) (ps : List ℕ) (p high : ℕ) → Climb low (ps ++ p ∷ []) high → low ≤ p
-low_last low [] p high h = h.0
-low_last low (q ∷ qs) p high h = let a : low ≤ q = h.0 in let b : suc q ≤ p = low_last (suc q) qs p high h.2 in omega arith
-
-pub Climb-front : (low : ℕ) (ps : List ℕ) (p high : ℕ) → Climb low (ps ++ p ∷ []) high → Climb low ps p
-Climb-front low [] p high h = tt
-Climb-front low (q ∷ qs) p high h = (h.0, (let b : suc q ≤ p = low_last (suc q) qs p high h.2 in omega arith), Climb-front (suc q) qs p high h.2)
-
-pub Climb-more : (low : ℕ) (ps : List ℕ) (m n : ℕ) → m ≤ n → Climb low ps m → Climb low ps n
-Climb-more low [] m n l h = tt
-Climb-more low (q ∷ qs) m n l h = (h.0, (let b : q < m = h.1 in omega arith), Climb-more (suc q) qs m n l h.2)
 
 module _ (m : Memory) (t : ℕ) (l0 : t < length m.tables) (places : List ℕ) (before : List Edit) where
   pub none_out : Climb 0 places (length (rows_in m.tables t)) → CanUndo (kept_at m t) before → IsKept (kept_at m t) → Going_out m m t places places before before
@@ -85,6 +68,44 @@ module _ (m : Memory) (t : ℕ) (l0 : t < length m.tables) (places : List ℕ) (
         climb = subst (λ (x : Table). Climb 0 rest (length x.rows)) (sym now) (Climb-more 0 rest at (length fewer) (omega arith) (Climb-front 0 rest at (length rows) climb));
         kept = subst (λ (x : Table). IsKept record { table = x; capacity = slice_index n'.capacities t }) (sym now) record { memory = omega arith; rows = well };
         capacities = no_less-trans m.capacities n.capacities n'.capacities g.capacities c;
+      }
+
+  -- all in one pass
+  pub went_at_once : (n : Memory) (removed : List PlacedRow) (es : List Edit) → Climb 0 places (length (rows_in m.tables t)) → CanUndo (kept_at m t) before → IsKept (kept_at m t)
+      → removed ≡ all_placed_at places (rows_in m.tables t) → n.tables ≡ with_rows_at t (removed_all places (rows_in m.tables t)) m.tables → NoLess m.capacities n.capacities → es ≡ before ++ RemovedAll removed ∷ []
+      → Going_out m n t places [] before es
+  went_at_once n removed es p can k r e c is =
+      let rows = rows_in m.tables t in
+      let old = table_at m.tables t in
+      let fewer = removed_all places rows in
+      let capacity = slice_index n.capacities t in
+      let now : table_at n.tables t ≡ with_rows fewer old = table_after t fewer m.tables n.tables e l0 in
+      let more : slice_index m.capacities t ≤ capacity = c t in
+      let short : length fewer + length places ≡ length rows = length-removed_all 0 places rows p in
+      let memory = k.memory in
+      let well = well_kept-removed_all old.columns old.key places rows k.rows in
+      let again : inserted_all removed fewer ≡ rows = ap (λ (qs : List PlacedRow). inserted_all qs fewer) r ∙ inserted-removed 0 places rows p in
+      let same : places_of removed ≡ places = ap places_of r ∙ places_of-placed places rows in
+      let many : length removed ≡ length places = sym (length-map removed (λ (q : PlacedRow). q.at)) ∙ ap (λ (ps : List ℕ). length ps) same in
+      let high : length rows ≡ length fewer + length removed = omega arith in
+      let after : Kept = record { table = with_rows fewer old; capacity = capacity } in
+      let brings : CanInsertAll after removed = record {
+        climb = subst (λ (ps : List ℕ). Climb 0 ps (length fewer + length removed)) (sym same) (subst (λ i. Climb 0 places i) high p);
+        room = omega arith;
+        kept = subst (λ (xs : List Row). IsTrue (well_kept old.columns old.key xs)) (sym again) k.rows;
+      } in
+      let first : CanUndo (holding (inserted_all removed fewer) after) before =
+      subst (λ (xs : List Row). CanUndo record { table = with_rows xs old; capacity = capacity } before) (sym again) (more_undo old (slice_index m.capacities t) capacity before more can) in
+      record {
+        tables = e ∙ ap (λ (x : Table). with_rows_at t x.rows m.tables) (sym now);
+        there = there_after t fewer m.tables n.tables e l0;
+        rows = ap (λ (x : Table). x.rows) now;
+        can = subst (λ (x : Table). CanUndo record { table = x; capacity = capacity } es) (sym now)
+            (subst (λ (fs : List Edit). CanUndo after fs) (sym is) (CanUndo-push after before (RemovedAll removed) first brings));
+        back = ap (λ (x : Table). rows_before es x.rows) now ∙ ap (λ (fs : List Edit). rows_before fs fewer) is ∙ rows_before-append before (RemovedAll removed ∷ []) fewer ∙ ap (rows_before before) again;
+        climb = tt;
+        kept = subst (λ (x : Table). IsKept record { table = x; capacity = capacity }) (sym now) record { memory = omega arith; rows = well };
+        capacities = c;
       }
 
   pub all_out : (n : Memory) (es : List Edit) → before ≡ [] → Going_out m n t places [] before es → IsAnswer m n t (removed_all places (rows_in m.tables t)) (Ok es)

@@ -13,3 +13,4 @@ pub mod Abbreviated
 pub mod Placing
 pub mod Climbing
 pub mod After
+pub mod Merging

@@ -1,7 +1,6 @@
 -- The old rows went out and the new ones in.
-use Rattle.std.proofs.Common.{Bool, ℕ, suc, ◌≡◌, ◌<◌, ◌≤◌, ◌+◌, ◌-◌, remove, List, [], ◌∷◌, refl, sym, ap, ◌∙◌, subst, arith, length, take, slice_index, Ok, Err, Option, Some, None, true}
-use Rattle.std.proofs.lemmas.List.{take_all}
-use Rattle.std.proofs.lemmas.List.Edits.{length-remove}
+use Rattle.std.proofs.Common.{◌++◌, Ordering, false, Bool, ℕ, ◌≡◌, ◌<◌, ◌≤◌, ◌+◌, List, [], ◌∷◌, refl, sym, ap, ◌∙◌, subst, arith, length, take, slice_index, Ok, Err, Option, Some, None, true}
+use Rattle.std.proofs.lemmas.List.{take_all, drop_all}
 use Rattle.std.specs.List.{list_all}
 use Rattle.row_types.specs.Ordered.{in_order, put_all, first_repeat, first_repeat_after, rises}
 use Rattle.row_types.specs.declared.ColumnType.{ColumnType}
@@ -10,33 +9,20 @@ use Rattle.row_types.specs.Tables.{Table, Tables, table_at, with_rows, with_rows
 use Rattle.table_store.specs.Kept.{Kept, IsKept}
 use Rattle.table_store.specs.Memory.{Memory, kept_at, with_one_more, NoLess}
 use Rattle.row_types.proofs.Laws.{by_key_total}
-use Rattle.row_types.proofs.Laws.{in_order-rises, repeat_none-rises, rises_from_none, all-set}
-use Rattle.table_store.proofs.Laws.{kept_rises}
+use Rattle.row_types.proofs.Laws.{in_order-rises, in_order-append, first_repeat-append, repeat_none-rises, rises_from_none, all-set}
+use Rattle.table_store.proofs.Laws.{kept_rises, length-removed_all}
 use Rattle.std.proofs.lemmas.Bool.{and_parts}
 use Rattle.atomic_undo.specs.declared.log.Edit.{Edit}
 use Rattle.atomic_undo.specs.declared.fault.ApplyFault.{ApplyFault}
 use Rattle.atomic_undo.specs.declared.fault.ApplyFault.TheVariants.{Constraint, NoMemory}
 use Rattle.atomic_undo.specs.Undo.{undo_entry, rows_before}
-use Rattle.atomic_undo.specs.Changes.{order_in, rows_in, removed_all, set_all, Climb, Going, Going_out, WentIn, Unchanged, IsAnswer, IsJudged}
+use Rattle.std.specs.Cmp.{IsTotalOrder}
+use Rattle.atomic_undo.specs.Sorting.{PutAlike}
+use Rattle.atomic_undo.specs.Changes.{order_in, rows_in, removed_all, set_all, Climb, Going, Going_out, WentIn, Refused, NotIn, GoesIn, Unchanged, IsAnswer, IsJudged}
 use Rattle.atomic_undo.proofs.Places.{rows_at-rows_at, rows_at-same, no_less-trans}
 use Rattle.atomic_undo.proofs.Steps.{table_after, there_after}
-use Rattle.atomic_undo.proofs.Inserting.{back_out}
+use Rattle.atomic_undo.proofs.Inserting.{back_out, none_yet}
 use Rattle.atomic_undo.proofs.Rekeying.{update_order, update_order_back}
-
-climbs : (low : ℕ) (ps : List ℕ) (high : ℕ) → Climb low ps high → length ps ≤ high - low
-climbs low [] high c = omega arith
-climbs low (p ∷ ps) high c =
-    let a : low ≤ p = c.0 in let b : p < high = c.1 in let d : length ps ≤ high - suc p = climbs (suc p) ps high c.2 in omega arith
-
-length-removed_all : (low : ℕ) (ps : List ℕ) (rows : List Row) → Climb low ps (length rows) → length (removed_all ps rows) + length ps ≡ length rows
-length-removed_all low [] rows c = omega arith
-length-removed_all low (p ∷ ps) rows c =
-    let b : p < length rows = c.1 in
-    let d : length ps ≤ length rows - suc p = climbs (suc p) ps (length rows) c.2 in
-    let e : length (removed_all ps rows) + length ps ≡ length rows = length-removed_all (suc p) ps rows c.2 in
-    let f : p < length (removed_all ps rows) = omega arith in
-    let h : length (remove (removed_all ps rows) p) + 1 ≡ length (removed_all ps rows) = length-remove (removed_all ps rows) p f in
-    omega arith
 
 module _ (m n q : Memory) (t : ℕ) (l : t < length m.tables) (places : List ℕ) (new : List Row) (out es : List Edit) (g : Going_out m n t places [] [] out) where
   now : table_at n.tables t ≡ with_rows (rows_in n.tables t) (table_at m.tables t)
@@ -91,10 +77,17 @@ module _ (m n q : Memory) (t : ℕ) (l : t < length m.tables) (places : List ℕ
         capacities = no_less-trans m.capacities n.capacities p.capacities g.capacities b.1;
       }
 
+-- none of the new ones went in
+pub none_rekeyed : (m n q : Memory) (t : ℕ) (places : List ℕ) (new : List Row) (out es : List Edit) → Going_out m n t places [] [] out → q ≡ n → es ≡ out → length (rows_in n.tables t) + length new ≤ slice_index n.capacities t
+    → Going n q t new 0 out es
+none_rekeyed m n q t places new out es g e f room =
+    subst (λ (x : Memory). Going n x t new 0 out es) (sym e) (subst (λ (xs : List Edit). Going n n t new 0 out xs) (sym f) (none_yet n t new out g.there room g.can))
+
 -- a refusal has a cause in the result
-pub refused_for : (m n q : Memory) (t : ℕ) → t < length m.tables → (places : List ℕ) (new : List Row) (before out es : List Edit) (i : ℕ) → before ≡ [] → Going_out m n t places [] before out
-    → WentIn n q t new out es (Some i) → Climb 0 places (length (rows_in m.tables t)) → length places ≡ length new → first_repeat (order_in m.tables t) (set_all places new (rows_in m.tables t)) ≡ None → ⊥
-refused_for m n q t l places new before out es i b g w c e h =
+pub refused_for : (m n : Memory) (t : ℕ) → t < length m.tables → (places : List ℕ) (new : List Row) (out : List Edit) → Going_out m n t places [] [] out
+    → (first_repeat_after (order_in n.tables t) (rows_in n.tables t) new ≡ None → ⊥) → Climb 0 places (length (rows_in m.tables t)) → length places ≡ length new
+    → first_repeat (order_in m.tables t) (set_all places new (rows_in m.tables t)) ≡ None → ⊥
+refused_for m n t l places new out g w c e h =
     let R = order_in m.tables t in
     let o = by_key_total (table_at m.tables t).key in
     let rest = removed_all places (rows_in m.tables t) in
@@ -106,9 +99,7 @@ refused_for m n q t l places new before out es i b g w c e h =
     let none : first_repeat_after R rest new ≡ None = repeat_none-rises R o rest new into in
     let told : first_repeat_after (order_in n.tables t) (rows_in n.tables t) new ≡ first_repeat_after R rest new =
     ap (λ r. first_repeat_after r (rows_in n.tables t) new) same_order ∙ ap (λ (xs : List Row). first_repeat_after R xs new) g.rows in
-    let some = w.1 in
-    let both : Some (length (rows_in n.tables t) + i) ≡ None = sym some ∙ told ∙ none in
-    cc
+    w (told ∙ none)
 
 pub refused_at : (m p : Memory) (t : ℕ) (k : Kept) (places ps : List ℕ) (new rs : List Row) → Unchanged m p → k ≡ kept_at p t → ps ≡ places → rs ≡ new
     → (first_repeat (order_in m.tables t) (set_all places new (rows_in m.tables t)) ≡ None → ⊥) → first_repeat (by_key k.table.key) (set_all ps rs k.table.rows) ≡ None → ⊥
@@ -122,11 +113,61 @@ pub judged_answer : (m p : Memory) (t : ℕ) (rows : List Row) (f : ApplyFault) 
 judged_answer m p t rows (Constraint at) u j = (u, j)
 judged_answer m p t rows NoMemory u j = u
 
-pub went_there : (n q : Memory) (t : ℕ) (new : List Row) (out es : List Edit) (r : Option ℕ) → WentIn n q t new out es r → t < length n.tables → t < length q.tables
-went_there n q t new out es None w l =
-    there_after t (put_all (order_in n.tables t) (rows_in n.tables t) (take (length new) new)) n.tables q.tables (w.0).tables l
-went_there n q t new out es (Some i) w l =
-    there_after t (put_all (order_in n.tables t) (rows_in n.tables t) (take i new)) n.tables q.tables (w.0).tables l
+pub went_there : (n q : Memory) (t : ℕ) (new : List Row) (out es : List Edit) (all : Bool) → GoesIn n q t new out es all → t < length n.tables → t < length q.tables
+went_there n q t new out es true w l = there_after t (put_all (order_in n.tables t) (rows_in n.tables t) (take (length new) new)) n.tables q.tables (w.0).tables l
+went_there n q t new out es false w l =
+    there_after t (put_all (order_in n.tables t) (rows_in n.tables t) (take w.stored w.others)) n.tables q.tables w.going.tables l
+
+-- rows in another order go in as these do
+module _ (n q : Memory) (t : ℕ) (xs ys : List Row) (before es : List Edit) (k : IsKept (kept_at n t)) (a : PutAlike (order_in n.tables t) (rows_in n.tables t) xs ys) (e : length xs ≡ length ys) where
+  abbrev R : Row → Row → Ordering
+  R = order_in n.tables t
+
+  abbrev rows : List Row
+  rows = rows_in n.tables t
+
+  total : IsTotalOrder R
+  total = by_key_total (table_at n.tables t).key
+
+  up : rises R rows ≡ true
+  up = kept_rises (table_at n.tables t).columns (table_at n.tables t).key rows k.rows
+
+  in_alike : WentIn n q t xs before es None → WentIn n q t ys before es None
+  in_alike w =
+      let g = w.0 in
+      let none : first_repeat R (rows ++ ys) ≡ None = sym a.0 ∙ first_repeat-append R total rows xs up ∙ w.1 in
+      let after : first_repeat_after R rows ys ≡ None = sym (first_repeat-append R total rows ys up) ∙ none in
+      let same : put_all R rows xs ≡ put_all R rows ys = sym (in_order-append R total rows xs up) ∙ a.1 none ∙ in_order-append R total rows ys up in
+      let whole : put_all R rows (take (length xs) xs) ≡ put_all R rows (take (length ys) ys) =
+      ap (put_all R rows) (take_all (length xs) xs (omega arith)) ∙ same ∙ ap (put_all R rows) (sym (take_all (length ys) ys (omega arith))) in (
+        record {
+          tables = g.tables ∙ ap (λ (zs : List Row). with_rows_at t zs n.tables) whole;
+          can = g.can;
+          back = ap (rows_before es) (sym whole) ∙ g.back;
+          count = omega arith;
+          room = (let r = g.room in let f = ap (λ (zs : List Row). length zs) whole in omega arith);
+          judged = after ∙ sym (ap (first_repeat_after R (rows ++ take (length ys) ys)) (drop_all (length ys) ys (omega arith)));
+          capacities = g.capacities;
+        },
+        after,
+      )
+
+  pub alike_in : (r : Option ℕ) → r ≡ None → WentIn n q t xs before es r → WentIn n q t ys before es None
+  alike_in r f w = in_alike (subst (λ (s : Option ℕ). WentIn n q t xs before es s) f w)
+
+  pub alike_out : (r : Option ℕ) (i : ℕ) → r ≡ Some i → WentIn n q t xs before es r → NotIn n q t ys before es
+  alike_out r i f w =
+      let d : Refused n q t xs i before es = subst (λ (s : Option ℕ). WentIn n q t xs before es s) f w in
+      record {
+        others = xs;
+        stored = d.stored;
+        going = d.going;
+        repeats = λ h.
+            let none : first_repeat_after R rows xs ≡ None = sym (first_repeat-append R total rows xs up) ∙ a.0 ∙ first_repeat-append R total rows ys up ∙ h in
+            let some = d.judged in
+            let both : Some (length rows + i) ≡ None = sym some ∙ none in
+            cc;
+      }
 
 -- ---- the same, as the code has it
 
@@ -160,7 +201,7 @@ found_alone m n rows before es key None e k w =
     sym (ap (λ (x : List ℕ). first_repeat_after (by_key x) [] rows) (sym k) ∙ ap (λ (xs : List Row). first_repeat_after (order_in m.tables 0) xs rows) (sym e) ∙ w.1)
 found_alone m n rows before es key (Some i) e k w =
     let z : length (rows_in m.tables 0) + i ≡ i = (let h = ap (λ (xs : List Row). length xs) e in omega arith) in
-    sym (ap (λ (x : List ℕ). first_repeat_after (by_key x) [] rows) (sym k) ∙ ap (λ (xs : List Row). first_repeat_after (order_in m.tables 0) xs rows) (sym e) ∙ w.1 ∙ ap (λ j. Some j) z)
+    sym (ap (λ (x : List ℕ). first_repeat_after (by_key x) [] rows) (sym k) ∙ ap (λ (xs : List Row). first_repeat_after (order_in m.tables 0) xs rows) (sym e) ∙ w.judged ∙ ap (λ j. Some j) z)
 
 pub all_set_all : (p : Row → Bool) (ps : List ℕ) (rs rows : List Row) → list_all p rs ≡ true → list_all p rows ≡ true → list_all p (set_all ps rs rows) ≡ true
 all_set_all p [] rs rows h k = k

@@ -8,6 +8,7 @@ use Rattle.row_types.specs.Ordered.{rises, put, put_all, in_order, stands}
 use Rattle.row_types.specs.Rows.{Row}
 use Rattle.std.proofs.lemmas.Bool.{or_parts}
 use Rattle.std.proofs.lemmas.List.Folds.{list_any-append}
+use Rattle.table_store.proofs.Laws.{Climb-low}
 use Rattle.row_types.proofs.Laws.{put_all-apart, put_all-put, stands_out, in_order-middle, any-put_all, put_all-append}
 use Rattle.atomic_undo.specs.Changes.{removed_all, set_all, Climb}
 
@@ -50,10 +51,6 @@ Climb-pred : (low : ℕ) (ps : List ℕ) (high : ℕ) → Climb (suc low) ps (su
 Climb-pred low [] high h = tt
 Climb-pred low (zero ∷ qs) high h = absurd (let a : suc low ≤ 0 = h.0 in omega arith)
 Climb-pred low (suc q ∷ qs) high h = ((let a : suc low ≤ suc q = h.0 in omega arith), (let b : suc q < suc high = h.1 in omega arith), Climb-pred (suc q) qs high h.2)
-
-Climb-low : (low more : ℕ) (ps : List ℕ) (high : ℕ) → low ≤ more → Climb more ps high → Climb low ps high
-Climb-low low more [] high l h = tt
-Climb-low low more (q ∷ qs) high l h = ((let a : more ≤ q = h.0 in omega arith), h.1, h.2)
 
 pub length-set_all : (ps : List ℕ) (rs rows : List Row) → length (set_all ps rs rows) ≡ length rows
 length-set_all [] rs rows = refl

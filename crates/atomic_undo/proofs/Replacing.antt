@@ -19,7 +19,7 @@ use Rattle.atomic_undo.specs.Changes.{order_in, rows_in, set_all, keys_stay, Cli
 use Rattle.atomic_undo.proofs.Places.{rows_at-rows_at, rows_at-same, no_less-trans}
 use Rattle.atomic_undo.proofs.TakingBack.{CanUndo-push, more_undo, rows_before-append}
 use Rattle.atomic_undo.proofs.Steps.{table_after, there_after}
-use Rattle.atomic_undo.proofs.Deleting.{Climb-last, Climb-front, Climb-more}
+use Rattle.table_store.proofs.Laws.{Climb-last, Climb-front, Climb-more}
 
 pub set_all-append : (ps : List ℕ) (rs : List Row) (p : ℕ) (r : Row) (rows : List Row) → length ps ≡ length rs → set_all (ps ++ p ∷ []) (rs ++ r ∷ []) rows ≡ set_all ps rs (set rows p r)
 set_all-append [] [] p r rows e = refl

@@ -150,7 +150,7 @@ module _ {X : Type 0} (R : X → X → Ordering) (o : IsTotalOrder R) where
   -- ---- new ones in two orders
 
   module _ (old : List X) (r : rises R old ≡ true) where
-    rises_put : (xs : List X) → first_repeat_after R old xs ≡ None → rises R (put_all R old xs) ≡ true
+    pub rises_put : (xs : List X) → first_repeat_after R old xs ≡ None → rises R (put_all R old xs) ≡ true
     rises_put xs n =
         let i : in_order R old ≡ old = in_order-rises R o old r in
         ap (λ (zs : List X). rises R (put_all R zs xs)) (sym i) ∙ rises_from_none R o old xs (ap (rises R) i ∙ r) n

@@ -5,7 +5,7 @@ use Rattle.row_types.specs.Tables.{Table, Tables, table_at, with_rows}
 use Rattle.table_store.specs.Kept.{Kept, holding}
 use Rattle.table_store.specs.Memory.{NoLess}
 use Rattle.atomic_undo.specs.declared.log.Edit.{Edit}
-use Rattle.atomic_undo.specs.declared.log.Edit.TheVariants.{Inserted, Appended, Removed, Replaced}
+use Rattle.atomic_undo.specs.declared.log.Edit.TheVariants.{Inserted, Appended, InsertedAll, Removed, RemovedAll, Replaced}
 use Rattle.atomic_undo.specs.declared.log.Entry.{Entry}
 use Rattle.atomic_undo.specs.Undo.{undo_edit, rows_before, undo_entry, undone, back_to, CanUndoEdit, CanUndo, CanUndoEntry, Belongs}
 
@@ -37,7 +37,9 @@ CanUndo-push k (x ∷ xs) e h g = (
 more_edit : (t : Table) (m n : ℕ) (e : Edit) → m ≤ n → CanUndoEdit record { table = t; capacity = m } e → CanUndoEdit record { table = t; capacity = n } e
 more_edit t m n (Inserted at) l h = h
 more_edit t m n (Appended at) l h = h
+more_edit t m n (InsertedAll places) l h = h
 more_edit t m n (Removed at row) l h = record { place = h.place; room = (let r = h.room in omega arith); kept = h.kept }
+more_edit t m n (RemovedAll removed) l h = record { climb = h.climb; room = (let r = h.room in omega arith); kept = h.kept }
 more_edit t m n (Replaced at row) l h = record { place = h.place; kept = h.kept }
 
 pub more_undo : (t : Table) (m n : ℕ) (es : List Edit) → m ≤ n → CanUndo record { table = t; capacity = m } es → CanUndo record { table = t; capacity = n } es

@@ -1,7 +1,7 @@
 -- What INSERT, UPDATE and DELETE make of a table: ISO/IEC 9075-2, 14.11, 14.14 and 14.9, and the
 -- judgement of keys.
-use Rattle.std.specs.Prelude.{Bool, true, ◌&&◌, slice_index_or, ℕ, suc, ◌≡◌, ◌+◌, ◌-◌, ◌≤◌, ◌<◌, List, [], ◌∷◌, ◌++◌, length, take, drop, slice_set, slice_index, Option, Some, None, Result, Ok, Err}
-use Rattle.std.specs.List.{remove, list_all}
+use Rattle.std.specs.Prelude.{Bool, true, false, ◌&&◌, slice_index_or, ℕ, ◌≡◌, ◌+◌, ◌-◌, ◌≤◌, ◌<◌, List, [], ◌∷◌, ◌++◌, length, take, drop, slice_set, slice_index, Option, Some, None, Result, Ok, Err}
+use Rattle.std.specs.List.{list_all}
 use Rattle.std.specs.Ordering.{is_eq}
 use Rattle.std.specs.declared.cmp.Ordering.{Ordering}
 use Rattle.row_types.specs.Ordered.{in_order, put_all, first_repeat, first_repeat_after}
@@ -9,15 +9,11 @@ use Rattle.row_types.specs.Rows.{Row, by_key, fits}
 use Rattle.row_types.specs.Tables.{Tables, table_at, with_rows_at}
 use Rattle.table_store.specs.Kept.{IsKept}
 use Rattle.table_store.specs.Memory.{Memory, kept_at, NoLess}
+pub use Rattle.table_store.specs.Places.{Climb, removed_all}
 use Rattle.atomic_undo.specs.declared.log.Edit.{Edit}
 use Rattle.atomic_undo.specs.declared.fault.ApplyFault.{ApplyFault}
 use Rattle.atomic_undo.specs.declared.fault.ApplyFault.TheVariants.{Constraint, NoMemory}
 use Rattle.atomic_undo.specs.Undo.{rows_before, CanUndo}
-
--- the rows without those at places, which increase
-abbrev pub removed_all : List ℕ → List Row → List Row
-removed_all [] rows = rows
-removed_all (p ∷ ps) rows = remove (removed_all ps rows) p
 
 -- the rows with others at places
 abbrev pub set_all : List ℕ → List Row → List Row → List Row
@@ -62,15 +58,30 @@ pub record Going (m n : Memory) (t : ℕ) (new : List Row) (i : ℕ) (before es 
   pub judged : first_repeat_after (order_in m.tables t) (rows_in m.tables t) new ≡ first_repeat_after (order_in m.tables t) (rows_in m.tables t ++ take i new) (drop i new)
   pub capacities : NoLess m.capacities n.capacities
 
--- new rows went in one after another: all of them, or those before the first whose key stands there
+-- New rows are refused at one of them. Some of them stand in a table, and edits take these back.
+pub record Refused (m n : Memory) (t : ℕ) (new : List Row) (i : ℕ) (before es : List Edit) : Type 0 where
+  pub stored : ℕ
+  pub going : Going m n t new stored before es
+  pub place : i ≤ length new
+  pub judged : first_repeat_after (order_in m.tables t) (rows_in m.tables t) new ≡ Some (length (rows_in m.tables t) + i)
+
+-- new rows went in: all of them, or some where the key of one stands there
 abbrev pub WentIn : Memory → Memory → ℕ → List Row → List Edit → List Edit → Option ℕ → Type 0
 WentIn m n t new before es None = Going m n t new (length new) before es × (first_repeat_after (order_in m.tables t) (rows_in m.tables t) new ≡ None)
-WentIn m n t new before es (Some i) = Going m n t new i before es × (first_repeat_after (order_in m.tables t) (rows_in m.tables t) new ≡ Some (length (rows_in m.tables t) + i))
+WentIn m n t new before es (Some i) = Refused m n t new i before es
 
--- places increase, from one number on and below another
-abbrev pub Climb : ℕ → List ℕ → ℕ → Type 0
-Climb low [] high = Unit {0}
-Climb low (p ∷ ps) high = (low ≤ p) × (p < high) × Climb (suc p) ps high
+-- New rows don't all go in, since a key would stand twice. Some in place of them stand in a table,
+-- and edits take these back.
+pub record NotIn (m n : Memory) (t : ℕ) (new : List Row) (before es : List Edit) : Type 0 where
+  pub others : List Row
+  pub stored : ℕ
+  pub going : Going m n t others stored before es
+  pub repeats : first_repeat_after (order_in m.tables t) (rows_in m.tables t) new ≡ None → ⊥
+
+-- new rows went in, all of them or not
+abbrev pub GoesIn : Memory → Memory → ℕ → List Row → List Edit → List Edit → Bool → Type 0
+GoesIn m n t new before es true = WentIn m n t new before es None
+GoesIn m n t new before es false = NotIn m n t new before es
 
 -- The rows at places went out but for those of the first that are left, and edits bring them back.
 pub record Going_out (m n : Memory) (t : ℕ) (places left : List ℕ) (before es : List Edit) : Type 0 where

@@ -8,7 +8,7 @@ use Rattle.row_types.specs.declared.ColumnType.{ColumnType}
 use Rattle.row_types.specs.Ordered.{in_order, first_repeat}
 use Rattle.row_types.specs.Rows.{Row, by_key}
 use Rattle.row_types.specs.Tables.{Tables}
-use Rattle.atomic_undo.specs.declared.log.Edit.TheVariants.{Inserted, Appended, Removed, Replaced}
+use Rattle.atomic_undo.specs.declared.log.Edit.TheVariants.{Inserted, Appended, InsertedAll, Removed, RemovedAll, Replaced}
 use Rattle.atomic_undo.specs.declared.log.Entry.{Entry}
 use Rattle.atomic_undo.specs.Undo.{rows_before, back_to}
 use Rattle.atomic_undo.specs.Changes.{removed_all, set_all, keys_stay}
@@ -72,6 +72,13 @@ cut_off = refl
 
 brought_back : rows_before (Removed 2 (row 5 50) ∷ Replaced 0 (row 1 10) ∷ []) (row 1 11 ∷ row 3 30 ∷ []) ≡ three
 brought_back = refl
+
+-- rows that went out in one pass, and those that went in in one pass
+brought_back_at_once : rows_before (RemovedAll (record { at = 0; row = row 1 10 } ∷ record { at = 2; row = row 5 50 } ∷ []) ∷ []) (row 3 30 ∷ []) ≡ three
+brought_back_at_once = refl
+
+taken_back_at_once : rows_before (InsertedAll (1 ∷ 3 ∷ []) ∷ []) (row 1 10 ∷ row 2 0 ∷ row 3 30 ∷ row 4 0 ∷ row 5 50 ∷ []) ≡ three
+taken_back_at_once = refl
 
 -- two marks: after the first entry, and before it
 abbrev tables : List Row → Tables

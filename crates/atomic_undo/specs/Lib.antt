@@ -3,4 +3,5 @@ pub mod Undo
 pub mod Changes
 pub mod Applying
 pub mod Sorting
+pub mod Between
 pub mod Examples

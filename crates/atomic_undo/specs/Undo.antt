@@ -3,17 +3,20 @@ use Rattle.std.specs.Prelude.{ℕ, ◌<◌, ◌≤◌, List, [], ◌∷◌, leng
 use Rattle.std.specs.List.{insert, remove}
 use Rattle.row_types.specs.Rows.{Row}
 use Rattle.row_types.specs.Tables.{Tables, table_at, with_rows_at}
-use Rattle.table_store.specs.Kept.{Kept, holding, CanInsert, CanReplace}
+use Rattle.table_store.specs.Kept.{Kept, holding, CanInsert, CanInsertAll, CanReplace}
+use Rattle.table_store.specs.Places.{Climb, removed_all, inserted_all}
 use Rattle.table_store.specs.Memory.{kept_at}
 use Rattle.atomic_undo.specs.declared.log.Edit.{Edit}
-use Rattle.atomic_undo.specs.declared.log.Edit.TheVariants.{Inserted, Appended, Removed, Replaced}
+use Rattle.atomic_undo.specs.declared.log.Edit.TheVariants.{Inserted, Appended, InsertedAll, Removed, RemovedAll, Replaced}
 use Rattle.atomic_undo.specs.declared.log.Entry.{Entry}
 
 -- the rows as they were before one change
 abbrev pub undo_edit : Edit → List Row → List Row
 undo_edit (Inserted at) rows = remove rows at
 undo_edit (Appended at) rows = take at rows
+undo_edit (InsertedAll places) rows = removed_all places rows
 undo_edit (Removed at row) rows = insert rows at row
+undo_edit (RemovedAll removed) rows = inserted_all removed rows
 undo_edit (Replaced at row) rows = slice_set rows at row
 
 -- the rows as they were before changes, of which the last is taken back first
@@ -33,12 +36,14 @@ undone (e ∷ es) ts = undo_entry e (undone es ts)
 abbrev pub back_to : ℕ → List Entry → Tables → Tables
 back_to mark entries ts = undone (drop mark entries) ts
 
--- one change can be taken back: its place is there, and a row that comes back fits, keeps the key
--- order and has memory
+-- one change can be taken back: its places are there, and what comes back fits, keeps the key order
+-- and has memory
 abbrev pub CanUndoEdit : Kept → Edit → Type 0
 CanUndoEdit k (Inserted at) = at < length k.table.rows
 CanUndoEdit k (Appended at) = at ≤ length k.table.rows
+CanUndoEdit k (InsertedAll places) = Climb 0 places (length k.table.rows)
 CanUndoEdit k (Removed at row) = CanInsert k at row
+CanUndoEdit k (RemovedAll removed) = CanInsertAll k removed
 CanUndoEdit k (Replaced at row) = CanReplace k at row
 
 abbrev pub CanUndo : Kept → List Edit → Type 0

@@ -1,6 +1,6 @@
 //! Rows that go into a table.
 
-ghost use Rattle.std.specs.Prelude.{◌≡◌, ◌<◌, ◌≤◌, ◌+◌, [], ◌++◌, length, true, slice_index, vec_len, vec_capacity, None, IsTrue};
+ghost use Rattle.std.specs.Prelude.{◌≡◌, ◌<◌, ◌≤◌, ◌+◌, [], ◌++◌, length, true, slice_index, vec_len, vec_capacity, None, IfOk, OnErr, IsTrue};
 ghost use Rattle.std.specs.List.{list_all};
 ghost use Rattle.row_types.specs.Ordered.{rises};
 ghost use Rattle.row_types.specs.Rows.{fits};
@@ -9,10 +9,12 @@ ghost use Rattle.table_store.specs.Memory.{kept_at};
 ghost use Rattle.atomic_undo.specs.Undo.{CanUndo};
 ghost use Rattle.atomic_undo.specs.Changes.{order_in, rows_in, IsAnswer, WentIn};
 
+use crate::between::insert_between;
 use crate::fault::ApplyFault;
-use crate::log::{Edit, Entry};
-use crate::sorted::{do_rise, in_key_order, place_in, rise_after};
-use crate::undo::undo_all;
+use crate::log::Edit;
+use crate::passes::takes_one_pass;
+use crate::sorted::{place_in, rise_after, rising_rows};
+use crate::undo::take_back;
 use row_types::Row;
 use sql_values::NoMemory;
 use sqlite_items::Items;
@@ -65,8 +67,40 @@ fn insert_after(tables: &mut Tables, table: usize, new: Vec<Row>, edits: &mut Ve
     edits.push_reserved(Edit::Appended(first));
 }
 
-// Puts new rows into a table one after another, or none where a key stands twice.
-fn insert_in_turn(
+/// Puts new rows into a table, behind the others, in one pass or each by itself, up to the first
+/// whose key stands there. There is memory for them; without memory for what is noted nothing
+/// changes.
+pub fn put_in(
+    alloc: Global,
+    tables: &mut Tables,
+    table: usize,
+    new: Vec<Row>,
+    rise: bool,
+    edits: &mut Vec<Edit>,
+) -> Result<Option<usize>, NoMemory>
+    requires there { table < length tables.old.tables }
+    requires fit { list_all (fits (table_at tables.old.tables table).columns (table_at tables.old.tables table).key) new.items ≡ true }
+    requires room { length (rows_in tables.old.tables table) + vec_len new ≤ slice_index tables.old.capacities table }
+    requires can { CanUndo (kept_at tables.old table) edits.old.items }
+    requires rise { IsTrue rise → rises (order_in tables.old.tables table) new.items ≡ true }
+    ensures done { IfOk result (λ at. WentIn tables.old tables.new table new.items edits.old.items edits.new.items at) }
+    ensures tables { OnErr result (tables.new ≡ tables.old) }
+    ensures edits { OnErr result (edits.new.items ≡ edits.old.items) }
+{
+    if rise && rise_after(tables.table_at(table), &new) {
+        edits.reserve(1)?;
+        insert_after(tables, table, new, edits);
+        return Ok(None);
+    }
+    if rise && takes_one_pass(new.len(), tables.table_at(table).len()) {
+        return insert_between(alloc, tables, table, new, edits);
+    }
+    edits.reserve(new.len())?;
+    Ok(insert_each(tables, table, new, edits))
+}
+
+// Puts new rows into a table, or none where a key stands twice.
+fn insert_or_refuse(
     alloc: Global,
     tables: &mut Tables,
     table: usize,
@@ -79,27 +113,18 @@ fn insert_in_turn(
     ensures { IsAnswer tables.old tables.new table (rows_in tables.old.tables table ++ new.items) result }
 {
     let before = tables.table_at(table).len();
-    let Ok(mut edits) = Vec::with_capacity(alloc, new.len().max(1)) else {
-        return Err(ApplyFault::NoMemory);
-    };
     let Ok(()) = tables.reserve(table, new.len()) else {
         return Err(ApplyFault::NoMemory);
     };
-    if rise && rise_after(tables.table_at(table), &new) {
-        insert_after(tables, table, new, &mut edits);
-        return Ok(Items::from_vec(edits));
-    }
-    match insert_each(tables, table, new, &mut edits) {
+    let mut edits = Vec::new(alloc);
+    let Ok(refused) = put_in(alloc, tables, table, new, rise, &mut edits) else {
+        return Err(ApplyFault::NoMemory);
+    };
+    match refused {
         None => Ok(Items::from_vec(edits)),
-        Some(stored) => {
-            undo_all(
-                tables,
-                Entry {
-                    table,
-                    edits: Items::from_vec(edits),
-                },
-            );
-            Err(ApplyFault::Constraint(before + stored))
+        Some(at) => {
+            take_back(tables, table, edits);
+            Err(ApplyFault::Constraint(before + at))
         }
     }
 }
@@ -115,11 +140,8 @@ pub fn insert_rows(
     requires fit { list_all (fits (table_at tables.old.tables table).columns (table_at tables.old.tables table).key) new.items ≡ true }
     ensures { IsAnswer tables.old tables.new table (rows_in tables.old.tables table ++ new.items) result }
 {
-    if do_rise(&new, tables.table_at(table).key()) {
-        return insert_in_turn(alloc, tables, table, new, true);
-    }
-    match in_key_order(alloc, tables.table_at(table), new) {
-        Ok(sorted) => insert_in_turn(alloc, tables, table, sorted.rows, sorted.rise),
+    match rising_rows(alloc, tables.table_at(table), new) {
+        Ok(sorted) => insert_or_refuse(alloc, tables, table, sorted.rows, sorted.rise),
         Err(NoMemory) => Err(ApplyFault::NoMemory),
     }
 }

@@ -1,11 +1,13 @@
 //! Changes of tables, and the log by which they are taken back.
 #![tactic(auto)]
 
+mod between;
 mod changes;
 mod delete;
 mod fault;
 mod insert;
 mod log;
+mod passes;
 mod rekey;
 mod sorted;
 mod statement;

@@ -7,16 +7,21 @@ use sql_values::NoMemory;
 use sqlite_items::Items;
 use std::alloc::Global;
 use std::marker::Model;
+use table_store::PlacedRow;
 
-/// One change of a table's rows, as it is taken back.
+/// One change of a table's rows, as it is taken back. What changes many rows in one pass is one.
 #[derive(Drop)]
 pub enum Edit {
     /// A row went in at this place.
     Inserted(usize),
     /// Rows went in after the others, from this place on.
     Appended(usize),
+    /// Rows went in that stand at these places, which increase.
+    InsertedAll(Items<usize>),
     /// The row at this place went out.
     Removed(usize, Row),
+    /// These rows went out of their places, which increase.
+    RemovedAll(Items<PlacedRow>),
     /// The row at this place was replaced.
     Replaced(usize, Row),
 }

@@ -1,17 +1,20 @@
 //! Rows that take the place of others with other keys: the old ones go out, and the new ones go in.
 
-ghost use Rattle.std.specs.Prelude.{◌≡◌, ◌<◌, ◌≤◌, ◌+◌, ◌++◌, [], length, true, take, None, IfOk};
+ghost use Rattle.std.specs.Prelude.{◌≡◌, ◌<◌, ◌≤◌, ◌+◌, ◌++◌, [], length, true, take, slice_index, vec_len, None, IfOk, OnErr};
 ghost use Rattle.std.specs.List.{list_all};
 ghost use Rattle.row_types.specs.Ordered.{first_repeat};
 ghost use Rattle.row_types.specs.Rows.{fits, by_key};
 ghost use Rattle.row_types.specs.Tables.{table_at};
-ghost use Rattle.atomic_undo.specs.Changes.{rows_in, set_all, Climb, IsAnswer, IsJudged};
+ghost use Rattle.table_store.specs.Memory.{kept_at};
+ghost use Rattle.atomic_undo.specs.Undo.{CanUndo};
+ghost use Rattle.atomic_undo.specs.Changes.{rows_in, set_all, Climb, GoesIn, IsAnswer, IsJudged};
 
-use crate::delete::remove_each;
+use crate::delete::take_out;
 use crate::fault::ApplyFault;
-use crate::insert::insert_each;
-use crate::log::{Edit, Entry};
-use crate::undo::undo_all;
+use crate::insert::{insert_each, put_in};
+use crate::log::Edit;
+use crate::sorted::rising_rows;
+use crate::undo::take_back;
 use row_types::{Row, RowType, copied_columns, copied_row};
 use sql_values::{Name, NoMemory};
 use sqlite_items::Items;
@@ -94,6 +97,32 @@ fn judge(alloc: Global, table: &Table, places: Vec<usize>, new: Vec<Row>) -> App
     }
 }
 
+// Puts new rows into a table in key order, and says whether all went in; where a key would stand
+// twice, some may have. There is memory for them; without memory for what is noted nothing changes.
+fn put_in_order(
+    alloc: Global,
+    tables: &mut Tables,
+    table: usize,
+    new: Vec<Row>,
+    edits: &mut Vec<Edit>,
+) -> Result<bool, NoMemory>
+    requires there { table < length tables.old.tables }
+    requires fit { list_all (fits (table_at tables.old.tables table).columns (table_at tables.old.tables table).key) new.items ≡ true }
+    requires room { length (rows_in tables.old.tables table) + vec_len new ≤ slice_index tables.old.capacities table }
+    requires can { CanUndo (kept_at tables.old table) edits.old.items }
+    ensures done { IfOk result (λ all. GoesIn tables.old tables.new table new.items edits.old.items edits.new.items all) }
+    ensures tables { OnErr result (tables.new ≡ tables.old) }
+    ensures edits { OnErr result (edits.new.items ≡ edits.old.items) }
+{
+    let _rows = tables.table_at(table).len();
+    let sorted = rising_rows(alloc, tables.table_at(table), new)?;
+    let refused = put_in(alloc, tables, table, sorted.rows, sorted.rise, edits)?;
+    match refused {
+        None => Ok(true),
+        Some(_) => Ok(false),
+    }
+}
+
 /// Puts rows in the places of others, where keys change.
 pub fn rekey_rows(
     alloc: Global,
@@ -115,23 +144,18 @@ pub fn rekey_rows(
     let Ok(new_again) = copied_rows(alloc, &new) else {
         return Err(ApplyFault::NoMemory);
     };
-    let Ok(mut edits) = Vec::with_capacity(alloc, places.len() + new.len()) else {
+    let mut edits = Vec::new(alloc);
+    let Ok(()) = take_out(tables, table, places, &mut edits) else {
         return Err(ApplyFault::NoMemory);
     };
-    remove_each(tables, table, places, &mut edits);
-    let refused = insert_each(tables, table, new, &mut edits);
+    let Ok(all) = put_in_order(alloc, tables, table, new, &mut edits) else {
+        take_back(tables, table, edits);
+        return Err(ApplyFault::NoMemory);
+    };
     let _rows = tables.table_at(table).len();
-    match refused {
-        None => Ok(Items::from_vec(edits)),
-        Some(_) => {
-            undo_all(
-                tables,
-                Entry {
-                    table,
-                    edits: Items::from_vec(edits),
-                },
-            );
-            Err(judge(alloc, tables.table_at(table), places_again, new_again))
-        }
+    if all {
+        return Ok(Items::from_vec(edits));
     }
+    take_back(tables, table, edits);
+    Err(judge(alloc, tables.table_at(table), places_again, new_again))
 }

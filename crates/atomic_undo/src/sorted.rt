@@ -43,8 +43,8 @@ fn is_below(a: &Row, b: &Row, key: &[usize]) -> bool
     }
 }
 
-/// Whether the keys of rows rise.
-pub fn do_rise(rows: &[Row], key: &[usize]) -> bool
+// Whether the keys of rows rise.
+fn do_rise(rows: &[Row], key: &[usize]) -> bool
     ensures { result ≡ rises (by_key key.now) rows.now }
 {
     let mut i = 1;
@@ -240,8 +240,8 @@ fn rows_at(alloc: Global, rows: Vec<Row>, placed: &[Placed]) -> Result<Vec<Row>,
     Ok(taken)
 }
 
-/// New rows in key order; where a key stands twice, in their own order.
-pub fn in_key_order(alloc: Global, table: &Table, new: Vec<Row>) -> Result<InOrder, NoMemory>
+// New rows in key order; where a key stands twice, in their own order.
+fn in_key_order(alloc: Global, table: &Table, new: Vec<Row>) -> Result<InOrder, NoMemory>
     ensures moved { IfOk result (λ v. IsPermutation new.items v.rows.items) }
     ensures alike { IfOk result (λ v. PutAlike (by_key table.now.table.key) table.now.table.rows v.rows.items new.items) }
     ensures rise { IfOk result (λ v. IsTrue v.rise → rises (by_key table.now.table.key) v.rows.items ≡ true) }
@@ -257,4 +257,20 @@ pub fn in_key_order(alloc: Global, table: &Table, new: Vec<Row>) -> Result<InOrd
             rise: false,
         })
     }
+}
+
+/// New rows whose keys rise as they are, or else in key order; where a key stands twice, in their own
+/// order.
+pub fn rising_rows(alloc: Global, table: &Table, new: Vec<Row>) -> Result<InOrder, NoMemory>
+    ensures moved { IfOk result (λ v. IsPermutation new.items v.rows.items) }
+    ensures alike { IfOk result (λ v. PutAlike (by_key table.now.table.key) table.now.table.rows v.rows.items new.items) }
+    ensures rise { IfOk result (λ v. IsTrue v.rise → rises (by_key table.now.table.key) v.rows.items ≡ true) }
+{
+    if do_rise(&new, table.key()) {
+        return Ok(InOrder {
+            rows: new,
+            rise: true,
+        });
+    }
+    in_key_order(alloc, table, new)
 }

@@ -280,3 +280,116 @@ fn all_texts(alloc: Global) -> Result<bool, NoMemory> {
 fn texts_are_keys(rt: HostRuntime) {
     assert!(rt; all_texts(rt.alloc()) == Ok(true));
 }
+
+// So many rows, whose keys are a number and further ones by steps; the value of each is its key.
+fn many_rows(alloc: Global, first: i64, step: i64, count: usize) -> Result<Vec<Row>, NoMemory> {
+    let mut many = Vec::new(alloc);
+    let mut key = first;
+    for _ in 0..count {
+        let mut row = Items::new(alloc);
+        row.push(Value::Int(key))?;
+        row.push(Value::Int(key))?;
+        many.push(row)?;
+        key = key.wrapping_add(step);
+    }
+    Ok(many)
+}
+
+// So many places, from one on by steps.
+fn many_places(
+    alloc: Global,
+    first: usize,
+    step: usize,
+    count: usize,
+) -> Result<Vec<usize>, NoMemory> {
+    let mut many = Vec::new(alloc);
+    let mut at = first;
+    for _ in 0..count {
+        many.push(at)?;
+        at = at.wrapping_add(step);
+    }
+    Ok(many)
+}
+
+// Whether the table has just such rows.
+fn holds_many(tables: &Tables, first: i64, step: i64, count: usize) -> bool {
+    if tables.len() == 0 {
+        return false;
+    }
+    let table = tables.table_at(0);
+    if table.len() != count {
+        return false;
+    }
+    let mut key = first;
+    for i in 0..table.len() {
+        if !is_pair(table.row_at(i), key, key) {
+            return false;
+        }
+        key = key.wrapping_add(step);
+    }
+    true
+}
+
+// Of rows with even keys, in three blocks, every second one goes out, and others go in at their
+// places.
+fn out_and_in(alloc: Global, tables: &mut Tables, log: &mut Log) -> Result<bool, NoMemory>
+    requires { Belongs tables.old.capacities log.old.entries tables.old.tables }
+    ensures belongs { Belongs tables.new.capacities log.new.entries tables.new.tables }
+    ensures longer { length log.old.entries ≤ length log.new.entries }
+{
+    let deleted = Changes::Delete(many_places(alloc, 1, 2, 1250)?);
+    if change(tables, log, deleted) != Ok(1250) || !holds_many(tables, 0, 4, 1250) {
+        return Ok(false);
+    }
+    let twice = Changes::Insert(many_rows(alloc, 2, 3, 1000)?);
+    if change(tables, log, twice) != Err(ApplyFault::Constraint(1252)) {
+        return Ok(false);
+    }
+    let inserted = Changes::Insert(many_rows(alloc, 2, 4, 1250)?);
+    Ok(change(tables, log, inserted) == Ok(1250) && holds_many(tables, 0, 2, 2500))
+}
+
+// All keys move by one, and then every second one by one more.
+fn moved_on(alloc: Global, tables: &mut Tables, log: &mut Log) -> Result<bool, NoMemory>
+    requires { Belongs tables.old.capacities log.old.entries tables.old.tables }
+    ensures belongs { Belongs tables.new.capacities log.new.entries tables.new.tables }
+    ensures longer { length log.old.entries ≤ length log.new.entries }
+{
+    let all = many_places(alloc, 0, 1, 2500)?;
+    let updated = Changes::Update(all, many_rows(alloc, 1, 2, 2500)?);
+    if change(tables, log, updated) != Ok(2500) || !holds_many(tables, 1, 2, 2500) {
+        return Ok(false);
+    }
+    let half = many_places(alloc, 0, 2, 1250)?;
+    let twice = Changes::Update(half, many_rows(alloc, 3, 4, 1250)?);
+    if change(tables, log, twice) != Err(ApplyFault::Constraint(1)) {
+        return Ok(false);
+    }
+    let others = many_places(alloc, 0, 2, 1250)?;
+    let again = Changes::Update(others, many_rows(alloc, 2, 4, 1250)?);
+    Ok(change(tables, log, again) == Ok(1250) && !holds_many(tables, 1, 2, 2500))
+}
+
+// Rows in three blocks go out and in, and all is taken back to two marks.
+fn all_many(alloc: Global) -> Result<bool, NoMemory> {
+    let mut tables = one_table(alloc)?;
+    let mut log = Log::new(alloc);
+    let start = log.mark();
+    let even = Changes::Insert(many_rows(alloc, 0, 2, 2500)?);
+    if change(&mut tables, &mut log, even) != Ok(2500) {
+        return Ok(false);
+    }
+    let before = log.mark();
+    if !out_and_in(alloc, &mut tables, &mut log)? || !moved_on(alloc, &mut tables, &mut log)? {
+        return Ok(false);
+    }
+    roll_back(&mut tables, &mut log, before);
+    let middle = holds_many(&tables, 0, 2, 2500);
+    roll_back(&mut tables, &mut log, start);
+    Ok(middle && holds(&tables, &[]))
+}
+
+#[test]
+fn many_rows_go_out_and_in(rt: HostRuntime) {
+    assert!(rt; all_many(rt.alloc()) == Ok(true));
+}

@@ -3,9 +3,10 @@
 ghost use Rattle.std.specs.Prelude.{◌≡◌, ◌<◌, ◌≤◌, ℕ, length, take};
 ghost use Rattle.row_types.specs.Tables.{table_at, with_rows_at};
 ghost use Rattle.table_store.specs.Memory.{kept_at, NoLess};
-ghost use Rattle.atomic_undo.specs.Undo.{undo_edit, undo_entry, back_to, CanUndoEdit, CanUndoEntry, Belongs};
+ghost use Rattle.atomic_undo.specs.Undo.{undo_edit, undo_entry, rows_before, back_to, CanUndo, CanUndoEdit, CanUndoEntry, Belongs};
 
 use crate::log::{Edit, Entry, Log, Mark};
+use sqlite_items::Items;
 use table_store::Tables;
 
 // Takes one change of a table back.
@@ -20,7 +21,9 @@ fn undo(tables: &mut Tables, table: usize, edit: Edit)
             let _ = tables.remove_at(table, at);
         }
         Edit::Appended(at) => tables.truncate(table, at),
+        Edit::InsertedAll(places) => tables.drop_all(table, places.as_slice()),
         Edit::Removed(at, row) => tables.insert_at(table, at, row),
+        Edit::RemovedAll(removed) => tables.insert_all(table, removed),
         Edit::Replaced(at, row) => {
             let _ = tables.replace_at(table, at, row);
         }
@@ -38,6 +41,17 @@ pub fn undo_all(tables: &mut Tables, entry: Entry)
     while let Some(edit) = edits.pop() {
         undo(tables, table, edit);
     }
+}
+
+// Takes changes of a table back that are not in a log yet.
+pub fn take_back(tables: &mut Tables, table: usize, edits: Vec<Edit>)
+    requires there { table < length tables.old.tables }
+    requires can { CanUndo (kept_at tables.old table) edits.items }
+    ensures tables { tables.new.tables ≡ with_rows_at table (rows_before edits.items (table_at tables.old.tables table).rows) tables.old.tables }
+    ensures capacities { NoLess tables.old.capacities tables.new.capacities }
+{
+    let edits = Items::from_vec(edits);
+    undo_all(tables, Entry { table, edits });
 }
 
 /// Takes all changes after a mark back. For each earlier mark, what a roll back to it would give

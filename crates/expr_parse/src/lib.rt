@@ -20,8 +20,8 @@ pub use lists::{
     applied, begun, calls, cast_to, chained, ended_by, exists_of, if_one, only, pair, predicate_of,
     prefixed, qualified, subquery, unqualified, with_first,
 };
-pub use names::{alias, column_list, column_names, if_alias};
-pub use place::{anchor, anchor_in, ident};
+pub use names::{alias, bracketed_names, column_list, column_names, idents, if_alias};
+pub use place::{anchor, anchor_in, choice, ident};
 pub use types::data_type;
 pub use words::{
     as_type, begins_compared, begins_link, begins_literal, comparison, dotted, function_word,

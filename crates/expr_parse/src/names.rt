@@ -54,15 +54,19 @@ impl ListItem for Names {
     }
 }
 
+/// Names with commas between them, by the rule `idents`. On Ok the input stands behind the last one,
+/// else at the token that does not go on.
 #[tactic(auto, unfolding(sql_grammar::specs::Queries::idents, sql_grammar::specs::Queries::more_idents))]
-fn idents(alloc: Global, input: &mut Input<'_>, room: u32) -> Result<Items<Ident>, ParseError>
+pub fn idents(alloc: Global, input: &mut Input<'_>, room: u32) -> Result<Items<Ident>, ParseError>
     ensures { Reads (reading rules room queries.idents input.old.rest.now) result input.new.rest.now }
 {
     comma_list::<Names>(alloc, input, room)
 }
 
+/// Names with commas between them, in brackets, by the rule `Names` in its brackets. On Ok the input
+/// stands behind the closing bracket, else at the token that does not go on.
 #[tactic(auto, unfolding(sql_grammar::specs::Trees::bracketed))]
-fn bracketed_names(
+pub fn bracketed_names(
     alloc: Global,
     input: &mut Input<'_>,
     room: u32,

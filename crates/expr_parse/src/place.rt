@@ -35,9 +35,10 @@ pub fn anchor(input: &Input<'_>) -> Anchor
     }
 }
 
-/// One token of a table: what it stands for, and its anchor. The first line stands apart, since no
-/// table is empty.
-pub(crate) fn choice<T: Copy>(
+/// One token of a table: what it stands for, and its anchor, by the rule `choice`. The first line
+/// stands apart, since no table is empty. On Ok the input stands behind the token, else at one that
+/// stands in no line.
+pub fn choice<T: Copy>(
     input: &mut Input<'_>,
     room: u32,
     kind: Kind,

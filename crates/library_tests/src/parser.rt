@@ -1,7 +1,8 @@
 //! What the parser reads from the first token on, where so many constructs are open before it.
 
+use psm_parse::{parse_ddl, parse_statement};
 use sql_lex::{Tokens, tokens};
-use sql_parse::{parse_ddl, parse_dml, parse_query, parse_statement};
+use sql_parse::{parse_dml, parse_query};
 use std::alloc::Global;
 use std::test::Fail;
 use token_grammar::{MOST_OPEN, ParseFault};
@@ -33,7 +34,7 @@ fn end(part: Part, alloc: Global, read: &Tokens, open: u32) -> Result<usize, Par
     }
 }
 
-static ROWS: [(&str, Part, u32, Result<usize, ParseFault>); 47] = [
+static ROWS: [(&str, Part, u32, Result<usize, ParseFault>); 93] = [
     ("VALUES ((1)))", Part::Query, 22, Ok(6)),
     (
         "VALUES ((1)))",
@@ -133,7 +134,182 @@ static ROWS: [(&str, Part, u32, Result<usize, ParseFault>); 47] = [
         "INSERT INTO t (1);",
         Part::Change,
         0,
+        Err(ParseFault::NoStatement(4)),
+    ),
+    (
+        "INSERT INTO t (a, b) VALUES (1, 2)",
+        Part::Change,
+        23,
+        Ok(14),
+    ),
+    (
+        "INSERT INTO t (a, b) VALUES (1, 2)",
+        Part::Change,
+        24,
+        Err(ParseFault::TooDeep(3)),
+    ),
+    (
+        "INSERT INTO t (a) SELECT a FROM u WHERE b;",
+        Part::Statement,
+        0,
+        Ok(13),
+    ),
+    ("INSERT INTO t SELECT a FROM u;", Part::Change, 24, Ok(7)),
+    (
+        "INSERT INTO t () VALUES (1)",
+        Part::Change,
+        0,
+        Err(ParseFault::NoStatement(4)),
+    ),
+    (
+        "INSERT INTO t (a,) VALUES (1)",
+        Part::Change,
+        0,
+        Err(ParseFault::NoStatement(6)),
+    ),
+    (
+        "INSERT INTO t (a);",
+        Part::Change,
+        0,
+        Err(ParseFault::NoStatement(6)),
+    ),
+    (
+        "INSERT t VALUES (1)",
+        Part::Change,
+        0,
+        Err(ParseFault::NoStatement(1)),
+    ),
+    (
+        "UPDATE t SET a = 1, b = a = b WHERE a IN (1)",
+        Part::Change,
+        23,
+        Ok(18),
+    ),
+    (
+        "UPDATE t SET a = 1, b = a = b WHERE a IN (1)",
+        Part::Change,
+        24,
+        Err(ParseFault::TooDeep(15)),
+    ),
+    ("UPDATE t SET a = a + 1;", Part::Statement, 0, Ok(9)),
+    (
+        "UPDATE t a = 1",
+        Part::Change,
+        0,
+        Err(ParseFault::NoStatement(2)),
+    ),
+    (
+        "UPDATE t SET;",
+        Part::Change,
+        0,
         Err(ParseFault::NoStatement(3)),
+    ),
+    (
+        "UPDATE t SET a = 1,;",
+        Part::Change,
+        0,
+        Err(ParseFault::NoStatement(7)),
+    ),
+    (
+        "UPDATE t SET a.b = 1",
+        Part::Change,
+        0,
+        Err(ParseFault::NoStatement(4)),
+    ),
+    (
+        "UPDATE t SET a = 1 WHERE;",
+        Part::Change,
+        0,
+        Err(ParseFault::NoStatement(7)),
+    ),
+    (
+        "DELETE FROM t WHERE a = (SELECT b FROM u)",
+        Part::Change,
+        23,
+        Ok(12),
+    ),
+    (
+        "DELETE FROM t WHERE a = (SELECT b FROM u)",
+        Part::Change,
+        24,
+        Err(ParseFault::TooDeep(6)),
+    ),
+    ("DELETE FROM t;", Part::Statement, 0, Ok(4)),
+    ("DELETE t", Part::Change, 0, Err(ParseFault::NoStatement(1))),
+    (
+        "DELETE FROM t a",
+        Part::Statement,
+        0,
+        Err(ParseFault::NoStatement(3)),
+    ),
+    (
+        "CREATE TABLE t (a INT NOT NULL, PRIMARY KEY (a, b), b INT PRIMARY KEY)",
+        Part::Definition,
+        22,
+        Ok(22),
+    ),
+    (
+        "CREATE TABLE t (a INT NOT NULL, PRIMARY KEY (a, b), b INT PRIMARY KEY)",
+        Part::Definition,
+        23,
+        Err(ParseFault::TooDeep(11)),
+    ),
+    (
+        "CREATE TABLE t (PRIMARY KEY ())",
+        Part::Definition,
+        0,
+        Err(ParseFault::NoStatement(7)),
+    ),
+    (
+        "CREATE TABLE t (PRIMARY KEY a)",
+        Part::Definition,
+        0,
+        Err(ParseFault::NoStatement(6)),
+    ),
+    (
+        "CREATE TABLE t (a INT,)",
+        Part::Definition,
+        0,
+        Err(ParseFault::NoStatement(7)),
+    ),
+    (
+        "CREATE TABLE t ()",
+        Part::Definition,
+        0,
+        Err(ParseFault::NoStatement(4)),
+    ),
+    ("DROP TABLE t", Part::Definition, 24, Ok(3)),
+    ("DROP FUNCTION f RESTRICT", Part::Definition, 24, Ok(4)),
+    ("DROP PROCEDURE p;", Part::Statement, 0, Ok(4)),
+    (
+        "DROP t",
+        Part::Definition,
+        0,
+        Err(ParseFault::NoStatement(1)),
+    ),
+    (
+        "DROP TABLE;",
+        Part::Definition,
+        0,
+        Err(ParseFault::NoStatement(2)),
+    ),
+    (
+        "DROP TABLE t RESTRICT RESTRICT;",
+        Part::Statement,
+        0,
+        Err(ParseFault::NoStatement(4)),
+    ),
+    (
+        "DROP TABLE t",
+        Part::Change,
+        0,
+        Err(ParseFault::NoStatement(0)),
+    ),
+    (
+        "DELETE FROM t",
+        Part::Definition,
+        0,
+        Err(ParseFault::NoStatement(0)),
     ),
     ("CREATE TABLE t (k INT);", Part::Definition, 23, Ok(7)),
     (
@@ -222,6 +398,62 @@ static ROWS: [(&str, Part, u32, Result<usize, ParseFault>); 47] = [
         Part::Definition,
         22,
         Ok(16),
+    ),
+    (
+        "CREATE FUNCTION f (x INT) RETURNS INT NOT DETERMINISTIC BEGIN RETURN x; END",
+        Part::Definition,
+        23,
+        Ok(16),
+    ),
+    (
+        "CREATE FUNCTION f (x INT) RETURNS INT BEGIN RETURN x; END",
+        Part::Definition,
+        24,
+        Err(ParseFault::TooDeep(3)),
+    ),
+    (
+        "CREATE FUNCTION f (x INT) RETURNS INT BEGIN RETURN x END",
+        Part::Definition,
+        0,
+        Err(ParseFault::NoStatement(12)),
+    ),
+    (
+        "CREATE PROCEDURE p () BEGIN IF (TRUE) THEN RESIGNAL; END IF; END",
+        Part::Definition,
+        21,
+        Ok(17),
+    ),
+    (
+        "CREATE PROCEDURE p () BEGIN IF (TRUE) THEN RESIGNAL; END IF; END",
+        Part::Definition,
+        22,
+        Err(ParseFault::TooDeep(7)),
+    ),
+    (
+        "CREATE PROCEDURE p (INOUT x INT) FOR r AS SELECT k FROM t DO END FOR",
+        Part::Definition,
+        0,
+        Err(ParseFault::NoStatement(16)),
+    ),
+    (
+        "b: BEGIN l: LOOP LEAVE l; END LOOP l; END b; VALUES (1);",
+        Part::Statement,
+        0,
+        Ok(16),
+    ),
+    (
+        "BEGIN DECLARE EXIT HANDLER FOR NOT FOUND BEGIN END; END",
+        Part::Statement,
+        0,
+        Err(ParseFault::NoStatement(11)),
+    ),
+    ("EXPLAIN SELECT k FROM t;", Part::Statement, 0, Ok(6)),
+    ("CALL p (?, 1);", Part::Statement, 0, Ok(8)),
+    (
+        "CALL p (?, 1)",
+        Part::Change,
+        0,
+        Err(ParseFault::NoStatement(0)),
     ),
     ("VALUES (1); VALUES", Part::Statement, 0, Ok(5)),
     (

@@ -16,7 +16,7 @@ const INVERSES_EACH: [&[u8]; 5] = [
 ];
 
 // Runs a script from an empty database.
-fn run(alloc: Global, script: &[u8]) -> Result<Outcome, AllocError> {
+pub(crate) fn run(alloc: Global, script: &[u8]) -> Result<Outcome, AllocError> {
     Ok(ran(
         alloc,
         &["psm", "run"],
@@ -338,7 +338,7 @@ fn unread_statements(rt: HostRuntime) -> Result<(), Fail> {
 }
 
 // The line and the column behind a text.
-fn end_of(text: &[u8]) -> (u64, u64) {
+pub(crate) fn end_of(text: &[u8]) -> (u64, u64) {
     let mut line: u64 = 1;
     let mut column: u64 = 1;
     for byte in text {
@@ -352,6 +352,20 @@ fn end_of(text: &[u8]) -> (u64, u64) {
     (line, column)
 }
 
+// What is replied after these replies where a script is not read at its end, or goes on there with
+// what it may not.
+pub(crate) fn refused_at_end(
+    alloc: Global,
+    done: &[u8],
+    front: &[u8],
+) -> Result<Vec<u8>, AllocError> {
+    let (line, column) = end_of(front);
+    let fault = format!(in alloc; "! 42000 syntax error at line {line} column {column}\n")?;
+    let mut replies = done.to_vec(alloc)?;
+    replies.extend_from_slice(fault.as_bytes())?;
+    Ok(replies)
+}
+
 // The first script, cut behind each of its tokens.
 #[test]
 fn cut_scripts(rt: HostRuntime) -> Result<(), Fail> {
@@ -361,17 +375,14 @@ fn cut_scripts(rt: HostRuntime) -> Result<(), Fail> {
     let mut done = Vec::new(alloc);
     for token in list.as_slice() {
         let cut = INVERSES.get(..token.end).unwrap_or(INVERSES);
-        let mut replies = done.as_slice().to_vec(alloc)?;
-        if token.kind() == Kind::Sign(Sign::Semicolon) {
+        let replies = if token.kind() == Kind::Sign(Sign::Semicolon) {
             if let Some(reply) = each.next() {
                 done.extend_from_slice(reply)?;
-                replies.extend_from_slice(reply)?;
             }
+            done.as_slice().to_vec(alloc)?
         } else {
-            let (line, column) = end_of(cut);
-            let fault = format!(in alloc; "! 42000 syntax error at line {line} column {column}\n")?;
-            replies.extend_from_slice(fault.as_bytes())?;
-        }
+            refused_at_end(alloc, done.as_slice(), cut)?
+        };
         let end = run(alloc, cut)?;
         assert_eq!(rt; end.out.bytes(), replies.as_slice());
     }

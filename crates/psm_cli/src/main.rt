@@ -20,6 +20,8 @@ mod program;
 #[cfg(test)]
 mod query_tests;
 mod read;
+#[cfg(test)]
+mod reading_tests;
 mod run;
 mod status;
 #[cfg(test)]
@@ -29,6 +31,8 @@ mod tests;
 #[cfg(test)]
 mod value_tests;
 mod write;
+#[cfg(test)]
+mod writing_tests;
 
 pub use command::Command;
 use io_edges::{StdSink, StdSource};

@@ -1,4 +1,4 @@
--- The rows of an INSERT, assigned in the places where they stand.
+-- Rows that are assigned in the places where they stand.
 use Rattle.std.proofs.Common.{ℕ, ◌≡◌, ◌<◌, ◌≤◌, ◌+◌, ◌++◌, ◌∷◌, [], List, None, Some, Result, Ok, Err, length, drop, take, set, get_or, slice_get, refl, sym, ap, ◌∙◌, subst, arith, rules}
 use Rattle.std.proofs.lemmas.List.{append-nil, drop-set-lt, take_more_set, take_all, drop_all}
 use Rattle.std.proofs.lemmas.Option.{slice_get_within, get_or_from_slice_get, slice_get_cases}

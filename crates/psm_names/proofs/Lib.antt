@@ -1,3 +1,5 @@
 pub mod Repeated
+pub mod Elements
+pub mod Meeting
 pub mod Made
 pub mod Rows

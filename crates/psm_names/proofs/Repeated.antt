@@ -1,6 +1,7 @@
--- One step of the loops that look for names that earlier ones have, and of those that gather, over plain variables.
+-- One step of the loops that note faults in turn, over plain variables.
 use Rattle.std.proofs.Common.{◌≡◌, sym, ap, ◌∙◌, refl, List, [], ◌∷◌, ◌++◌, Option, ℕ, ◌+◌, ◌<◌, suc, zero, Bool, map, take, drop, length, get_or, add-one}
 use Rattle.std.specs.Prelude.{is_some}
+use Rattle.std.specs.List.{flat_map}
 use Rattle.std.proofs.Math.Seq.{take-suc}
 use Rattle.std.proofs.lemmas.List.{map-append}
 use Rattle.syntax_trees.specs.declared.anchor.Ident.{Ident}
@@ -10,7 +11,7 @@ use Rattle.name_faults.specs.Faults.{noted, fault_if}
 use Rattle.name_faults.proofs.Laws.{noted_append}
 use Rattle.names_in_sight.specs.Index.{place_of}
 use Rattle.typed_parts.proofs.Laws.{unrolled}
-use Rattle.psm_names.specs.Statements.{again, repeated}
+use Rattle.psm_names.specs.Names.{again, repeated, names_of}
 
 -- names that earlier ones have
 taken-more : {X Y : Type 0} (g : X → Y) (xs : List X) (i : ℕ) (x : X) → i < length xs → x ≡ get_or xs i x → map g (take (i + 1) xs) ≡ map g (take i xs) ++ g x ∷ []
@@ -21,14 +22,22 @@ take-map g zero xs = refl
 take-map g (suc i) [] = refl
 take-map g (suc i) (x ∷ xs) = ap (λ z. g x ∷ z) (take-map g i xs)
 
-pub repeated-more : {X : Type 0} (g : X → Ident) (xs : List X) (names : List (List ℕ)) (i : ℕ) (x : X) (n m : Option Fault) (b : Bool) → i < length xs → x ≡ get_or xs i x
-    → names ≡ map (λ y. (g y).name) xs → b ≡ is_some (place_of (g x).name (take i names)) → m ≡ noted n (fault_if b DuplicateName (g x).anchor)
-    → noted m (repeated (map (λ y. (g y).name) (take (i + 1) xs)) (map g (drop (i + 1) xs))) ≡ noted n (repeated (map (λ y. (g y).name) (take i xs)) (map g (drop i xs)))
-repeated-more g xs names i x n m b h e all q p =
-    let earlier = map (λ y. (g y).name) (take i xs) in
-    let left = repeated (earlier ++ (g x).name ∷ []) (map g (drop (i + 1) xs)) in
-    let here : b ≡ is_some (place_of (g x).name earlier) = q ∙ ap (λ z. is_some (place_of (g x).name z)) (ap (take i) all ∙ take-map (λ y. (g y).name) i xs) in
-    ap (λ z. noted m (repeated z (map g (drop (i + 1) xs)))) (taken-more (λ y. (g y).name) xs i x h e)
-    ∙ ap (λ k. noted k left) (p ∙ ap (λ c. noted n (fault_if c DuplicateName (g x).anchor)) here)
-    ∙ sym (noted_append n (again earlier (g x)) left)
-    ∙ ap (λ d. noted n (repeated earlier (map g d))) (sym (unrolled xs i x h e))
+pub repeated-more : (xs : List Ident) (names : List (List ℕ)) (i : ℕ) (x : Ident) (n m : Option Fault) (b : Bool) → i < length xs → x ≡ get_or xs i x
+    → names ≡ names_of xs → b ≡ is_some (place_of x.name (take i names)) → m ≡ noted n (fault_if b DuplicateName x.anchor)
+    → noted m (repeated (names_of (take (i + 1) xs)) (drop (i + 1) xs)) ≡ noted n (repeated (names_of (take i xs)) (drop i xs))
+repeated-more xs names i x n m b h e all q p =
+    let earlier = names_of (take i xs) in
+    let left = repeated (earlier ++ x.name ∷ []) (drop (i + 1) xs) in
+    let here : b ≡ is_some (place_of x.name earlier) = q ∙ ap (λ z. is_some (place_of x.name z)) (ap (take i) all ∙ take-map (λ y. y.name) i xs) in
+    ap (λ z. noted m (repeated z (drop (i + 1) xs))) (taken-more (λ y. y.name) xs i x h e)
+    ∙ ap (λ k. noted k left) (p ∙ ap (λ c. noted n (fault_if c DuplicateName x.anchor)) here)
+    ∙ sym (noted_append n (again earlier x) left)
+    ∙ ap (λ d. noted n (repeated earlier d)) (sym (unrolled xs i x h e))
+
+-- faults of each in turn
+pub faults-more : {X : Type 0} (f : X → List Fault) (xs : List X) (i : ℕ) (x : X) (n m : Option Fault) → i < length xs → x ≡ get_or xs i x → m ≡ noted n (f x)
+    → noted m (flat_map f (drop (i + 1) xs)) ≡ noted n (flat_map f (drop i xs))
+faults-more f xs i x n m h e p =
+    ap (λ k. noted k (flat_map f (drop (i + 1) xs))) p
+    ∙ sym (noted_append n (f x) (flat_map f (drop (i + 1) xs)))
+    ∙ ap (λ d. noted n (flat_map f d)) (sym (unrolled xs i x h e))

@@ -1,23 +1,34 @@
--- What a binder answers for a statement: the bound tree exactly where there is no fault, and else the least fault, unless memory runs out, which
--- says nothing of the statement.
-use Rattle.std.specs.Prelude.{◌≡◌, true, [], None}
-use Rattle.syntax_trees.specs.declared.statement.Stmt.{Stmt}
-use Rattle.rel_algebra.specs.Plain.{planned}
+-- What a binder answers for a statement: the bound tree exactly where there is no fault, and else the
+-- least fault, unless memory runs out, which says nothing of the statement.
+use Rattle.std.specs.Prelude.{ℕ, ◌≡◌, List, [], None, IsSome}
+use Rattle.statement_trees.specs.declared.statement.Stmt.{Stmt}
+use Rattle.bound_trees.specs.declared.query.BoundQuery.{BoundQuery}
 use Rattle.catalog_store.specs.Catalog.{Catalog, object_named}
 use Rattle.catalog_store.specs.Entries.{ObjectFits}
 use Rattle.catalog_store.specs.Planning.{AllPlanned}
+use Rattle.catalog_store.specs.Users.{users_of}
 use Rattle.catalog_store.specs.View.{query_of}
-pub use Rattle.sql_names.specs.Binds.{Binds}
-use Rattle.psm_names.specs.declared.statement.BoundStmt.{BoundStmt}
-use Rattle.psm_names.specs.declared.statement.BoundStmt.TheVariants as bound
+use Rattle.catalog_store.specs.Widths.{width_in}
+use Rattle.data_change.specs.Met.{Meets}
+pub use Rattle.sql_names.specs.Binds.{Binds, HasPlan}
+use Rattle.psm_names.specs.declared.bound.BoundStmt.{BoundStmt}
+use Rattle.psm_names.specs.declared.bound.BoundStmt.TheVariants as bound
 use Rattle.psm_names.specs.Statements.{judged_statement}
 
--- What is made has a name that stands for nothing, and fits the catalog. A query has a plan: so have the functions that it calls, and
--- the rows of VALUES are of one length.
+-- a query of rows of the table of a name has a plan, and gives each with all of its columns
+abbrev pub MeetsRows : Catalog → List ℕ → BoundQuery → Type 0
+MeetsRows catalog name q = HasPlan catalog q × Meets name (width_in catalog name) (query_of catalog q)
+
+-- What is made has a name that stands for nothing, and fits the catalog; what is dropped stands there,
+-- and nothing else uses it. A query has a plan: so have the functions that it calls, and the rows of
+-- VALUES are of one length.
 abbrev pub StatementFits : Catalog → BoundStmt → Type 0
 StatementFits catalog (bound.Create name object) = (object_named name catalog ≡ None) × ObjectFits catalog object
-StatementFits catalog (bound.Insert b) = planned (query_of catalog b.source) ≡ true
-StatementFits catalog (bound.Query q) = planned (query_of catalog q) ≡ true
+StatementFits catalog (bound.Drop name) = IsSome (object_named name catalog) × (users_of name catalog ≡ 0)
+StatementFits catalog (bound.Insert b listed) = HasPlan catalog b.source
+StatementFits catalog (bound.Update b) = MeetsRows catalog b.table b.rows
+StatementFits catalog (bound.Delete b) = MeetsRows catalog b.table b.rows
+StatementFits catalog (bound.Query q) = HasPlan catalog q
 
 -- a statement without faults fits a catalog whose functions have plans
 abbrev pub FaultlessFits : Type 0

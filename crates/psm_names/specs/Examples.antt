@@ -1,42 +1,76 @@
--- Worked rows: one for each kind of fault and each rule of its place, and what a statement without faults is bound to.
-use Rattle.std.specs.Prelude.{ℕ, pos, ◌≡◌, List, [], ◌∷◌, map, Option, None, Some, codes}
+-- Worked rows: one for each kind of fault and each rule of its place, and what a statement without
+-- faults is bound to.
+use Rattle.std.specs.Prelude.{ℕ, ◌+◌, pos, ◌≡◌, true, false, List, [], ◌∷◌, ◌++◌, map, Option, None, Some, codes}
+use Rattle.sql_values.specs.declared.value.SqlType.TheVariants as type
+use Rattle.sql_values.specs.declared.value.Value.TheVariants.{Null, Int}
 use Rattle.sql_values.specs.declared.fold.FoldKind.TheVariants.{Sum, Max}
 use Rattle.sql_values.specs.declared.operators.Operator.TheVariants.{Add, Divide, Concatenate}
 use Rattle.sql_values.specs.declared.operators.Comparison.TheVariants.{Equals}
+use Rattle.syntax_trees.specs.declared.anchor.Ident.{Ident}
 use Rattle.syntax_trees.specs.declared.data_type.DataType.{DataType}
 use Rattle.syntax_trees.specs.declared.data_type.TypeName.TheVariants as written
 use Rattle.syntax_trees.specs.declared.expr.ChainOperator.TheVariants.{Or, And, Value}
+use Rattle.syntax_trees.specs.declared.expr.Expr.{Expr as Tree}
 use Rattle.syntax_trees.specs.declared.expr.Operation.TheVariants.{Plus, Minus, Not, Compare, Is, IsNot, In, NotIn, Modulo, CharLength, Substring, Cast, Coalesce, Case, CaseOf}
 use Rattle.syntax_trees.specs.declared.expr.TruthTest.TheVariants as test
-use Rattle.syntax_trees.specs.declared.statement.Column.{Column}
-use Rattle.syntax_trees.specs.declared.statement.CreateFunction.{CreateFunction}
-use Rattle.syntax_trees.specs.declared.statement.Insert.{Insert}
-use Rattle.syntax_trees.specs.declared.statement.Parameter.{Parameter}
-use Rattle.syntax_trees.specs.declared.statement.Stmt.{Stmt}
-use Rattle.syntax_trees.specs.declared.statement.Stmt.TheVariants as stmt
-use Rattle.syntax_trees.specs.declared.statement.Constraint.{Constraint}
-use Rattle.syntax_trees.specs.declared.statement.Constraint.TheVariants.{NotNull, PrimaryKey}
+use Rattle.syntax_trees.specs.declared.query.OrderedQuery.{OrderedQuery}
+use Rattle.statement_trees.specs.declared.definition.Column.{Column}
+use Rattle.statement_trees.specs.declared.definition.Characteristic.{Characteristic}
+use Rattle.statement_trees.specs.declared.definition.CharacteristicKind.TheVariants.{Deterministic}
+use Rattle.statement_trees.specs.declared.definition.CreateTable.{CreateTable}
+use Rattle.statement_trees.specs.declared.definition.DropObject.{DropObject}
+use Rattle.statement_trees.specs.declared.definition.ObjectSort.{ObjectSort}
+use Rattle.statement_trees.specs.declared.definition.ObjectSort.TheVariants as sort
+use Rattle.statement_trees.specs.declared.definition.Parameter.{Parameter}
+use Rattle.statement_trees.specs.declared.definition.ParameterMode.TheVariants as mode
+use Rattle.statement_trees.specs.declared.definition.TableElement.{TableElement}
+use Rattle.statement_trees.specs.declared.definition.TableElement.TheVariants as element
+use Rattle.statement_trees.specs.declared.writing.Assignment.{Assignment}
+use Rattle.statement_trees.specs.declared.writing.Call.{Call}
+use Rattle.statement_trees.specs.declared.writing.Delete.{Delete}
+use Rattle.statement_trees.specs.declared.writing.Insert.{Insert}
+use Rattle.statement_trees.specs.declared.writing.Update.{Update}
+use Rattle.statement_trees.specs.declared.statement.Block.{roll-Block}
+use Rattle.statement_trees.specs.declared.statement.CreateFunction.{roll-CreateFunction}
+use Rattle.statement_trees.specs.declared.statement.CreateProcedure.{roll-CreateProcedure}
+use Rattle.statement_trees.specs.declared.statement.Labelled.{roll-Labelled}
+use Rattle.statement_trees.specs.declared.statement.Stmt.{Stmt}
+use Rattle.statement_trees.specs.declared.statement.Stmt.TheVariants as stmt
+use Rattle.statement_trees.specs.declared.statement.Structure.{Structure}
+use Rattle.statement_trees.specs.declared.statement.Structure.TheVariants as structure
+use Rattle.statement_trees.specs.declared.definition.Constraint.{Constraint}
+use Rattle.statement_trees.specs.declared.definition.Constraint.TheVariants.{NotNull, PrimaryKey}
 use Rattle.bound_trees.specs.declared.expr.BoundExpr.{BoundExpr}
 use Rattle.bound_trees.specs.declared.expr.BoundExpr.TheVariants as bound
-use Rattle.bound_trees.specs.declared.expr.BoundOperation.TheVariants.{NullTest, Opposite}
+use Rattle.bound_trees.specs.declared.expr.BoundOperation.TheVariants.{NullTest, Opposite, Comparing}
+use Rattle.bound_trees.specs.declared.expr.BoundOperation.TheVariants as word_of
 use Rattle.bound_trees.specs.declared.query.BoundFromItem.TheVariants as from
 use Rattle.bound_trees.specs.declared.query.BoundQuery.{BoundQuery}
 use Rattle.bound_trees.specs.declared.query.BoundQuery.TheVariants as query
+use Rattle.bound_trees.specs.declared.query.BoundRow.TheVariants as row
 use Rattle.bound_trees.specs.declared.query.BoundSelect.{roll-BoundSelect}
 use Rattle.bound_trees.specs.declared.query.BoundSource.TheVariants as source
+use Rattle.catalog_store.specs.Catalog.{Catalog, FunctionObject, missing}
+use Rattle.catalog_store.specs.declared.entry.Object.TheVariants as new
+use Rattle.name_faults.specs.declared.fault.Fault.{Fault}
 use Rattle.name_faults.specs.declared.fault.FaultKind.{FaultKind}
 use Rattle.name_faults.specs.declared.fault.FaultKind.TheVariants.{UnknownName, DuplicateName, TypeMismatch, WrongCount, NotPermitted, TooHigh}
 use Rattle.name_faults.specs.Faults.{least}
-use Rattle.sql_names.specs.Examples.{at, fault, called, null, number, text, truth, name, call, word, chain, aggregate, catalog, item, table as table_ref}
+use Rattle.name_kinds.specs.Conjuncts.{conjuncts_of}
+use Rattle.sql_names.specs.Examples.{at, fault, called, null, number, text, truth, name, qualified, call, word, chain, equal, aggregate, column, catalog, item, table as table_ref}
 use Rattle.sql_names.specs.Written.{Expr, Subquery, Query, Select, Values, Comma, exprs, froms, expr_of, query_of}
-use Rattle.psm_names.specs.declared.statement.BoundStmt.TheVariants as bound_as
+use Rattle.psm_names.specs.declared.bound.BoundStmt.TheVariants as bound_as
+use Rattle.psm_names.specs.Functions.{Definition}
 use Rattle.psm_names.specs.Statements.{judged_statement}
 
 -- ---- statements
 
 -- a query without ORDER BY
+abbrev pub unordered : Query → OrderedQuery
+unordered q = record { query = query_of q; order = [] }
+
 abbrev pub asked : Query → Stmt
-asked q = stmt.Query (record { query = query_of q; order = [] })
+asked q = stmt.Query (unordered q)
 
 -- VALUES rows
 abbrev pub values_of : List (List Expr) → Query
@@ -47,10 +81,48 @@ values rs = asked (values_of rs)
 
 -- INSERT INTO name VALUES rows
 abbrev pub insert_of : List ℕ → List (List Expr) → Insert
-insert_of n rs = record { anchor = at 0; table = called n 2; source = query_of (values_of rs) }
+insert_of n rs = record { anchor = at 0; table = called n 2; columns = []; source = query_of (values_of rs) }
 
 abbrev pub insert : List ℕ → List (List Expr) → Stmt
 insert n rs = stmt.Insert (insert_of n rs)
+
+-- INSERT INTO name (columns) VALUES row
+abbrev pub listed_row : List Expr → Query
+listed_row es = Values (at 10) (exprs es ∷ [])
+
+abbrev pub listed_of : List ℕ → List Ident → List Expr → Insert
+listed_of n is es = record { anchor = at 0; table = called n 2; columns = is; source = query_of (listed_row es) }
+
+abbrev pub insert_listed : List ℕ → List Ident → List Expr → Stmt
+insert_listed n is es = stmt.Insert (listed_of n is es)
+
+-- UPDATE name SET column = value, .. WHERE filter
+abbrev pub assignment : Ident × Expr → Assignment
+assignment a = record { target = a.0; value = expr_of a.1 }
+
+abbrev pub filter_of : Option Expr → Option Tree
+filter_of None = None
+filter_of (Some e) = Some (expr_of e)
+
+abbrev pub update_of : List ℕ → List (Ident × Expr) → Option Expr → Update
+update_of n sets filter = record { anchor = at 0; table = called n 1; assignments = map assignment sets; filter = filter_of filter }
+
+abbrev pub update : List ℕ → List (Ident × Expr) → Option Expr → Stmt
+update n sets filter = stmt.Update (update_of n sets filter)
+
+-- DELETE FROM name WHERE filter
+abbrev pub delete_of : List ℕ → Option Expr → Delete
+delete_of n filter = record { anchor = at 0; table = called n 2; filter = filter_of filter }
+
+abbrev pub delete : List ℕ → Option Expr → Stmt
+delete n filter = stmt.Delete (delete_of n filter)
+
+-- DROP sort name
+abbrev pub removal : ObjectSort → List ℕ → DropObject
+removal of n = record { anchor = at 0; sort = of; name = called n 2 }
+
+abbrev pub drop : ObjectSort → List ℕ → Stmt
+drop of n = stmt.Drop (removal of n)
 
 -- SELECT items FROM name WHERE filter
 abbrev pub select_of : List ℕ → List Expr → Option Expr → Query
@@ -73,18 +145,32 @@ varchar token place n = record { anchor = at token; name = written.Varchar (at p
 abbrev pub new_column : List ℕ → ℕ → DataType → List Constraint → Column
 new_column n token t constraints = record { name = called n token; data_type = t; constraints = constraints }
 
+abbrev pub new_table : List ℕ → List TableElement → CreateTable
+new_table n elements = record { anchor = at 0; name = called n 2; elements = elements }
+
+abbrev pub table_of : List ℕ → List TableElement → Stmt
+table_of n elements = stmt.CreateTable (new_table n elements)
+
 abbrev pub table : List ℕ → List Column → Stmt
-table n columns = stmt.CreateTable (record { anchor = at 0; name = called n 2; columns = columns })
+table n columns = table_of n (map (λ c. element.Column c) columns)
+
+-- PRIMARY KEY (columns)
+abbrev pub key : ℕ → List Ident → TableElement
+key token is = element.PrimaryKey (at token) is
 
 -- CREATE FUNCTION name (parameters) RETURNS type RETURN result
 abbrev pub new_parameter : List ℕ → ℕ → DataType → Parameter
-new_parameter n token t = record { name = called n token; data_type = t }
+new_parameter n token t = record { mode = mode.In; name = called n token; data_type = t }
 
-abbrev pub new_function : List ℕ → List Parameter → DataType → Expr → CreateFunction
-new_function n parameters to result = record { anchor = at 0; name = called n 2; parameters = parameters; returns = to; result = expr_of result }
+abbrev pub definition_of : List ℕ → List Parameter → DataType → List Characteristic → Stmt → Definition
+definition_of n parameters to cs body =
+    record { anchor = at 0; name = called n 2; parameters = parameters; returns = to; characteristics = cs; body = body }
+
+abbrev pub new_function : List ℕ → List Parameter → DataType → Expr → Definition
+new_function n parameters to result = definition_of n parameters to [] (stmt.Return (at 9) (expr_of result))
 
 abbrev pub function : List ℕ → List Parameter → DataType → Expr → Stmt
-function n parameters to result = stmt.CreateFunction (new_function n parameters to result)
+function n parameters to result = stmt.CreateFunction (roll-CreateFunction (new_function n parameters to result))
 
 abbrev pub Least : Stmt → FaultKind → ℕ → Type 0
 Least s kind token = least (judged_statement s catalog).faults ≡ Some (fault kind token)
@@ -123,6 +209,134 @@ pub record EachFaultAtItsPlace : Type 0 where
   pub unknown_table_in_a_subquery : Least (function (codes "G") [] (integer 8) (Subquery (select_of (codes "U") (null 12 ∷ []) None))) UnknownName 90
   pub parameter_in_a_subquery : (judged_statement (function (codes "G") (new_parameter (codes "X") 4 (integer 5) ∷ []) (integer 8) (Subquery (select_of (codes "T") (name (codes "X") 12 ∷ []) None))) catalog).faults ≡ []
   pub free : (judged_statement (table (codes "V") (new_column (codes "A") 4 (boolean 5) (NotNull ∷ []) ∷ new_column (codes "K") 8 (varchar 9 11 4096) (PrimaryKey (at 13) ∷ []) ∷ [])) catalog).faults ≡ []
+
+-- ---- keys
+
+-- A INTEGER, and K INTEGER
+abbrev pub a_column : ℕ → TableElement
+a_column token = element.Column (new_column (codes "A") token (integer (token + 1)) [])
+
+abbrev pub k_column : ℕ → List Constraint → TableElement
+k_column token constraints = element.Column (new_column (codes "K") token (integer (token + 1)) constraints)
+
+-- K and A as the key's columns
+abbrev pub k_and_a : ℕ → ℕ → List Ident
+k_and_a k a = called (codes "K") k ∷ called (codes "A") a ∷ []
+
+-- the faults of a statement, all of them
+abbrev pub All : Stmt → List Fault → Type 0
+All s fs = (judged_statement s catalog).faults ≡ fs
+
+pub record KeysOfTables : Type 0 where
+  pub list_behind_a_list : Least (table_of (codes "V") (a_column 4 ∷ key 7 (called (codes "A") 10 ∷ []) ∷ key 13 (called (codes "A") 16 ∷ []) ∷ [])) DuplicateName 13
+  pub list_behind_a_column : Least (table_of (codes "V") (k_column 4 (PrimaryKey (at 6) ∷ []) ∷ key 9 (called (codes "K") 12 ∷ []) ∷ [])) DuplicateName 9
+  pub column_behind_a_list : Least (table_of (codes "V") (key 4 (called (codes "K") 7 ∷ []) ∷ k_column 10 (PrimaryKey (at 12) ∷ []) ∷ [])) DuplicateName 12
+  pub no_column : Least (table_of (codes "V") (a_column 4 ∷ key 7 (k_and_a 10 12) ∷ [])) UnknownName 10
+  pub column_twice : Least (table_of (codes "V") (a_column 4 ∷ key 7 (called (codes "A") 10 ∷ called (codes "A") 12 ∷ []) ∷ [])) DuplicateName 12
+  pub no_column_twice : All (table_of (codes "V") (a_column 4 ∷ key 7 (called (codes "B") 10 ∷ called (codes "B") 12 ∷ []) ∷ [])) (fault DuplicateName 12 ∷ fault UnknownName 10 ∷ fault UnknownName 12 ∷ [])
+  pub of_the_second_list : Least (table_of (codes "V") (k_column 4 (PrimaryKey (at 6) ∷ []) ∷ key 9 (called (codes "B") 12 ∷ []) ∷ [])) DuplicateName 9
+  pub no_column_of_a_later_key : All (table_of (codes "V") (k_column 4 (PrimaryKey (at 6) ∷ []) ∷ key 9 (called (codes "B") 12 ∷ []) ∷ [])) (fault DuplicateName 9 ∷ fault UnknownName 12 ∷ [])
+  pub of_later_columns : All (table_of (codes "V") (key 4 (k_and_a 7 9) ∷ a_column 12 ∷ k_column 15 [] ∷ [])) []
+
+-- ---- DROP
+
+-- the catalog with a function G that reads T and calls E
+abbrev pub with_user : Catalog
+with_user = catalog ++ record { name = codes "G"; object = FunctionObject (record { parameters = []; returns = type.Integer; height = 2; uses = codes "T" ∷ codes "E" ∷ []; routine = missing }) } ∷ []
+
+abbrev pub LeastOver : Stmt → Catalog → FaultKind → ℕ → Type 0
+LeastOver s known kind token = least (judged_statement s known).faults ≡ Some (fault kind token)
+
+pub record DropsOfEntries : Type 0 where
+  pub nothing : Least (drop sort.Table (codes "V")) UnknownName 2
+  pub table_as_function : Least (drop sort.Function (codes "T")) UnknownName 2
+  pub function_as_table : Least (drop sort.Table (codes "F")) UnknownName 2
+  pub function_as_procedure : Least (drop sort.Procedure (codes "F")) UnknownName 2
+  pub table_in_use : LeastOver (drop sort.Table (codes "T")) with_user NotPermitted 2
+  pub function_in_use : LeastOver (drop sort.Function (codes "E")) with_user NotPermitted 2
+  pub sort_before_use : LeastOver (drop sort.Function (codes "T")) with_user UnknownName 2
+  pub unused : All (drop sort.Table (codes "T")) []
+  pub user : (judged_statement (drop sort.Function (codes "G")) with_user).faults ≡ []
+  pub dropped : (judged_statement (drop sort.Function (codes "F")) catalog).value ≡ bound_as.Drop (codes "F")
+
+-- ---- statements that are not run
+
+-- CREATE FUNCTION G (X INTEGER) RETURNS INTEGER characteristics body
+abbrev pub g_of : List Characteristic → Stmt → Definition
+g_of cs body = definition_of (codes "G") (new_parameter (codes "X") 4 (integer 5) ∷ []) (integer 8) cs body
+
+abbrev pub function_g : List Characteristic → Stmt → Stmt
+function_g cs body = stmt.CreateFunction (roll-CreateFunction (g_of cs body))
+
+abbrev pub deterministic : Characteristic
+deterministic = record { anchor = at 9; kind = Deterministic }
+
+-- RETURN name
+abbrev pub returning : List ℕ → Stmt
+returning n = stmt.Return (at 10) (expr_of (name n 11))
+
+-- CALL P ()
+abbrev pub call_of : ℕ → Call
+call_of token = record { anchor = at token; name = called (codes "P") (token + 1); arguments = [] }
+
+-- BEGIN statements END, behind a label or not
+abbrev pub begin_end : List Stmt → Structure
+begin_end statements = structure.Block (roll-Block (record { atomic = false; declarations = []; statements = statements }))
+
+abbrev pub block : Option Ident → ℕ → List Stmt → Stmt
+block label token statements =
+    stmt.Labelled (roll-Labelled (record { label = label; anchor = at token; structure = begin_end statements; end_label = None }))
+
+-- CREATE PROCEDURE P () body
+abbrev pub procedure : Stmt → Stmt
+procedure body = stmt.CreateProcedure (roll-CreateProcedure (record { anchor = at 0; name = called (codes "P") 2; parameters = []; characteristics = []; body = body }))
+
+-- EXPLAIN SELECT NULL FROM U, a table that is not known
+abbrev pub explained : OrderedQuery
+explained = unordered (select_of (codes "U") (null 2 ∷ []) None)
+
+pub record RefusedForms : Type 0 where
+  pub form_that_is_run : All (function (codes "G") (new_parameter (codes "X") 4 (integer 5) ∷ []) (integer 8) (name (codes "X") 10)) []
+  pub body_that_is_a_block : Only (function_g [] (block None 9 (returning (codes "X") ∷ []))) NotPermitted 0
+  pub body_that_is_a_call : Only (function_g [] (stmt.Call (call_of 9))) NotPermitted 0
+  pub with_a_characteristic : Only (function_g (deterministic ∷ []) (returning (codes "X"))) NotPermitted 0
+  pub fault_inside_unseen : Only (function_g (deterministic ∷ []) (returning (codes "B"))) NotPermitted 0
+  pub of_a_procedure : Only (procedure (delete (codes "T") None)) NotPermitted 0
+  pub of_call : Only (stmt.Call (call_of 0)) NotPermitted 0
+  pub at_begin : Only (block (Some (called (codes "L") 0)) 2 (delete (codes "U") None ∷ [])) NotPermitted 2
+  pub at_begin_without_a_label : Only (block None 0 []) NotPermitted 0
+  pub of_explain : Only (stmt.Explain (at 0) explained) NotPermitted 0
+  pub of_return : Only (returning (codes "X")) NotPermitted 10
+  pub nothing_made : (judged_statement (block None 0 []) catalog).value ≡ bound_as.Query (query.Values [])
+
+-- ---- writing
+
+pub record FaultsOfWriting : Type 0 where
+  pub listed_twice : Least (insert_listed (codes "T") (called (codes "K") 4 ∷ called (codes "K") 6 ∷ []) (null 12 ∷ null 14 ∷ [])) DuplicateName 6
+  pub unknown_in_the_list : Least (insert_listed (codes "T") (called (codes "A") 4 ∷ called (codes "B") 6 ∷ []) (null 12 ∷ null 14 ∷ [])) UnknownName 6
+  pub unknown_twice : All (insert_listed (codes "T") (called (codes "B") 4 ∷ called (codes "B") 6 ∷ []) (null 12 ∷ null 14 ∷ [])) (fault DuplicateName 6 ∷ fault UnknownName 4 ∷ fault UnknownName 6 ∷ [])
+  pub listed_twice_of_no_table : All (insert_listed (codes "U") (called (codes "B") 4 ∷ called (codes "B") 6 ∷ []) (null 12 ∷ null 14 ∷ [])) (fault UnknownName 2 ∷ fault DuplicateName 6 ∷ [])
+  pub more_than_listed : Least (insert_listed (codes "T") (called (codes "A") 4 ∷ []) (null 12 ∷ null 14 ∷ [])) WrongCount 10
+  pub fewer_than_listed : Least (insert_listed (codes "T") (called (codes "A") 4 ∷ called (codes "K") 6 ∷ []) (null 12 ∷ [])) WrongCount 10
+  pub width_for_no_table : All (insert_listed (codes "U") (called (codes "A") 4 ∷ []) (null 12 ∷ null 14 ∷ [])) (fault UnknownName 2 ∷ fault WrongCount 10 ∷ [])
+  pub kind_by_the_list : Least (insert_listed (codes "S") (called (codes "B") 4 ∷ called (codes "A") 6 ∷ []) (text 12 ∷ text 14 ∷ [])) TypeMismatch 14
+  pub any_kind_for_no_column : All (insert_listed (codes "T") (called (codes "B") 4 ∷ []) (text 12 ∷ [])) (fault UnknownName 4 ∷ [])
+  pub no_table_to_update : Only (update (codes "U") ((called (codes "B") 3, name (codes "C") 5) ∷ []) (Some (name (codes "D") 7))) UnknownName 1
+  pub assigned_twice : Least (update (codes "T") ((called (codes "A") 3, null 5) ∷ (called (codes "A") 7, null 9) ∷ []) None) DuplicateName 7
+  pub unknown_assigned_twice : All (update (codes "T") ((called (codes "B") 3, null 5) ∷ (called (codes "B") 7, null 9) ∷ []) None) (fault DuplicateName 7 ∷ fault UnknownName 3 ∷ fault UnknownName 7 ∷ [])
+  pub unknown_assigned : Least (update (codes "T") ((called (codes "B") 3, null 5) ∷ []) None) UnknownName 3
+  pub kind_of_the_column : Least (update (codes "S") ((called (codes "B") 3, text 5) ∷ (called (codes "A") 7, text 9) ∷ []) None) TypeMismatch 9
+  pub one_fault_in_a_value : Only (update (codes "T") ((called (codes "A") 3, chain (text 5) (Value Add) 6 (number 7)) ∷ []) None) TypeMismatch 5
+  pub unknown_in_a_value : Least (update (codes "T") ((called (codes "A") 3, name (codes "B") 5) ∷ []) None) UnknownName 5
+  pub aggregate_in_a_value : Least (update (codes "T") ((called (codes "A") 3, aggregate Max 5 (name (codes "A") 7)) ∷ []) None) NotPermitted 5
+  pub test_of_update : Least (update (codes "T") ((called (codes "A") 3, null 5) ∷ []) (Some (number 7))) TypeMismatch 7
+  pub aggregate_in_where : Least (delete (codes "T") (Some (equal (aggregate Max 4 (name (codes "A") 6)) 8 (number 9)))) NotPermitted 4
+  pub under_its_name : All (update (codes "T") ((called (codes "A") 3, qualified (codes "T") 5 (codes "K")) ∷ []) (Some (equal (qualified (codes "T") 9 (codes "A")) 12 (number 13)))) []
+  pub under_another_name : Least (update (codes "T") ((called (codes "A") 3, qualified (codes "S") 5 (codes "A")) ∷ []) None) UnknownName 5
+  pub no_table_to_delete : Only (delete (codes "U") (Some (name (codes "D") 4))) UnknownName 2
+  pub function_to_delete : Least (delete (codes "F") None) UnknownName 2
+  pub test_of_delete : Least (delete (codes "T") (Some (text 4))) TypeMismatch 4
+  pub unknown_in_where : Least (delete (codes "T") (Some (equal (name (codes "B") 4) 5 (null 6)))) UnknownName 4
 
 -- ---- kinds
 
@@ -188,3 +402,36 @@ bound_query = query.Select (roll-BoundSelect (record { items = bound_items; from
 
 pub record BindsByPlaceAndName : Type 0 where
   pub whole : (judged_statement selected catalog).value ≡ bound_as.Query bound_query
+
+-- ---- what is written, met and made
+
+-- all columns of a row of T or S, and then values
+abbrev pub met : List ℕ → List BoundExpr → List BoundExpr → BoundQuery
+met n values conjuncts = query.Select (roll-BoundSelect (record { items = bound.Column 0 0 ∷ bound.Column 0 1 ∷ values; from = from.Comma (source.Table n) ∷ []; conjuncts = conjuncts; grouping = None }))
+
+-- K = 7
+abbrev pub k_is_seven : BoundExpr
+k_is_seven = bound.Operation (Comparing Equals) (bound.Column 0 0 ∷ bound.Literal (Int (pos 7)) ∷ [])
+
+-- A IS NULL
+abbrev pub a_is_null : BoundExpr
+a_is_null = bound.Operation NullTest (bound.Column 0 1 ∷ [])
+
+pub record BindsWriting : Type 0 where
+  -- INSERT INTO T (A, K) VALUES (NULL, 7)
+  pub by_the_list : (judged_statement (insert_listed (codes "T") (called (codes "A") 4 ∷ called (codes "K") 6 ∷ []) (null 12 ∷ number 14 ∷ [])) catalog).value
+      ≡ bound_as.Insert (record { table = codes "T"; source = query.Values (row.Row (bound.Literal Null ∷ bound.Literal (Int (pos 7)) ∷ []) ∷ []) }) (Some (1 ∷ 0 ∷ []))
+  pub without_a_list : (judged_statement (insert (codes "T") ((null 5 ∷ null 7 ∷ []) ∷ [])) catalog).value
+      ≡ bound_as.Insert (record { table = codes "T"; source = query.Values (row.Row (bound.Literal Null ∷ bound.Literal Null ∷ []) ∷ []) }) None
+  -- UPDATE S SET B = NULL, A = A
+  pub in_another_order : (judged_statement (update (codes "S") ((called (codes "B") 3, null 5) ∷ (called (codes "A") 7, name (codes "A") 9) ∷ []) None) catalog).value
+      ≡ bound_as.Update (record { table = codes "S"; targets = 1 ∷ 0 ∷ []; rows = met (codes "S") (bound.Literal Null ∷ bound.Column 0 0 ∷ []) [] })
+  -- DELETE FROM T WHERE K = 7 AND A IS NULL
+  pub by_conjuncts : (judged_statement (delete (codes "T") (Some (chain (equal (name (codes "K") 4) 5 (number 6)) And 7 (word (Is test.Null) 9 (name (codes "A") 8 ∷ []))))) catalog).value
+      ≡ bound_as.Delete (record { table = codes "T"; rows = met (codes "T") [] (conjuncts_of (bound.Operation word_of.And (k_is_seven ∷ a_is_null ∷ []))) })
+  pub without_a_test : (judged_statement (delete (codes "T") None) catalog).value ≡ bound_as.Delete (record { table = codes "T"; rows = met (codes "T") [] [] })
+  -- the columns of a key in the order in which it lists them
+  pub key_of_two_columns : (judged_statement (table_of (codes "V") (a_column 4 ∷ key 7 (k_and_a 10 12) ∷ k_column 15 (NotNull ∷ []) ∷ [])) catalog).value
+      ≡ bound_as.Create (codes "V") (new.Table (record { columns = column (codes "A") type.Integer ∷ record { name = codes "K"; data_type = type.Integer; not_null = true } ∷ []; key = 1 ∷ 0 ∷ [] }))
+  pub key_of_a_column : (judged_statement (table_of (codes "V") (a_column 4 ∷ k_column 7 (PrimaryKey (at 9) ∷ []) ∷ [])) catalog).value
+      ≡ bound_as.Create (codes "V") (new.Table (record { columns = column (codes "A") type.Integer ∷ column (codes "K") type.Integer ∷ []; key = 1 ∷ [] }))

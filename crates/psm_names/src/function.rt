@@ -2,26 +2,28 @@
 
 ghost use Rattle.std.specs.Prelude.{◌≡◌, ◌++◌, [], map, IfOk, OnOk};
 ghost use Rattle.std.specs.List.{flat_map};
+ghost use Rattle.statement_trees.specs.declared.statement.CreateFunction.{out-CreateFunction};
 ghost use Rattle.name_faults.specs.Faults.{noted};
 ghost use Rattle.name_kinds.specs.Types.{type_faults};
 ghost use Rattle.name_kinds.specs.Types.{type_of as written_type};
 ghost use Rattle.sql_names.specs.Names.{judge};
 ghost use Rattle.names_in_sight.specs.Sight.{in_function};
 ghost use Rattle.sql_names.specs.Heights as heights;
-ghost use Rattle.psm_names.specs.Statements.{judged_function, function_with, repeated, parameter_names, parameter_kinds};
-ghost use Rattle.psm_names.specs.Statements as spec;
+ghost use Rattle.psm_names.specs.Functions.{judged_function, function_with, parameter_kinds};
+ghost use Rattle.psm_names.specs.Functions as spec;
 
-use crate::create::note_taken;
+use crate::names::{copied, indexed, note_repeated, note_taken};
 use bound_trees::BoundExpr;
 use catalog_store::{Body, Catalog, Head, Object, RoutineRecord};
 use name_faults::{Fault, FaultKind, Notes, note_if};
 use name_kinds::{Kind, in_turn, kind_of_type, note_type, type_of};
-use names_in_sight::{NameList, Sight, Variables};
+use names_in_sight::{Sight, Variables};
 use sql_names::bind_expr;
 use sql_values::{Name, NoMemory, SqlType};
 use sqlite_items::Items;
+use statement_trees::{CreateFunction, Parameter};
 use std::alloc::Global;
-use syntax_trees::{CreateFunction, Parameter};
+use syntax_trees::{Expr, Ident};
 
 /// The greatest height that a function may have.
 pub const MOST_HEIGHT: u32 = 8;
@@ -34,30 +36,14 @@ pub(crate) struct BoundBody {
     pub(crate) uses: Items<Name>,
 }
 
-fn copied_names(alloc: Global, parameters: &[Parameter]) -> Result<Items<Name>, NoMemory>
-    ensures { IfOk result (λ names. names ≡ parameter_names parameters.now) }
+fn parameter_idents(alloc: Global, parameters: &[Parameter]) -> Result<Items<Ident>, NoMemory>
+    ensures { IfOk result (λ idents. idents ≡ spec.parameter_idents parameters.now) }
 {
-    let mut names = Items::new(alloc);
+    let mut idents = Items::new(alloc);
     for parameter in parameters {
-        names.push(parameter.name.name.copied()?)?;
+        idents.push(copied(&parameter.name)?)?;
     }
-    Ok(names)
-}
-
-// Parameters of a name that an earlier one has.
-fn note_repeated(parameters: &[Parameter], names: &NameList, least: &mut Option<Fault>)
-    requires { names.now ≡ parameter_names parameters.now }
-    ensures { least.new ≡ noted least.old (repeated [] (map (λ p. p.name) parameters.now)) }
-{
-    for (place, parameter) in parameters.iter().enumerate() {
-        let again = names.stands_before(&parameter.name.name, place);
-        note_if(
-            again,
-            FaultKind::DuplicateName,
-            parameter.name.anchor,
-            least,
-        );
-    }
+    Ok(idents)
 }
 
 // The written types of the parameters.
@@ -86,12 +72,13 @@ fn parameters_of(
     create: &CreateFunction,
     least: &mut Option<Fault>,
 ) -> Result<Variables, NoMemory>
-    ensures variables { IfOk result (λ l. l ≡ spec.parameters_of create.now.parameters) }
-    ensures faults { OnOk result (least.new ≡ noted least.old (spec.parameter_faults create.now)) }
+    ensures variables { IfOk result (λ l. l ≡ spec.parameters_of (out-CreateFunction create.now).parameters) }
+    ensures faults { OnOk result (least.new ≡ noted least.old (spec.parameter_faults (out-CreateFunction create.now))) }
 {
     let parameters = create.parameters.as_slice();
-    let names = NameList::of(alloc, copied_names(alloc, parameters)?)?;
-    note_repeated(parameters, &names, least);
+    let idents = parameter_idents(alloc, parameters)?;
+    let names = indexed(alloc, idents.as_slice())?;
+    note_repeated(idents.as_slice(), &names, least);
     note_types(parameters, least);
     note_type(create.returns, least);
     let kinds = kinds_of(alloc, parameters)?;
@@ -146,7 +133,7 @@ fn function(
     called: u32,
     body: BoundBody,
 ) -> Result<Object, NoMemory>
-    ensures { IfOk result (λ o. o ≡ spec.function_of create.now called body.uses body.tree) }
+    ensures { IfOk result (λ o. o ≡ spec.function_of (out-CreateFunction create.now) called body.uses body.tree) }
 {
     let parameters = parameter_types(alloc, create.parameters.as_slice())?;
     let head = Head {
@@ -165,15 +152,15 @@ fn function(
 // The result, in which the parameters and the catalog's functions are in sight.
 fn bind_body(
     alloc: Global,
-    create: &CreateFunction,
+    returned: &Expr,
     parameters: &Variables,
     catalog: &Catalog,
     least: &mut Option<Fault>,
 ) -> Result<BoundBody, NoMemory>
-    ensures head { IfOk result (λ b. b.head ≡ (judge create.now.result (in_function parameters.now catalog.now)).value.head) }
-    ensures tree { IfOk result (λ b. b.tree ≡ (judge create.now.result (in_function parameters.now catalog.now)).value.tree) }
-    ensures uses { IfOk result (λ b. b.uses ≡ (judge create.now.result (in_function parameters.now catalog.now)).uses) }
-    ensures faults { OnOk result (least.new ≡ noted least.old (judge create.now.result (in_function parameters.now catalog.now)).faults) }
+    ensures head { IfOk result (λ b. b.head ≡ (judge returned.now (in_function parameters.now catalog.now)).value.head) }
+    ensures tree { IfOk result (λ b. b.tree ≡ (judge returned.now (in_function parameters.now catalog.now)).value.tree) }
+    ensures uses { IfOk result (λ b. b.uses ≡ (judge returned.now (in_function parameters.now catalog.now)).uses) }
+    ensures faults { OnOk result (least.new ≡ noted least.old (judge returned.now (in_function parameters.now catalog.now)).faults) }
 {
     let sight = Sight {
         levels: &[],
@@ -181,7 +168,7 @@ fn bind_body(
         catalog,
     };
     let mut notes = Notes::behind(alloc, *least);
-    let bound = bind_expr(alloc, &create.result, &sight, &mut notes)?;
+    let bound = bind_expr(alloc, returned, &sight, &mut notes)?;
     *least = notes.least;
     Ok(BoundBody {
         head: bound.head,
@@ -197,7 +184,7 @@ fn note_result(
     called: u32,
     least: &mut Option<Fault>,
 )
-    ensures { least.new ≡ noted least.old (spec.result_faults create.now head ++ spec.too_high create.now.name called) }
+    ensures { least.new ≡ noted least.old (spec.result_faults (out-CreateFunction create.now) head ++ spec.too_high (out-CreateFunction create.now).name called) }
 {
     let kinds = [kind_of_type(type_of(create.returns))];
     in_turn(&kinds, &[head], least);
@@ -209,32 +196,34 @@ fn note_result(
 fn bind_result(
     alloc: Global,
     create: &CreateFunction,
+    returned: &Expr,
     parameters: &Variables,
     catalog: &Catalog,
     least: &mut Option<Fault>,
 ) -> Result<Object, NoMemory>
-    ensures value { IfOk result (λ o. o ≡ (function_with create.now catalog.now (judge create.now.result (in_function parameters.now catalog.now))).value) }
-    ensures faults { OnOk result (least.new ≡ noted least.old (function_with create.now catalog.now (judge create.now.result (in_function parameters.now catalog.now))).faults) }
+    ensures value { IfOk result (λ o. o ≡ (function_with (out-CreateFunction create.now) catalog.now (judge returned.now (in_function parameters.now catalog.now))).value) }
+    ensures faults { OnOk result (least.new ≡ noted least.old (function_with (out-CreateFunction create.now) catalog.now (judge returned.now (in_function parameters.now catalog.now))).faults) }
 {
-    let body = bind_body(alloc, create, parameters, catalog, least)?;
+    let body = bind_body(alloc, returned, parameters, catalog, least)?;
     let called = greatest_height(catalog, body.uses.as_slice());
     note_result(create, body.head, called, least);
     function(alloc, create, called, body)
 }
 
-/// A new function, with its faults noted: the name is taken, two parameters have one name, a type is
-/// out of range, a name in its result stands for nothing, the result is of another kind than the type
-/// that is returned, or its height is over 8.
+/// A new function that gives back the value of an expression, with its faults noted: the name is
+/// taken, two parameters have one name, a type is out of range, a name in its result stands for
+/// nothing, the result is of another kind than the type that is returned, or its height is over 8.
 pub(crate) fn bind_function(
     alloc: Global,
     create: &CreateFunction,
+    returned: &Expr,
     catalog: &Catalog,
     least: &mut Option<Fault>,
 ) -> Result<Object, NoMemory>
-    ensures value { IfOk result (λ o. o ≡ (judged_function create.now catalog.now).value) }
-    ensures faults { OnOk result (least.new ≡ noted least.old (judged_function create.now catalog.now).faults) }
+    ensures value { IfOk result (λ o. o ≡ (judged_function (out-CreateFunction create.now) returned.now catalog.now).value) }
+    ensures faults { OnOk result (least.new ≡ noted least.old (judged_function (out-CreateFunction create.now) returned.now catalog.now).faults) }
 {
     note_taken(&create.name, catalog, least);
     let parameters = parameters_of(alloc, create, least)?;
-    bind_result(alloc, create, &parameters, catalog, least)
+    bind_result(alloc, create, returned, &parameters, catalog, least)
 }

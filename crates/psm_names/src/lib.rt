@@ -3,19 +3,26 @@
 #![tactic(auto, using(name_faults::proofs::Laws::noted_append))]
 
 ghost use Rattle.psm_names.specs.Binds.{FaultlessFits};
-ghost use Rattle.psm_names.specs.Examples.{EachFaultAtItsPlace, KindsFit, BindsByPlaceAndName};
+ghost use Rattle.psm_names.specs.Examples.{EachFaultAtItsPlace, KeysOfTables, DropsOfEntries, RefusedForms, FaultsOfWriting, KindsFit, BindsByPlaceAndName, BindsWriting};
 
-mod create;
+mod bound;
+mod change;
 mod function;
+mod insert;
+mod names;
+mod removal;
 mod statement;
+mod table;
+mod target;
 
+pub use bound::{BoundDelete, BoundStmt, BoundUpdate};
 pub use function::MOST_HEIGHT;
-pub use statement::{BoundStmt, bind_statement};
+pub use statement::bind_statement;
 pub use typed_parts::NameFault;
 
 /// A statement without faults makes what fits the catalog: a name that is free, a key of columns,
-/// calls of functions that stand there and are lower, with as many arguments as parameters; and
-/// what is asked has a plan.
+/// calls of functions that stand there and are lower, with as many arguments as parameters; what is
+/// dropped stands there unused; and what is asked or met has a plan.
 pub fn faultless_fits()
     ensures { FaultlessFits }
 {}
@@ -23,6 +30,26 @@ pub fn faultless_fits()
 /// Each kind of fault, at its place.
 pub fn each_fault_at_its_place()
     ensures { EachFaultAtItsPlace }
+{}
+
+/// Keys of several columns, and second ones: each fault at its place.
+pub fn keys_of_tables()
+    ensures { KeysOfTables }
+{}
+
+/// What is dropped is of the sort that is written, and nothing uses it.
+pub fn drops_of_entries()
+    ensures { DropsOfEntries }
+{}
+
+/// A statement of a form that is not run has one fault, at its anchor, and nothing is made of it.
+pub fn refused_forms()
+    ensures { RefusedForms }
+{}
+
+/// Lists of columns, assignments and WHERE of what writes a table: each fault at its place.
+pub fn faults_of_writing()
+    ensures { FaultsOfWriting }
 {}
 
 /// What is asked of kinds: each fault at its place, and no second one above it.
@@ -33,4 +60,10 @@ pub fn kinds_fit()
 /// A column is bound by its place, a call by its name.
 pub fn binds_by_place_and_name()
     ensures { BindsByPlaceAndName }
+{}
+
+/// A column that is written is bound by its place, the rows that are met by a query of these, and a
+/// key by the places of its columns in their order.
+pub fn binds_writing()
+    ensures { BindsWriting }
 {}

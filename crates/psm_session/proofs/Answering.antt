@@ -1,11 +1,10 @@
--- The answer of a query's plan is how the query ends; and what an INSERT makes of it.
+-- The answer of a query's plan is how the query ends; and what a change of rows makes of it.
 use Rattle.std.proofs.Common.{◌≡◌, ℕ, suc, List, [], ◌∷◌, length, Ok, Err, refl, sym, ap, ◌∙◌, subst}
 use Rattle.row_types.specs.Rows.{Row}
 use Rattle.row_types.specs.Cells.{PlanRow, value_rows, cells_end, with_value, with_values}
 use Rattle.rel_algebra.specs.Tree.{Query}
-use Rattle.rel_algebra.specs.World.{World, Ends, Gives, Raises, after, unit_of, unit, no_self, no_frame}
+use Rattle.rel_algebra.specs.World.{World, Ends, Eval, Gives, Raises, ◌>>=◌, after, unit_of, unit, no_self, no_frame}
 use Rattle.rel_algebra.specs.Meaning.{answer, ask, carried}
-use Rattle.rel_algebra.specs.Writing.{insert, stored}
 use Rattle.rel_algebra.specs.Endings.{Ending}
 use Rattle.rel_algebra.specs.Plan.{shown, shown_rows}
 use Rattle.catalog_store.specs.Catalog.{Catalog}
@@ -65,22 +64,24 @@ all_values (Rows rows) (Err area) h = cc
 all_values (Raised s) (Ok values) h = tt
 all_values (Raised s) (Err area) h = tt
 
--- ---- INSERT
+-- ---- changes of rows
 
-pub insert_given : (name : List ℕ) (q : Query) (rows : List Row) (w : World) → answer q no_self [] no_frame w ≡ Gives rows w → insert name q w ≡ unit (stored name rows) w
-insert_given name q rows w h = ap (λ (e : Ends (List Row)). unit_of w (after e (stored name))) h
+given_unit : (go : List Row → Eval ℕ) (q : Query) (rows : List Row) (w : World) → answer q no_self [] no_frame w ≡ Gives rows w
+    → unit (answer q no_self [] no_frame >>= go) w ≡ unit (go rows) w
+given_unit go q rows w h = ap (λ (e : Ends (List Row)). unit_of w (after e go)) h
 
-pub insert_raised : (name : List ℕ) (q : Query) (area : Area) (w : World) → answer q no_self [] no_frame w ≡ Raises area w → insert name q w ≡ Raises area w
-insert_raised name q area w h = ap (λ (e : Ends (List Row)). unit_of w (after e (stored name))) h
+raised_unit : (go : List Row → Eval ℕ) (q : Query) (area : Area) (w : World) → answer q no_self [] no_frame w ≡ Raises area w
+    → unit (answer q no_self [] no_frame >>= go) w ≡ Raises area w
+raised_unit go q area w h = ap (λ (e : Ends (List Row)). unit_of w (after e go)) h
 
--- an INSERT ends as its plan's rows are stored, or as its plan raises
-pub stored_ends : (name : List ℕ) (q : Query) (rows : List PlanRow) (old new : Content) (r : Result ℕ Stop) → answer q no_self [] no_frame (world_of old) ≡ Gives (value_rows rows) (world_of old)
-    → Ended old new r (unit (stored name (value_rows rows)) (world_of old)) → Ended old new r (insert name q (world_of old))
-stored_ends name q rows old new r h ended = subst (Ended old new r) (sym (insert_given name q (value_rows rows) (world_of old) h)) ended
+-- a change ends as it is made of its plan's rows, or as its plan raises
+pub given_ends : (go : List Row → Eval ℕ) (q : Query) (rows : List PlanRow) (old new : Content) (r : Result ℕ Stop) → answer q no_self [] no_frame (world_of old) ≡ Gives (value_rows rows) (world_of old)
+    → Ended old new r (unit (go (value_rows rows)) (world_of old)) → Ended old new r (unit (answer q no_self [] no_frame >>= go) (world_of old))
+given_ends go q rows old new r h ended = subst (Ended old new r) (sym (given_unit go q (value_rows rows) (world_of old) h)) ended
 
-pub raised_ends : (name : List ℕ) (q : Query) (area : Area) (old : Content) → answer q no_self [] no_frame (world_of old) ≡ Raises area (world_of old)
-    → Ended {A = ℕ} old old (Err (stop.Raised area)) (insert name q (world_of old))
-raised_ends name q area old h = record { tells = insert_raised name q area (world_of old) h; stays = stays_same old }
+pub raised_ends : (go : List Row → Eval ℕ) (q : Query) (area : Area) (old : Content) → answer q no_self [] no_frame (world_of old) ≡ Raises area (world_of old)
+    → Ended {A = ℕ} old old (Err (stop.Raised area)) (unit (answer q no_self [] no_frame >>= go) (world_of old))
+raised_ends go q area old h = record { tells = raised_unit go q area (world_of old) h; stays = stays_same old }
 
 -- ---- queries
 

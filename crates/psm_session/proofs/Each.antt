@@ -3,7 +3,7 @@
 use Rattle.std.proofs.Common.{◌≡◌, ◌<◌, ◌≤◌, ℕ, List, [], ◌∷◌, Some, Ok, Err, length, drop, refl, ap, ◌∙◌, inl, inr, arith}
 use Rattle.std.specs.Prelude.{if◌then◌else◌}
 use Rattle.sql_lex.specs.Tokens.{Lexing}
-use Rattle.syntax_trees.specs.declared.statement.Stmt.{Stmt}
+use Rattle.statement_trees.specs.declared.statement.Stmt.{Stmt}
 use Rattle.token_grammar.specs.Reading.{Outcome, NoSpelling, TooDeep, reading}
 use Rattle.token_grammar.specs.Statement.{Answers, at_places, ReadsNothing, most_open, place}
 use Rattle.token_grammar.proofs.Laws.{reading_answers, goes_further}
@@ -11,7 +11,7 @@ use Rattle.sql_grammar.specs.Sql.{rules, statement}
 use Rattle.sql_grammar.specs.Decides.{all_decide, statement_decides, statement_ends, statement_goes}
 use Rattle.name_faults.specs.declared.fault.Fault.{Fault}
 use Rattle.name_faults.specs.Faults.{Noted, noted, least, sooner}
-use Rattle.psm_names.specs.declared.statement.BoundStmt.{BoundStmt}
+use Rattle.psm_names.specs.declared.bound.BoundStmt.{BoundStmt}
 use Rattle.psm_names.specs.Statements.{judged_statement}
 use Rattle.reply_text.specs.declared.fault.FaultText.{FaultText}
 use Rattle.reply_text.specs.declared.fault.FaultText.TheVariants as text

@@ -2,14 +2,14 @@
 use Rattle.std.proofs.Common.{◌≡◌, ◌≤◌, ◌+◌, ◌⊎◌, ℕ, suc, List, [], Some, None, length, ap, ap₂, sym, ◌∙◌, subst, inl, inr, arith}
 use Rattle.sql_lex.specs.Tokens.{Lexing}
 use Rattle.sql_lex.specs.Openings.{place_at}
-use Rattle.syntax_trees.specs.declared.statement.Stmt.{Stmt}
+use Rattle.statement_trees.specs.declared.statement.Stmt.{Stmt}
 use Rattle.token_grammar.specs.Statement.{BeginsWithin, IsStuck, IsTooDeep, IsFurthest, most_open}
 use Rattle.token_grammar.proofs.Laws.{one_spelling}
 use Rattle.sql_grammar.specs.Sql.{rules, statement}
 use Rattle.sql_grammar.specs.Decides.{all_decide, statement_decides, statement_ends}
 use Rattle.name_faults.specs.declared.fault.Fault.{Fault}
 use Rattle.name_faults.specs.Faults.{Noted, least}
-use Rattle.psm_names.specs.declared.statement.BoundStmt.{BoundStmt}
+use Rattle.psm_names.specs.declared.bound.BoundStmt.{BoundStmt}
 use Rattle.psm_names.specs.Statements.{judged_statement}
 use Rattle.reply_text.specs.declared.fault.FaultText.{FaultText}
 use Rattle.reply_text.specs.Texts.{fault_text}

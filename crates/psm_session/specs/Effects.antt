@@ -1,16 +1,18 @@
 -- What a valid statement replies, and the database that it leaves. ISO/IEC 9075-2, 4.33
--- (SQL-statements), 11.3 (table definition), 11.60 (SQL-invoked routine), 14.11 (insert statement)
--- and 7.17 (query expression).
+-- (SQL-statements), 11.3 (table definition), 11.31 and 11.62 (drop statements), 11.60 (SQL-invoked
+-- routine), 14.9 (delete statement), 14.11 (insert statement), 14.14 (update statement) and 7.17
+-- (query expression).
 use Rattle.std.specs.Prelude.{ℕ, List, [], ◌∷◌, ◌++◌, Some, None}
-use Rattle.row_types.specs.Tables.{Tables}
+use Rattle.row_types.specs.Tables.{Tables, without_table_named}
 use Rattle.rel_algebra.specs.World.{World, Ends, Gives, Raises, RunsOut}
 use Rattle.rel_algebra.specs.Meaning.{ask}
-use Rattle.rel_algebra.specs.Writing.{insert}
 use Rattle.catalog_store.specs.Catalog.{Entry, Object, TableObject, FunctionObject}
 use Rattle.catalog_store.specs.Entries.{entry_of}
+use Rattle.catalog_store.specs.Users.{without}
 use Rattle.catalog_store.specs.View.{query_of}
-use Rattle.psm_names.specs.declared.statement.BoundStmt.{BoundStmt}
-use Rattle.psm_names.specs.declared.statement.BoundStmt.TheVariants.{Create, Insert, Query}
+use Rattle.data_change.specs.Writing.{insert, update, delete}
+use Rattle.psm_names.specs.declared.bound.BoundStmt.{BoundStmt}
+use Rattle.psm_names.specs.declared.bound.BoundStmt.TheVariants.{Create, Drop, Insert, Update, Delete, Query}
 use Rattle.reply_text.specs.Texts.{rows_text, done_text, area_text, spent_text}
 use Rattle.psm_session.specs.declared.budget.TheConstants.{DEFAULT_BUDGET}
 use Rattle.psm_session.specs.Database.{Plain, with_tables}
@@ -35,6 +37,13 @@ created e db = record {
   after = record { catalog = db.catalog ++ e ∷ []; tables = with_table_of e.name e.object db.tables };
 }
 
+-- An entry less, with its table where it has one.
+abbrev pub dropped : List ℕ → Plain → Effect
+dropped name db = record {
+  reply = done_text [] None;
+  after = record { catalog = without name db.catalog; tables = without_table_named name db.tables };
+}
+
 -- The reply to what an evaluation gives or raises, with the tables that it leaves. Without a turn
 -- left the statement's start is put back.
 abbrev pub replied : {A : Type 0} → (A → List ℕ) → Plain → Ends A → Effect
@@ -42,11 +51,14 @@ replied text db (Gives a w) = record { reply = text a; after = with_tables db w.
 replied text db (Raises area w) = record { reply = area_text area; after = with_tables db w.tables }
 replied text db (RunsOut w) = record { reply = spent_text; after = db }
 
--- the reply to an INSERT: how many rows it stored
-abbrev pub stored_text : ℕ → List ℕ
-stored_text count = done_text [] (Some count)
+-- the reply to a change of rows: how many it stored, changed or removed
+abbrev pub changed_text : ℕ → List ℕ
+changed_text count = done_text [] (Some count)
 
 abbrev pub effect : BoundStmt → Plain → Effect
 effect (Create name object) db = created (entry_of db.catalog name object) db
-effect (Insert s) db = replied stored_text db (insert s.table (query_of db.catalog s.source) (world_of db.tables))
+effect (Drop name) db = dropped name db
+effect (Insert s listed) db = replied changed_text db (insert s.table listed (query_of db.catalog s.source) (world_of db.tables))
+effect (Update s) db = replied changed_text db (update s.table s.targets (query_of db.catalog s.rows) (world_of db.tables))
+effect (Delete s) db = replied changed_text db (delete s.table (query_of db.catalog s.rows) (world_of db.tables))
 effect (Query query) db = replied rows_text db (ask (query_of db.catalog query) (world_of db.tables))

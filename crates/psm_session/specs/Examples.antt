@@ -11,7 +11,7 @@ use Rattle.rel_algebra.specs.Tree.{Function, Literal}
 use Rattle.rel_algebra.specs.World.{Gives, Raises, RunsOut}
 use Rattle.catalog_store.specs.Catalog.{Entry, TableObject, FunctionObject}
 use Rattle.psm_session.specs.Database.{Plain, empty}
-use Rattle.psm_session.specs.Effects.{created, replied, stored_text, world_of}
+use Rattle.psm_session.specs.Effects.{created, dropped, replied, changed_text, world_of}
 use Rattle.psm_session.specs.Shapes.{IsWhole}
 
 -- a table of one column, which is its key
@@ -44,15 +44,28 @@ a_table_is_made_empty = refl
 pub a_function_makes_no_table : created function_entry with_table ≡ record { reply = codes "00000\n"; after = record { catalog = table_entry ∷ function_entry ∷ []; tables = no_rows } }
 a_function_makes_no_table = refl
 
-pub rows_are_counted : replied stored_text with_table (Gives 1 (world_of one_row)) ≡ record { reply = codes "00000 rows 1\n"; after = record { catalog = table_entry ∷ []; tables = one_row } }
+pub rows_are_counted : replied changed_text with_table (Gives 1 (world_of one_row)) ≡ record { reply = codes "00000 rows 1\n"; after = record { catalog = table_entry ∷ []; tables = one_row } }
 unfolding digits
 rows_are_counted = refl
 
-pub conditions_are_told : replied stored_text with_table (Raises (area_of DivisionByZero) (world_of no_rows)) ≡ record { reply = codes "! 22012 division by zero\n"; after = with_table }
+pub conditions_are_told : replied changed_text with_table (Raises (area_of DivisionByZero) (world_of no_rows)) ≡ record { reply = codes "! 22012 division by zero\n"; after = with_table }
 conditions_are_told = refl
 
-pub the_start_is_put_back : replied stored_text with_table (RunsOut (world_of one_row)) ≡ record { reply = codes "! PS001 budget exhausted\n"; after = with_table }
+pub the_start_is_put_back : replied changed_text with_table (RunsOut (world_of one_row)) ≡ record { reply = codes "! PS001 budget exhausted\n"; after = with_table }
 the_start_is_put_back = refl
 
 pub tables_are_those_of_the_catalog : IsWhole (record { catalog = function_entry ∷ table_entry ∷ []; tables = one_row })
 tables_are_those_of_the_catalog = refl
+
+abbrev both : Plain
+both = record { catalog = table_entry ∷ function_entry ∷ []; tables = one_row }
+
+pub a_dropped_table_goes_with_its_rows : dropped (codes "T") both ≡ record { reply = codes "00000\n"; after = record { catalog = function_entry ∷ []; tables = [] } }
+a_dropped_table_goes_with_its_rows = refl
+
+pub a_dropped_function_leaves_the_tables : dropped (codes "F") both ≡ record { reply = codes "00000\n"; after = record { catalog = table_entry ∷ []; tables = one_row } }
+a_dropped_function_leaves_the_tables = refl
+
+pub no_row_is_no_data : replied changed_text with_table (Gives 0 (world_of no_rows)) ≡ record { reply = codes "02000 rows 0\n"; after = with_table }
+unfolding digits
+no_row_is_no_data = refl

@@ -2,7 +2,7 @@
 use Rattle.std.specs.Prelude.{ℕ, ◌≡◌, ◌⊎◌, List, length}
 use Rattle.sql_lex.specs.Tokens.{Lexing}
 use Rattle.sql_lex.specs.Openings.{place_at}
-use Rattle.syntax_trees.specs.declared.statement.Stmt.{Stmt}
+use Rattle.statement_trees.specs.declared.statement.Stmt.{Stmt}
 use Rattle.token_grammar.specs.Statement.{SpellsWithin, ReadsNothing, IsStuck, IsTooDeep, most_open}
 use Rattle.sql_grammar.specs.Sql.{rules, statement}
 use Rattle.psm_names.specs.Statements.{judged_statement}

@@ -1,17 +1,62 @@
--- What is done in a world of tables.
+-- What is done in a world of tables, and how a change of rows is made of the rows that a query gives.
+-- ISO/IEC 9075-2, 14.9 (delete statement), 14.11 (insert statement) and 14.14 (update statement).
+use Rattle.std.specs.Prelude.{ℕ, List, []}
+use Rattle.row_types.specs.Rows.{Row}
+use Rattle.row_types.specs.Tables.{Tables}
 use Rattle.bound_trees.specs.declared.query.BoundQuery.{BoundQuery}
-use Rattle.psm_names.specs.declared.statement.BoundStmt.TheVariants.{Insert, Query}
+use Rattle.rel_algebra.specs.World.{Eval, ◌>>=◌, unit, no_self, no_frame}
+use Rattle.rel_algebra.specs.Meaning.{answer}
+use Rattle.catalog_store.specs.Catalog.{Catalog}
+use Rattle.catalog_store.specs.View.{query_of}
+use Rattle.data_change.specs.Writing.{stored_in, changed, removed}
+use Rattle.row_changes.specs.Met.{MetInOrder}
+use Rattle.psm_names.specs.Binds.{StatementFits}
+use Rattle.psm_names.specs.declared.bound.BoundStmt.{BoundStmt}
+use Rattle.psm_names.specs.declared.bound.BoundStmt.TheVariants as bound
+use Rattle.psm_session.specs.declared.change.Change.{Change}
+use Rattle.psm_session.specs.declared.change.Change.TheVariants.{Insert, Update, Delete}
 use Rattle.psm_session.specs.declared.world.Task.{Task}
-use Rattle.psm_session.specs.declared.world.Task.TheVariants.{Store, Answer}
+use Rattle.psm_session.specs.declared.world.Task.TheVariants.{Make, Answer}
 use Rattle.psm_session.specs.Database.{Plain}
-use Rattle.psm_session.specs.Effects.{Effect, effect}
+use Rattle.psm_session.specs.Effects.{Effect, effect, replied, changed_text, world_of}
+
+-- ---- changes
 
 -- the query that gives its rows
-abbrev pub task_query : Task → BoundQuery
-task_query (Store insert) = insert.now.source
-task_query (Answer query) = query.now
+abbrev pub rows_query : Change → BoundQuery
+rows_query (Insert insert listed) = insert.now.source
+rows_query (Update update) = update.now.rows
+rows_query (Delete delete) = delete.now.rows
+
+-- what it makes of them
+abbrev pub made : Change → List Row → Eval ℕ
+made (Insert insert listed) rows = stored_in insert.now.table listed.now rows
+made (Update update) rows = changed update.now.table update.now.targets rows
+made (Delete delete) rows = removed delete.now.table rows
+
+-- All rows are evaluated first.
+abbrev pub change_of : Change → Catalog → Eval ℕ
+change_of change catalog = unit (answer (query_of catalog (rows_query change)) no_self [] no_frame >>= made change)
+
+-- what it asks of the rows: those that it changes or removes stand in the table, in its order
+abbrev pub Takes : Change → Tables → List Row → Type 0
+Takes (Insert insert listed) tables rows = Unit {0}
+Takes (Update update) tables rows = MetInOrder tables update.now.table rows
+Takes (Delete delete) tables rows = MetInOrder tables delete.now.table rows
+
+-- the statement whose change it is
+abbrev pub change_statement : Change → BoundStmt
+change_statement (Insert insert listed) = bound.Insert insert.now listed.now
+change_statement (Update update) = bound.Update update.now
+change_statement (Delete delete) = bound.Delete delete.now
+
+-- ---- tasks
+
+abbrev pub TaskFits : Catalog → Task → Type 0
+TaskFits catalog (Make change) = StatementFits catalog (change_statement change)
+TaskFits catalog (Answer query) = StatementFits catalog (bound.Query query.now)
 
 -- the effect of the statement whose task it is
 abbrev pub task_effect : Task → Plain → Effect
-task_effect (Store insert) db = effect (Insert insert.now) db
-task_effect (Answer query) db = effect (Query query.now) db
+task_effect (Make change) db = replied changed_text db (change_of change db.catalog (world_of db.tables))
+task_effect (Answer query) db = effect (bound.Query query.now) db

@@ -25,10 +25,10 @@ use psm_names::{NameFault, bind_statement};
 use reply_text::{FaultText, Reply, fault_reply};
 use row_types::Steps;
 use sql_values::NoMemory;
+use statement_trees::Stmt;
 use std::alloc::Global;
 use std::marker::Model;
 use std::sync::ledger::Ledger;
-use syntax_trees::Stmt;
 use table_store::Tables;
 
 /// A catalog, and the tables that it names, each with the columns and the key that it says, in its

@@ -6,7 +6,9 @@ ghost use Rattle.psm_session.specs.Effects.{effect};
 ghost use Rattle.psm_session.specs.Conclusions.{database, IsEffect};
 ghost use Rattle.psm_session.specs.Shapes.{IsWhole};
 
+use crate::change::Change;
 use crate::create::create;
+use crate::drop::drop_object;
 use crate::world::{Task, do_task};
 use catalog_store::Catalog;
 use psm_names::BoundStmt;
@@ -31,7 +33,17 @@ pub(crate) fn run_bound(
 {
     match stmt {
         BoundStmt::Create(name, object) => create(alloc, name, object, catalog, tables),
-        BoundStmt::Insert(insert) => do_task(alloc, Task::Store(&insert), catalog, tables),
+        BoundStmt::Drop(name) => drop_object(alloc, &name, catalog, tables),
+        BoundStmt::Insert(insert, listed) => {
+            let change = Change::Insert(&insert, &listed);
+            do_task(alloc, Task::Make(change), catalog, tables)
+        }
+        BoundStmt::Update(update) => {
+            do_task(alloc, Task::Make(Change::Update(&update)), catalog, tables)
+        }
+        BoundStmt::Delete(delete) => {
+            do_task(alloc, Task::Make(Change::Delete(&delete)), catalog, tables)
+        }
         BoundStmt::Query(query) => do_task(alloc, Task::Answer(&query), catalog, tables),
     }
 }

@@ -2,8 +2,11 @@
 #![tactic(auto)]
 
 mod budget;
+mod change;
+mod conclude;
 mod create;
 mod database;
+mod drop;
 mod effect;
 mod next;
 mod planned;

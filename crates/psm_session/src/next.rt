@@ -6,9 +6,9 @@ ghost use Rattle.reply_text.specs.Texts.{fault_text};
 ghost use Rattle.psm_session.specs.Statement.{Statement};
 
 use crate::Database;
+use psm_parse::parse_statement;
 use reply_text::{FaultText, Reply, fault_reply};
 use sql_lex::{Tokens, place};
-use sql_parse::parse_statement;
 use sql_values::NoMemory;
 use std::alloc::Global;
 use std::mem::drop;

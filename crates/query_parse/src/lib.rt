@@ -8,4 +8,5 @@ mod parts;
 mod queries;
 
 pub use order::ordered_query;
-pub use queries::{after, expr, query, values};
+pub use parts::select_word;
+pub use queries::{after, conditions, expr, from_clause, if_after, query, select_list};

@@ -106,9 +106,10 @@ pub(crate) fn derived(
 
 // ---- SELECT and VALUES
 
-/// The word SELECT.
+/// The word SELECT, by the rule `select_word`. On Ok the input stands behind it, else at the token
+/// that is another.
 #[tactic(auto, unfolding(sql_grammar::specs::Queries::select_word))]
-pub(crate) fn select_word(input: &mut Input<'_>, room: u32) -> Result<Anchor, ParseError>
+pub fn select_word(input: &mut Input<'_>, room: u32) -> Result<Anchor, ParseError>
     ensures { Reads (reading rules room queries.select_word input.old.rest.now) result input.new.rest.now }
 {
     let token = input.expect(Kind::Word(Word::Select))?;

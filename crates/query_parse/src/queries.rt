@@ -418,10 +418,10 @@ pub fn after(
     expr(alloc, input, room)
 }
 
-// An expression after a token of the kind, if such a token stands here.
+/// The same, if such a token stands here. Where none stands here nothing is read.
 #[tactic(auto, unfolding(sql_grammar::specs::Expressions::after))]
 #[cycle(parser)]
-fn if_after(
+pub fn if_after(
     alloc: Global,
     input: &mut Input<'_>,
     room: u32,
@@ -569,10 +569,11 @@ fn select(alloc: Global, input: &mut Input<'_>, room: u32) -> Result<Select, Par
     Ok(selected(anchor, items, from, conditions))
 }
 
-// What stands after FROM: the condition of WHERE, and the grouping.
+/// What stands after FROM: the condition of WHERE, and the grouping, by the rules `filter` and
+/// `grouping`. On Ok the input stands behind them, else at the token that does not go on.
 #[tactic(auto, unfolding(sql_grammar::specs::Queries::filter, sql_grammar::specs::Queries::grouping, sql_grammar::specs::Queries::having))]
 #[cycle(parser)]
-fn conditions(
+pub fn conditions(
     alloc: Global,
     input: &mut Input<'_>,
     room: u32,
@@ -587,10 +588,11 @@ fn conditions(
 
 // ---- the select list
 
-// `*`, or expressions with commas between them.
+/// What SELECT lists: `*`, or expressions with commas between them, by the rule `select_list`. On Ok
+/// the input stands behind it, else at the token that does not go on.
 #[tactic(auto, unfolding(sql_grammar::specs::Queries::select_list, sql_grammar::specs::Queries::all_columns))]
 #[cycle(parser)]
-fn select_list(
+pub fn select_list(
     alloc: Global,
     input: &mut Input<'_>,
     room: u32,
@@ -637,9 +639,11 @@ fn select_value(alloc: Global, input: &mut Input<'_>, room: u32) -> Result<Selec
 
 // ---- FROM
 
+/// FROM with its items, by the rule `from_clause`. On Ok the input stands behind them, else at the
+/// token that does not go on.
 #[tactic(auto, unfolding(sql_grammar::specs::Queries::from_clause))]
 #[cycle(parser)]
-fn from_clause(
+pub fn from_clause(
     alloc: Global,
     input: &mut Input<'_>,
     room: u32,
@@ -736,11 +740,9 @@ fn bracketed_query(alloc: Global, input: &mut Input<'_>, room: u32) -> Result<Qu
 
 // ---- VALUES
 
-/// VALUES with its rows (ISO/IEC 9075-2, 7.3), by the rule `values`. On Ok the input stands behind
-/// the last row, else at the token that does not go on.
 #[tactic(auto, unfolding(sql_grammar::specs::Queries::values))]
 #[cycle(parser)]
-pub fn values(alloc: Global, input: &mut Input<'_>, room: u32) -> Result<Values, ParseError>
+fn values(alloc: Global, input: &mut Input<'_>, room: u32) -> Result<Values, ParseError>
     ensures { Reads (reading rules room queries.values input.old.rest.now) result input.new.rest.now }
 {
     let anchor = values_word(input, room)?;

@@ -1,16 +1,18 @@
--- The laws that other crates' proofs use: of a part that may stand after any token.
+-- The laws that other crates' proofs use: of a part that may stand after any token, and of one that
+-- may stand after any but END.
 use Rattle.std.proofs.Common.{◌≡◌, ℕ, true, false, List, Result, ap, ◌∙◌}
+use Rattle.sql_lex.specs.Openings.{follows_end}
 use Rattle.sql_lex.specs.declared.token.Token.{Token}
 use Rattle.token_grammar.specs.declared.fault.ParseFault.{ParseFault}
 use Rattle.token_grammar.specs.Grammar.{Grammar}
 use Rattle.token_grammar.specs.Statement.{Answers, PartAnswers}
-use Rattle.sql_grammar.specs.Constructs.{before_at, has, any, stands, TellOpen, GoBySteps, CountOpen, DeepExactly}
+use Rattle.sql_grammar.specs.Constructs.{before_at, has, any, but_end, stands, TellOpen, GoBySteps, CountOpen, TellOpenButAfterEnd, GoByStepsButAfterEnd, CountOpenButAfterEnd, DeepExactly}
 use Rattle.sql_grammar.specs.Decides.{rules_sound}
 use Rattle.sql_grammar.specs.Sql.{rules, shut}
 use Rattle.sql_grammar.specs.Summary.{is_sound}
 use Rattle.sql_grammar.specs.Trees.{Rule, Tree}
 use Rattle.sql_grammar.proofs.Constructs.{tell_open_from, go_by_steps_from, count_open_from, deep_exactly as deep_exactly_from, part_deep_exactly as part_deep_exactly_from}
-use Rattle.sql_grammar.proofs.Steps.{has_any}
+use Rattle.sql_grammar.proofs.Steps.{has_any, has_but_end}
 
 module _ {A : Type 0} (g : Grammar Rule Tree A) (sound : is_sound shut false g ≡ true) (after_any : stands false g ≡ any) where
   anywhere : (tokens : List Token) (i : ℕ) → has (before_at tokens i) (stands false g) ≡ true
@@ -25,8 +27,22 @@ module _ {A : Type 0} (g : Grammar Rule Tree A) (sound : is_sound shut false g �
   pub count_open : CountOpen rules g
   count_open tokens i = count_open_from shut rules rules_sound g sound tokens i (anywhere tokens i)
 
-  pub deep_exactly : (n : ℕ) (tokens : List Token) (i : ℕ) (r : Result (A × ℕ) ParseFault) → Answers rules n g tokens i r → DeepExactly rules n g tokens i r
-  deep_exactly n tokens i r a = deep_exactly_from shut rules rules_sound g sound n tokens i (anywhere tokens i) r a
-
   pub part_deep_exactly : (n : ℕ) (tokens : List Token) (i : ℕ) (r : Result (A × ℕ) ParseFault) → PartAnswers rules n g tokens i r → DeepExactly rules n g tokens i r
   part_deep_exactly n tokens i r a = part_deep_exactly_from shut rules rules_sound g sound n tokens i (anywhere tokens i) r a
+
+module _ {A : Type 0} (g : Grammar Rule Tree A) (sound : is_sound shut false g ≡ true) (after_any_but_end : stands false g ≡ but_end) where
+  elsewhere : (tokens : List Token) (i : ℕ) → follows_end tokens i ≡ false → has (before_at tokens i) (stands false g) ≡ true
+  elsewhere tokens i p = ap (has (before_at tokens i)) after_any_but_end ∙ has_but_end tokens i p
+
+  pub tell_open_but_after_end : TellOpenButAfterEnd rules g
+  tell_open_but_after_end tokens i p = tell_open_from shut rules rules_sound g sound tokens i (elsewhere tokens i p)
+
+  pub go_by_steps_but_after_end : GoByStepsButAfterEnd rules g
+  go_by_steps_but_after_end tokens i p = go_by_steps_from shut rules rules_sound g sound tokens i (elsewhere tokens i p)
+
+  pub count_open_but_after_end : CountOpenButAfterEnd rules g
+  count_open_but_after_end tokens i p = count_open_from shut rules rules_sound g sound tokens i (elsewhere tokens i p)
+
+  pub deep_exactly_but_after_end : (n : ℕ) (tokens : List Token) (i : ℕ) (r : Result (A × ℕ) ParseFault) → Answers rules n g tokens i r
+      → follows_end tokens i ≡ false → DeepExactly rules n g tokens i r
+  deep_exactly_but_after_end n tokens i r a p = deep_exactly_from shut rules rules_sound g sound n tokens i (elsewhere tokens i p) r a

@@ -12,7 +12,7 @@ use Rattle.sql_lex.specs.declared.token.Lexeme.TheVariants as lexeme
 use Rattle.sql_lex.specs.declared.token.Token.{Token}
 use Rattle.token_grammar.specs.Grammar.{Passes}
 use Rattle.token_grammar.specs.Statement.{place}
-use Rattle.sql_grammar.specs.Constructs.{Before, End, Leading, Other, is_leading, before_of, before_at, in_brackets, is_loop, loops_at, closing, open_after, Befores, has, none, any, only, meet, join, if_so, implies, subset, opens_after, opening_befores, other_befores, same_truth, is_other, always_closes}
+use Rattle.sql_grammar.specs.Constructs.{Before, End, Leading, Other, is_leading, before_of, before_at, in_brackets, is_loop, loops_at, closing, open_after, Befores, has, none, any, but_end, only, meet, join, if_so, implies, subset, opens_after, opening_befores, other_befores, same_truth, is_other, always_closes}
 
 -- ---- what may stand before
 
@@ -54,6 +54,15 @@ pub has_any : (c : Before) → has c any ≡ true
 has_any End = refl
 has_any Leading = refl
 has_any Other = refl
+
+pub has_but_end : (tokens : List Token) (i : ℕ) → follows_end tokens i ≡ false → has (before_at tokens i) but_end ≡ true
+has_but_end tokens zero p = refl
+has_but_end tokens (suc at) p = go (is_end (kind_at tokens at)) (is_leading (kind_at tokens at)) p
+  where
+    go : (ending leading : Bool) → ending ≡ false → has (if ending then End else if leading then Leading else Other) but_end ≡ true
+    go true leading q = absurd cc
+    go false true q = refl
+    go false false q = refl
 
 pub has_only : (c : Before) → has c (only c) ≡ true
 has_only End = refl

@@ -2,7 +2,7 @@
 -- open there by the tokens alone. A construct is told by the place of its opening token. The
 -- innermost stands first.
 use Rattle.std.specs.Prelude.{◌≡◌, ℕ, zero, suc, ◌+◌, ◌-◌, ◌≤◌, Bool, true, false, not, ◌&&◌, ◌||◌, if◌then◌else◌, List, [], ◌∷◌, ◌++◌, drop, length, ◌⊎◌, ◌↔◌, Result, Ok, Err}
-use Rattle.sql_lex.specs.Openings.{kind_at, opening, is_end, opens_at}
+use Rattle.sql_lex.specs.Openings.{kind_at, opening, is_end, follows_end, opens_at}
 use Rattle.sql_lex.specs.declared.sign.Sign.TheVariants as sign
 use Rattle.sql_lex.specs.declared.token.Kind.{Kind}
 use Rattle.sql_lex.specs.declared.token.Kind.TheVariants as kind
@@ -133,6 +133,10 @@ none = record { at_end = false; at_leading = false; at_other = false }
 abbrev pub any : Befores
 any = record { at_end = true; at_leading = true; at_other = true }
 
+-- anything but END
+abbrev pub but_end : Befores
+but_end = record { at_end = false; at_leading = true; at_other = true }
+
 abbrev pub only : Before → Befores
 only End = record { at_end = true; at_leading = false; at_other = false }
 only Leading = record { at_end = false; at_leading = true; at_other = false }
@@ -249,6 +253,17 @@ module _ {R : Type 0} {Tree : R → Type 0} {A : Type 0} (rules : (r : R) → Gr
 
   abbrev pub CountOpen : Type 0
   CountOpen = (tokens : List Token) (i : ℕ) → CountOpenFrom tokens i
+
+  -- the same from each place that does not stand right after END: what begins with a word that opens
+  -- a construct, as a compound statement does, opens none there by the tokens alone
+  abbrev pub TellOpenButAfterEnd : Type 0
+  TellOpenButAfterEnd = (tokens : List Token) (i : ℕ) → follows_end tokens i ≡ false → TellOpenFrom tokens i
+
+  abbrev pub GoByStepsButAfterEnd : Type 0
+  GoByStepsButAfterEnd = (tokens : List Token) (i : ℕ) → follows_end tokens i ≡ false → GoByStepsFrom tokens i
+
+  abbrev pub CountOpenButAfterEnd : Type 0
+  CountOpenButAfterEnd = (tokens : List Token) (i : ℕ) → follows_end tokens i ≡ false → CountOpenFrom tokens i
 
 -- By the tokens alone n constructs are open at place k, and the token there opens one more.
 abbrev pub OpensOneMore : ℕ → List Token → ℕ → ℕ → Type 0

@@ -5,14 +5,18 @@ use Rattle.std.proofs.Common.{sym, ◌∙◌}
 use Rattle.token_grammar.specs.Grammar.{Grammar}
 use Rattle.token_grammar.specs.Reading.{decides, goes_on, nullable, same_kind}
 use Rattle.sql_grammar.specs.declared.function_word.FunctionWord.TheVariants.{Coalesce, Modulo, CharLength, Substring, Cast, Aggregate}
+use Rattle.sql_grammar.specs.declared.structure_word.StructureWord.TheVariants.{Begin, Loop, While, Repeat, For}
 use Rattle.sql_values.specs.declared.fold.FoldKind.TheVariants.{Count, Sum, Avg, Min, Max}
-use Rattle.sql_grammar.specs.Trees.{Rule, Tree, Columns, Parameters, Length, Arguments, Exprs, Bracketed, Among, Operands, Subquery, Names, Cases, bracketed, ident, varchar_length, plain_type, varchar, data_type}
-use Rattle.sql_grammar.specs.Expressions.{constant, literal, dotted, column_name, named, function_call, aggregate, function, case_expression, exists, primary, unary_sign, factor, operator, term, sum, comparison_sign, comparison, compared, truth_test, asked, tested, in_word, among, predicate_part, predicate, not_word, negation, conjunction, expr, after, more_exprs, exprs, for_length, as_type, all_rows, argument, operands, when_clause, more_when_clauses, when_clauses, else_clause, arms, cases}
+use Rattle.sql_grammar.specs.Trees.{Rule, Tree, Elements, Parameters, ModalParameters, Length, Arguments, CallArguments, Exprs, Bracketed, Among, Operands, Subquery, Names, Cases, Body, IfBody, CaseBody, bracketed, ident, varchar_length, plain_type, varchar, data_type}
+use Rattle.sql_grammar.specs.Expressions.{constant, literal, dotted, column_name, named, function_call, aggregate, function, case_expression, exists, primary, unary_sign, factor, operator, term, sum, comparison_sign, comparison, compared, truth_test, not_word, asked, tested, in_word, among, predicate_part, predicate, negation, conjunction, expr, after, more_exprs, exprs, for_length, as_type, all_rows, argument, operands, when_clause, more_when_clauses, when_clauses, else_clause, arms, cases}
 use Rattle.sql_grammar.specs.Queries.{more_idents, idents, column_list, alias, select_value, more_select_values, select_values, all_columns, select_list, named_table, derived_table, table_ref, on_condition, joined_on, comma_item, cross_join, left_join, inner_join, from_item, more_from_items, first_item, from_items, from_clause, filter, more_column_names, column_names, group_clause, group_by, having, grouping, select_word, select, row, more_rows, rows, values_word, values, query, query_or_expr, query_or_exprs, direction, sort_specification, more_sort_specifications, sort_specifications, order_clause, order_by, ordered_query}
-use Rattle.sql_grammar.specs.Writing.{insert_source, insertion, into_table, insert_word, insert, dml}
-use Rattle.sql_grammar.specs.Definitions.{not_null, primary_key, column_constraint, constraints, column, more_columns, columns, parameter, more_parameters, parameters, table_definition, create_table, returns_type, return_value, body, function_definition, create_function, create_word, created, ddl}
-use Rattle.sql_grammar.specs.Sql.{unended, statement, rules, shut}
-use Rattle.sql_grammar.specs.Constructs.{any, stands}
+use Rattle.sql_grammar.specs.Writing.{insertion, into_table, insert_word, insert, assignment, more_assignments, assignments, set_clause, update_word, update, from_table, delete_word, delete, parameter_argument, call_argument, more_call_arguments, call_arguments, if_call_arguments, call_word, call, dml}
+use Rattle.sql_grammar.specs.Conditions.{state_text, state, state_value, exception_value, warning_value, not_found, condition_value, more_condition_values, condition_values, sqlstate, signal_value, message_text, message, if_message, signal_word, signal, resignal_word, if_signal_value, resignal, statement_item_name, statement_item_value, statement_item, more_statement_items, statement_items, condition_item_name, condition_item_value, condition_item, more_condition_items, condition_items, written_number, condition_number, numbered_items, condition_information, information, written_area, area, diagnostics, get_word, get_diagnostics}
+use Rattle.sql_grammar.specs.Statements.{set_word, set_statement, targets, select_into, open_word, open_statement, close_word, close_statement, fetch_word, fetch_orientation, fetched_cursor, fetch, leave_word, leave_statement, iterate_word, iterate_statement, return_word, return_statement, storing, cursor_statement, condition_statement, leaving, simple_statement, end_label, construct, structure, structures, label, if_label, labelled, labelled_block, if_construct, if_statement, case_construct, case_statement, stmt, ended, statements, body, body_after, branch, branch_after, more_branches, branches, otherwise, if_body, when_branches, case_body, while_body, repeat_body, for_query, for_body}
+use Rattle.sql_grammar.specs.Declarations.{default_clause, variables, condition, cursor, named_declaration, named_cursor, handler_type, handled, handler, declaration, declarations, atomic, block_body, structure_body}
+use Rattle.sql_grammar.specs.Definitions.{not_null, key_words, primary_key, column_constraint, constraints, column, table_column, table_key, element, more_elements, elements, table_definition, create_table, parameter, more_parameters, parameters, if_parameters, written_mode, mode, modal_parameter, more_modal_parameters, modal_parameters, if_modal_parameters, language, deterministic, not_deterministic, contains_sql, data_access, data_characteristic, null_call, null_characteristic, characteristic, characteristics, returns_type, function_definition, create_function, procedure_definition, create_procedure, create_word, created, create, object_sort, dropped_name, drop_word, drop_object, ddl}
+use Rattle.sql_grammar.specs.Sql.{explain_word, explain, other_statement, unended, statement, rules, shut}
+use Rattle.sql_grammar.specs.Constructs.{Befores, any, but_end, stands}
 use Rattle.sql_grammar.specs.Summary.{summary, is_sound, rule_sound}
 use Rattle.sql_grammar.specs.Summaries.{goes_on_same, nullable_same, stands_same, all_decide as decide_all, part_decides}
 
@@ -20,12 +24,12 @@ abbrev RuleIsSound : Rule → Type 0
 RuleIsSound r = rule_sound shut rules r ≡ true
 
 -- A part that a parser reads by itself is sound, spelled by a token at least, and may stand after
--- any token.
-abbrev PartIsSound : {A : Type 0} → Grammar Rule Tree A → Type 0
-PartIsSound g = (is_sound shut false g ≡ true) × ((summary shut false g).nullable ≡ false) × ((summary shut false g).stands ≡ any)
+-- these.
+abbrev PartIsSound : {A : Type 0} → Befores → Grammar Rule Tree A → Type 0
+PartIsSound befores g = (is_sound shut false g ≡ true) × ((summary shut false g).nullable ≡ false) × ((summary shut false g).stands ≡ befores)
 
 record AllAreSound : Type 0 where
-  columns_rule : RuleIsSound Columns
+  elements_rule : RuleIsSound Elements
   parameters_rule : RuleIsSound Parameters
   length_rule : RuleIsSound Length
   arguments_rule : RuleIsSound Arguments
@@ -45,17 +49,26 @@ record AllAreSound : Type 0 where
   subquery_rule : RuleIsSound Subquery
   names_rule : RuleIsSound Names
   cases_rule : RuleIsSound Cases
-  statement_part : PartIsSound statement
-  query_part : PartIsSound query
-  dml_part : PartIsSound dml
-  ddl_part : PartIsSound ddl
+  modal_parameters_rule : RuleIsSound ModalParameters
+  call_arguments_rule : RuleIsSound CallArguments
+  begin_rule : RuleIsSound (Body Begin)
+  loop_rule : RuleIsSound (Body Loop)
+  while_rule : RuleIsSound (Body While)
+  repeat_rule : RuleIsSound (Body Repeat)
+  for_rule : RuleIsSound (Body For)
+  if_rule : RuleIsSound IfBody
+  case_rule : RuleIsSound CaseBody
+  statement_part : PartIsSound but_end statement
+  query_part : PartIsSound any query
+  dml_part : PartIsSound any dml
+  ddl_part : PartIsSound any ddl
   -- no token goes on with a statement after its `;`
   statement_end : (summary shut false statement).goes_on ≡ []
 
 all_are_sound : AllAreSound
-unfolding same_kind bracketed ident varchar_length plain_type varchar data_type constant literal dotted column_name named function_call aggregate function case_expression exists primary unary_sign factor operator term sum comparison_sign comparison compared truth_test asked tested in_word among predicate_part predicate not_word negation conjunction expr after more_exprs exprs for_length as_type all_rows argument operands when_clause more_when_clauses when_clauses else_clause arms cases more_idents idents column_list alias select_value more_select_values select_values all_columns select_list named_table derived_table table_ref on_condition joined_on comma_item cross_join left_join inner_join from_item more_from_items first_item from_items from_clause filter more_column_names column_names group_clause group_by having grouping select_word select row more_rows rows values_word values query query_or_expr query_or_exprs direction sort_specification more_sort_specifications sort_specifications order_clause order_by ordered_query insert_source insertion into_table insert_word insert dml not_null primary_key column_constraint constraints column more_columns columns parameter more_parameters parameters table_definition create_table returns_type return_value body function_definition create_function create_word created ddl unended statement
+unfolding same_kind bracketed ident varchar_length plain_type varchar data_type constant literal dotted column_name named function_call aggregate function case_expression exists primary unary_sign factor operator term sum comparison_sign comparison compared truth_test not_word asked tested in_word among predicate_part predicate negation conjunction expr after more_exprs exprs for_length as_type all_rows argument operands when_clause more_when_clauses when_clauses else_clause arms cases more_idents idents column_list alias select_value more_select_values select_values all_columns select_list named_table derived_table table_ref on_condition joined_on comma_item cross_join left_join inner_join from_item more_from_items first_item from_items from_clause filter more_column_names column_names group_clause group_by having grouping select_word select row more_rows rows values_word values query query_or_expr query_or_exprs direction sort_specification more_sort_specifications sort_specifications order_clause order_by ordered_query insertion into_table insert_word insert assignment more_assignments assignments set_clause update_word update from_table delete_word delete parameter_argument call_argument more_call_arguments call_arguments if_call_arguments call_word call dml state_text state state_value exception_value warning_value not_found condition_value more_condition_values condition_values sqlstate signal_value message_text message if_message signal_word signal resignal_word if_signal_value resignal statement_item_name statement_item_value statement_item more_statement_items statement_items condition_item_name condition_item_value condition_item more_condition_items condition_items written_number condition_number numbered_items condition_information information written_area area diagnostics get_word get_diagnostics set_word set_statement targets select_into open_word open_statement close_word close_statement fetch_word fetch_orientation fetched_cursor fetch leave_word leave_statement iterate_word iterate_statement return_word return_statement storing cursor_statement condition_statement leaving simple_statement end_label construct structure structures label if_label labelled labelled_block if_construct if_statement case_construct case_statement stmt ended statements body body_after branch branch_after more_branches branches otherwise if_body when_branches case_body while_body repeat_body for_query for_body default_clause variables condition cursor named_declaration named_cursor handler_type handled handler declaration declarations atomic block_body structure_body not_null key_words primary_key column_constraint constraints column table_column table_key element more_elements elements table_definition create_table parameter more_parameters parameters if_parameters written_mode mode modal_parameter more_modal_parameters modal_parameters if_modal_parameters language deterministic not_deterministic contains_sql data_access data_characteristic null_call null_characteristic characteristic characteristics returns_type function_definition create_function procedure_definition create_procedure create_word created create object_sort dropped_name drop_word drop_object ddl explain_word explain other_statement unended statement
 all_are_sound = record {
-  columns_rule = refl;
+  elements_rule = refl;
   parameters_rule = refl;
   length_rule = refl;
   arguments_rule = refl;
@@ -75,6 +88,15 @@ all_are_sound = record {
   subquery_rule = refl;
   names_rule = refl;
   cases_rule = refl;
+  modal_parameters_rule = refl;
+  call_arguments_rule = refl;
+  begin_rule = refl;
+  loop_rule = refl;
+  while_rule = refl;
+  repeat_rule = refl;
+  for_rule = refl;
+  if_rule = refl;
+  case_rule = refl;
   statement_part = (refl, refl, refl);
   query_part = (refl, refl, refl);
   dml_part = (refl, refl, refl);
@@ -83,7 +105,7 @@ all_are_sound = record {
 }
 
 pub rules_sound : (r : Rule) → rule_sound shut rules r ≡ true
-rules_sound Columns = all_are_sound.columns_rule
+rules_sound Elements = all_are_sound.elements_rule
 rules_sound Parameters = all_are_sound.parameters_rule
 rules_sound Length = all_are_sound.length_rule
 rules_sound Arguments = all_are_sound.arguments_rule
@@ -103,6 +125,15 @@ rules_sound (Operands (Aggregate Max)) = all_are_sound.max_rule
 rules_sound Subquery = all_are_sound.subquery_rule
 rules_sound Names = all_are_sound.names_rule
 rules_sound Cases = all_are_sound.cases_rule
+rules_sound ModalParameters = all_are_sound.modal_parameters_rule
+rules_sound CallArguments = all_are_sound.call_arguments_rule
+rules_sound (Body Begin) = all_are_sound.begin_rule
+rules_sound (Body Loop) = all_are_sound.loop_rule
+rules_sound (Body While) = all_are_sound.while_rule
+rules_sound (Body Repeat) = all_are_sound.repeat_rule
+rules_sound (Body For) = all_are_sound.for_rule
+rules_sound IfBody = all_are_sound.if_rule
+rules_sound CaseBody = all_are_sound.case_rule
 
 pub all_decide : (r : Rule) → decides rules (rules r) ≡ true
 all_decide = decide_all shut rules rules_sound
@@ -112,7 +143,7 @@ all_decide = decide_all shut rules rules_sound
 pub statement_sound : is_sound shut false statement ≡ true
 statement_sound = all_are_sound.statement_part.0
 
-pub statement_stands : stands false statement ≡ any
+pub statement_stands : stands false statement ≡ but_end
 statement_stands = sym (stands_same shut false statement) ∙ all_are_sound.statement_part.2
 
 pub statement_decides : decides rules statement ≡ true

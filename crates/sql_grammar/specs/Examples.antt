@@ -32,66 +32,72 @@ use Rattle.syntax_trees.specs.declared.query.TableRef.{TableRef}
 use Rattle.syntax_trees.specs.declared.query.TableRef.TheVariants as ref
 use Rattle.syntax_trees.specs.declared.query.ValueRow.TheVariants as value_row
 use Rattle.syntax_trees.specs.declared.query.Values.{roll-Values}
-use Rattle.syntax_trees.specs.declared.statement.Constraint.TheVariants as constraint
-use Rattle.syntax_trees.specs.declared.statement.Stmt.TheVariants as stmt
+use Rattle.statement_trees.specs.declared.definition.Constraint.TheVariants as constraint
+use Rattle.statement_trees.specs.declared.definition.TableElement.TheVariants as element_of
+use Rattle.statement_trees.specs.declared.definition.ParameterMode.TheVariants as mode_of
+use Rattle.statement_trees.specs.declared.statement.CreateFunction.{roll-CreateFunction}
+use Rattle.statement_trees.specs.declared.statement.Stmt.TheVariants as stmt_of
 use Rattle.token_grammar.specs.Examples.{tokens_of}
 use Rattle.token_grammar.specs.Reading.{same_kind, reading, NoSpelling, TooDeep}
 use Rattle.token_grammar.specs.Statement.{most_open}
 use Rattle.sql_grammar.specs.Constructs.{open_after}
 use Rattle.sql_grammar.specs.Trees.{bracketed, ident, varchar_length, plain_type, varchar, data_type}
-use Rattle.sql_grammar.specs.Expressions.{unqualified, qualified, constant, literal, dotted, column_name, named, function_call, aggregate, function, case_expression, exists, primary, unary_sign, factor, operator, term, sum, comparison_sign, comparison, compared, truth_test, asked, tested, in_word, among, predicate_part, predicate, not_word, negation, conjunction, expr, after, more_exprs, exprs, for_length, as_type, all_rows, argument, operands, when_clause, more_when_clauses, when_clauses, else_clause, arms, cases}
+use Rattle.sql_grammar.specs.Expressions.{unqualified, qualified, constant, literal, dotted, column_name, named, function_call, aggregate, function, case_expression, exists, primary, unary_sign, factor, operator, term, sum, comparison_sign, comparison, compared, truth_test, not_word, asked, tested, in_word, among, predicate_part, predicate, negation, conjunction, expr, after, more_exprs, exprs, for_length, as_type, all_rows, argument, operands, when_clause, more_when_clauses, when_clauses, else_clause, arms, cases}
 use Rattle.sql_grammar.specs.Queries.{more_idents, idents, column_list, alias, select_value, more_select_values, select_values, all_columns, select_list, named_table, derived_table, table_ref, on_condition, joined_on, comma_item, cross_join, left_join, inner_join, from_item, more_from_items, first_item, from_items, from_clause, filter, more_column_names, column_names, group_clause, group_by, having, grouping, select_word, select, row, more_rows, rows, values_word, values, query, query_or_expr, query_or_exprs, direction, sort_specification, more_sort_specifications, sort_specifications, order_clause, order_by, ordered_query}
-use Rattle.sql_grammar.specs.Writing.{insert_source, insertion, into_table, insert_word, insert, dml}
-use Rattle.sql_grammar.specs.Definitions.{not_null, primary_key, column_constraint, constraints, column, more_columns, columns, parameter, more_parameters, parameters, table_definition, create_table, returns_type, return_value, body, function_definition, create_function, create_word, created, ddl}
-use Rattle.sql_grammar.specs.Sql.{unended, statement, rules}
+use Rattle.sql_grammar.specs.Writing.{insertion, into_table, insert_word, insert, assignment, more_assignments, assignments, set_clause, update_word, update, from_table, delete_word, delete, parameter_argument, call_argument, more_call_arguments, call_arguments, if_call_arguments, call_word, call, dml}
+use Rattle.sql_grammar.specs.Conditions.{state_text, state, state_value, exception_value, warning_value, not_found, condition_value, more_condition_values, condition_values, sqlstate, signal_value, message_text, message, if_message, signal_word, signal, resignal_word, if_signal_value, resignal, statement_item_name, statement_item_value, statement_item, more_statement_items, statement_items, condition_item_name, condition_item_value, condition_item, more_condition_items, condition_items, written_number, condition_number, numbered_items, condition_information, information, written_area, area, diagnostics, get_word, get_diagnostics}
+use Rattle.sql_grammar.specs.Statements.{set_word, set_statement, targets, select_into, open_word, open_statement, close_word, close_statement, fetch_word, fetch_orientation, fetched_cursor, fetch, leave_word, leave_statement, iterate_word, iterate_statement, return_word, return_statement, storing, cursor_statement, condition_statement, leaving, simple_statement, end_label, construct, structure, structures, label, if_label, labelled, labelled_block, if_construct, if_statement, case_construct, case_statement, stmt, ended, statements, body, body_after, branch, branch_after, more_branches, branches, otherwise, if_body, when_branches, case_body, while_body, repeat_body, for_query, for_body}
+use Rattle.sql_grammar.specs.Declarations.{default_clause, variables, condition, cursor, named_declaration, named_cursor, handler_type, handled, handler, declaration, declarations, atomic, block_body, structure_body}
+use Rattle.sql_grammar.specs.Definitions.{not_null, key_words, primary_key, column_constraint, constraints, column, table_column, table_key, element, more_elements, elements, table_definition, create_table, parameter, more_parameters, parameters, if_parameters, written_mode, mode, modal_parameter, more_modal_parameters, modal_parameters, if_modal_parameters, language, deterministic, not_deterministic, contains_sql, data_access, data_characteristic, null_call, null_characteristic, characteristic, characteristics, returns_type, function_definition, create_function, procedure_definition, create_procedure, create_word, created, create, object_sort, dropped_name, drop_word, drop_object, ddl}
+use Rattle.sql_grammar.specs.Sql.{explain_word, explain, other_statement, unended, statement, rules}
 
-abbrev wd : Word → Lexeme
+abbrev pub wd : Word → Lexeme
 wd word = lexeme.Word word
 
-abbrev sg : Sign → Lexeme
+abbrev pub sg : Sign → Lexeme
 sg sign = lexeme.Sign sign
 
-abbrev k : Lexeme
+abbrev pub k : Lexeme
 k = lexeme.Name (codes "K")
 
-abbrev t : Lexeme
+abbrev pub t : Lexeme
 t = lexeme.Name (codes "T")
 
-abbrev one : Lexeme
+abbrev pub one : Lexeme
 one = lexeme.Number (pos 1)
 
 -- the anchor of a token, and what stands at it
-abbrev at : ℕ → Anchor
+abbrev pub at : ℕ → Anchor
 at n = record { token = n; line = 1; column = n + 1 }
 
-abbrev id_k : ℕ → Ident
+abbrev pub id_k : ℕ → Ident
 id_k n = record { name = codes "K"; anchor = at n }
 
-abbrev id_t : ℕ → Ident
+abbrev pub id_t : ℕ → Ident
 id_t n = record { name = codes "T"; anchor = at n }
 
-abbrev name_k : ℕ → Expr
+abbrev pub name_k : ℕ → Expr
 name_k n = e.Name (unqualified (id_k n))
 
-abbrev number_one : ℕ → Expr
+abbrev pub number_one : ℕ → Expr
 number_one n = e.Literal (at n) (literal_of.Number (pos 1))
 
-abbrev name_t : ℕ → Expr
+abbrev pub name_t : ℕ → Expr
 name_t n = e.Name (unqualified (id_t n))
 
-abbrev link : ChainOperator → ℕ → Expr → Link
+abbrev pub link : ChainOperator → ℕ → Expr → Link
 link operator n x = roll-Link (record { operator = operator; anchor = at n; operand = x })
 
-abbrev type_at : ℕ → TypeName → DataType
+abbrev pub type_at : ℕ → TypeName → DataType
 type_at n name = record { anchor = at n; name = name }
 
-abbrev integer_at : ℕ → DataType
+abbrev pub integer_at : ℕ → DataType
 integer_at n = type_at n type.Integer
 
-abbrev table_k : ℕ → TableRef
+abbrev pub table_k : ℕ → TableRef
 table_k n = ref.Table (id_k n) None
 
-abbrev table_t : ℕ → TableRef
+abbrev pub table_t : ℕ → TableRef
 table_t n = ref.Table (id_t n) None
 
 -- ---- reading
@@ -120,7 +126,7 @@ no_table = tokens_of (wd w.Select ∷ k ∷ wd w.From ∷ sg s.Semicolon ∷ [])
 
 pub record Rows : Type 0 where
   pub select_is_read : reading rules most_open statement a_select ≡ Ok (
-    stmt.Query (record {
+    stmt_of.Query (record {
       query = q.Select (roll-Select (record {
         anchor = at 0;
         items = item.Value (e.Chain (name_k 1) (link (chain_operator.Value op.Add) 2 (number_one 3) ∷ [])) None ∷ item.Value (e.Call (id_t 5) []) None ∷ [];
@@ -134,9 +140,10 @@ pub record Rows : Type 0 where
     [],
   )
   pub insert_is_read : reading rules most_open statement an_insert ≡ Ok (
-    stmt.Insert (record {
+    stmt_of.Insert (record {
       anchor = at 0;
       table = id_t 2;
+      columns = [];
       source = q.Values (roll-Values (record {
         anchor = at 3;
         rows = value_row.Row (number_one 5 ∷ e.Operation (at 7) operation.Minus (number_one 8 ∷ []) ∷ []) ∷ value_row.Row (name_k 13 ∷ []) ∷ [];
@@ -145,23 +152,24 @@ pub record Rows : Type 0 where
     [],
   )
   pub table_is_read : reading rules most_open statement a_table ≡ Ok (
-    stmt.CreateTable (record {
+    stmt_of.CreateTable (record {
       anchor = at 0;
       name = id_t 2;
-      columns = record { name = id_k 4; data_type = integer_at 5; constraints = constraint.PrimaryKey (at 6) ∷ constraint.NotNull ∷ [] }
-          ∷ record { name = id_t 11; data_type = type_at 12 (type.Varchar (at 14) (pos 1)); constraints = [] }
-          ∷ record { name = id_k 17; data_type = type_at 18 type.Boolean; constraints = [] } ∷ [];
+      elements = element_of.Column (record { name = id_k 4; data_type = integer_at 5; constraints = constraint.PrimaryKey (at 6) ∷ constraint.NotNull ∷ [] })
+          ∷ element_of.Column (record { name = id_t 11; data_type = type_at 12 (type.Varchar (at 14) (pos 1)); constraints = [] })
+          ∷ element_of.Column (record { name = id_k 17; data_type = type_at 18 type.Boolean; constraints = [] }) ∷ [];
     }),
     [],
   )
   pub function_is_read : reading rules most_open statement a_function ≡ Ok (
-    stmt.CreateFunction (record {
+    stmt_of.CreateFunction (roll-CreateFunction (record {
       anchor = at 0;
       name = id_t 2;
-      parameters = record { name = id_k 4; data_type = integer_at 5 } ∷ [];
+      parameters = record { mode = mode_of.In; name = id_k 4; data_type = integer_at 5 } ∷ [];
       returns = integer_at 8;
-      result = name_k 10;
-    }),
+      characteristics = [];
+      body = stmt_of.Return (at 9) (name_k 10);
+    })),
     [],
   )
   -- a name is wanted where `;` stands
@@ -170,7 +178,7 @@ pub record Rows : Type 0 where
   pub is_too_deep : reading rules 1 statement an_insert ≡ Err (TooDeep (drop 12 an_insert))
 
 pub rows_hold : Rows
-unfolding same_kind bracketed ident varchar_length plain_type varchar data_type constant literal dotted column_name named function_call aggregate function case_expression exists primary unary_sign factor operator term sum comparison_sign comparison compared truth_test asked tested in_word among predicate_part predicate not_word negation conjunction expr after more_exprs exprs for_length as_type all_rows argument operands when_clause more_when_clauses when_clauses else_clause arms cases more_idents idents column_list alias select_value more_select_values select_values all_columns select_list named_table derived_table table_ref on_condition joined_on comma_item cross_join left_join inner_join from_item more_from_items first_item from_items from_clause filter more_column_names column_names group_clause group_by having grouping select_word select row more_rows rows values_word values query query_or_expr query_or_exprs direction sort_specification more_sort_specifications sort_specifications order_clause order_by ordered_query insert_source insertion into_table insert_word insert dml not_null primary_key column_constraint constraints column more_columns columns parameter more_parameters parameters table_definition create_table returns_type return_value body function_definition create_function create_word created ddl unended statement
+unfolding same_kind bracketed ident varchar_length plain_type varchar data_type constant literal dotted column_name named function_call aggregate function case_expression exists primary unary_sign factor operator term sum comparison_sign comparison compared truth_test not_word asked tested in_word among predicate_part predicate negation conjunction expr after more_exprs exprs for_length as_type all_rows argument operands when_clause more_when_clauses when_clauses else_clause arms cases more_idents idents column_list alias select_value more_select_values select_values all_columns select_list named_table derived_table table_ref on_condition joined_on comma_item cross_join left_join inner_join from_item more_from_items first_item from_items from_clause filter more_column_names column_names group_clause group_by having grouping select_word select row more_rows rows values_word values query query_or_expr query_or_exprs direction sort_specification more_sort_specifications sort_specifications order_clause order_by ordered_query insertion into_table insert_word insert assignment more_assignments assignments set_clause update_word update from_table delete_word delete parameter_argument call_argument more_call_arguments call_arguments if_call_arguments call_word call dml state_text state state_value exception_value warning_value not_found condition_value more_condition_values condition_values sqlstate signal_value message_text message if_message signal_word signal resignal_word if_signal_value resignal statement_item_name statement_item_value statement_item more_statement_items statement_items condition_item_name condition_item_value condition_item more_condition_items condition_items written_number condition_number numbered_items condition_information information written_area area diagnostics get_word get_diagnostics set_word set_statement targets select_into open_word open_statement close_word close_statement fetch_word fetch_orientation fetched_cursor fetch leave_word leave_statement iterate_word iterate_statement return_word return_statement storing cursor_statement condition_statement leaving simple_statement end_label construct structure structures label if_label labelled labelled_block if_construct if_statement case_construct case_statement stmt ended statements body body_after branch branch_after more_branches branches otherwise if_body when_branches case_body while_body repeat_body for_query for_body default_clause variables condition cursor named_declaration named_cursor handler_type handled handler declaration declarations atomic block_body structure_body not_null key_words primary_key column_constraint constraints column table_column table_key element more_elements elements table_definition create_table parameter more_parameters parameters if_parameters written_mode mode modal_parameter more_modal_parameters modal_parameters if_modal_parameters language deterministic not_deterministic contains_sql data_access data_characteristic null_call null_characteristic characteristic characteristics returns_type function_definition create_function procedure_definition create_procedure create_word created create object_sort dropped_name drop_word drop_object ddl explain_word explain other_statement unended statement
 rows_hold = record {
   select_is_read = refl;
   insert_is_read = refl;
@@ -207,7 +215,7 @@ abbrev ordered_values : List Token
 ordered_values = tokens_of (wd w.Values ∷ sg s.LeftParen ∷ one ∷ sg s.RightParen ∷ wd w.Order ∷ wd w.By ∷ k ∷ [])
 
 -- VALUES (1) from a token on
-abbrev values_at : ℕ → Query
+abbrev pub values_at : ℕ → Query
 values_at n = q.Values (roll-Values (record { anchor = at n; rows = value_row.Row (number_one (n + 2) ∷ []) ∷ [] }))
 
 -- SELECT k FROM t JOIN k;
@@ -245,7 +253,7 @@ by_a_number = tokens_of (wd w.Select ∷ k ∷ wd w.From ∷ t ∷ wd w.Group �
 
 pub record QueryRows : Type 0 where
   pub joins_are_read : reading rules most_open statement joins ≡ Ok (
-    stmt.Query (record {
+    stmt_of.Query (record {
       query = q.Select (roll-Select (record {
         anchor = at 0;
         items = item.All (at 1) ∷ [];
@@ -265,7 +273,7 @@ pub record QueryRows : Type 0 where
     [],
   )
   pub names_are_read : reading rules most_open statement named_and_ordered ≡ Ok (
-    stmt.Query (record {
+    stmt_of.Query (record {
       query = q.Select (roll-Select (record {
         anchor = at 0;
         items = item.Value (e.Name (qualified (id_k 1) (id_t 3))) (Some (id_k 5)) ∷ item.Value (number_one 7) (Some (id_t 8)) ∷ item.Value (name_k 10) None ∷ [];
@@ -331,7 +339,7 @@ pub record QueryRows : Type 0 where
   pub groups_are_by_columns : reading rules most_open statement by_a_number ≡ Err (NoSpelling (drop 6 by_a_number))
 
 pub query_rows_hold : QueryRows
-unfolding same_kind bracketed ident varchar_length plain_type varchar data_type constant literal dotted column_name named function_call aggregate function case_expression exists primary unary_sign factor operator term sum comparison_sign comparison compared truth_test asked tested in_word among predicate_part predicate not_word negation conjunction expr after more_exprs exprs for_length as_type all_rows argument operands when_clause more_when_clauses when_clauses else_clause arms cases more_idents idents column_list alias select_value more_select_values select_values all_columns select_list named_table derived_table table_ref on_condition joined_on comma_item cross_join left_join inner_join from_item more_from_items first_item from_items from_clause filter more_column_names column_names group_clause group_by having grouping select_word select row more_rows rows values_word values query query_or_expr query_or_exprs direction sort_specification more_sort_specifications sort_specifications order_clause order_by ordered_query insert_source insertion into_table insert_word insert dml not_null primary_key column_constraint constraints column more_columns columns parameter more_parameters parameters table_definition create_table returns_type return_value body function_definition create_function create_word created ddl unended statement
+unfolding same_kind bracketed ident varchar_length plain_type varchar data_type constant literal dotted column_name named function_call aggregate function case_expression exists primary unary_sign factor operator term sum comparison_sign comparison compared truth_test not_word asked tested in_word among predicate_part predicate negation conjunction expr after more_exprs exprs for_length as_type all_rows argument operands when_clause more_when_clauses when_clauses else_clause arms cases more_idents idents column_list alias select_value more_select_values select_values all_columns select_list named_table derived_table table_ref on_condition joined_on comma_item cross_join left_join inner_join from_item more_from_items first_item from_items from_clause filter more_column_names column_names group_clause group_by having grouping select_word select row more_rows rows values_word values query query_or_expr query_or_exprs direction sort_specification more_sort_specifications sort_specifications order_clause order_by ordered_query insertion into_table insert_word insert assignment more_assignments assignments set_clause update_word update from_table delete_word delete parameter_argument call_argument more_call_arguments call_arguments if_call_arguments call_word call dml state_text state state_value exception_value warning_value not_found condition_value more_condition_values condition_values sqlstate signal_value message_text message if_message signal_word signal resignal_word if_signal_value resignal statement_item_name statement_item_value statement_item more_statement_items statement_items condition_item_name condition_item_value condition_item more_condition_items condition_items written_number condition_number numbered_items condition_information information written_area area diagnostics get_word get_diagnostics set_word set_statement targets select_into open_word open_statement close_word close_statement fetch_word fetch_orientation fetched_cursor fetch leave_word leave_statement iterate_word iterate_statement return_word return_statement storing cursor_statement condition_statement leaving simple_statement end_label construct structure structures label if_label labelled labelled_block if_construct if_statement case_construct case_statement stmt ended statements body body_after branch branch_after more_branches branches otherwise if_body when_branches case_body while_body repeat_body for_query for_body default_clause variables condition cursor named_declaration named_cursor handler_type handled handler declaration declarations atomic block_body structure_body not_null key_words primary_key column_constraint constraints column table_column table_key element more_elements elements table_definition create_table parameter more_parameters parameters if_parameters written_mode mode modal_parameter more_modal_parameters modal_parameters if_modal_parameters language deterministic not_deterministic contains_sql data_access data_characteristic null_call null_characteristic characteristic characteristics returns_type function_definition create_function procedure_definition create_procedure create_word created create object_sort dropped_name drop_word drop_object ddl explain_word explain other_statement unended statement
 query_rows_hold = record {
   joins_are_read = refl;
   names_are_read = refl;
@@ -548,7 +556,7 @@ pub record ExprRows : Type 0 where
   pub cases_past_the_limit : reading rules most_open expr (case_in_case 25) ≡ Err (TooDeep (drop 48 (case_in_case 25)))
 
 pub expr_rows_hold : ExprRows
-unfolding same_kind bracketed ident varchar_length plain_type varchar data_type constant literal dotted column_name named function_call aggregate function case_expression exists primary unary_sign factor operator term sum comparison_sign comparison compared truth_test asked tested in_word among predicate_part predicate not_word negation conjunction expr after more_exprs exprs for_length as_type all_rows argument operands when_clause more_when_clauses when_clauses else_clause arms cases more_idents idents column_list alias select_value more_select_values select_values all_columns select_list named_table derived_table table_ref on_condition joined_on comma_item cross_join left_join inner_join from_item more_from_items first_item from_items from_clause filter more_column_names column_names group_clause group_by having grouping select_word select row more_rows rows values_word values query query_or_expr query_or_exprs direction sort_specification more_sort_specifications sort_specifications order_clause order_by ordered_query insert_source insertion into_table insert_word insert dml not_null primary_key column_constraint constraints column more_columns columns parameter more_parameters parameters table_definition create_table returns_type return_value body function_definition create_function create_word created ddl unended statement
+unfolding same_kind bracketed ident varchar_length plain_type varchar data_type constant literal dotted column_name named function_call aggregate function case_expression exists primary unary_sign factor operator term sum comparison_sign comparison compared truth_test not_word asked tested in_word among predicate_part predicate negation conjunction expr after more_exprs exprs for_length as_type all_rows argument operands when_clause more_when_clauses when_clauses else_clause arms cases more_idents idents column_list alias select_value more_select_values select_values all_columns select_list named_table derived_table table_ref on_condition joined_on comma_item cross_join left_join inner_join from_item more_from_items first_item from_items from_clause filter more_column_names column_names group_clause group_by having grouping select_word select row more_rows rows values_word values query query_or_expr query_or_exprs direction sort_specification more_sort_specifications sort_specifications order_clause order_by ordered_query insertion into_table insert_word insert assignment more_assignments assignments set_clause update_word update from_table delete_word delete parameter_argument call_argument more_call_arguments call_arguments if_call_arguments call_word call dml state_text state state_value exception_value warning_value not_found condition_value more_condition_values condition_values sqlstate signal_value message_text message if_message signal_word signal resignal_word if_signal_value resignal statement_item_name statement_item_value statement_item more_statement_items statement_items condition_item_name condition_item_value condition_item more_condition_items condition_items written_number condition_number numbered_items condition_information information written_area area diagnostics get_word get_diagnostics set_word set_statement targets select_into open_word open_statement close_word close_statement fetch_word fetch_orientation fetched_cursor fetch leave_word leave_statement iterate_word iterate_statement return_word return_statement storing cursor_statement condition_statement leaving simple_statement end_label construct structure structures label if_label labelled labelled_block if_construct if_statement case_construct case_statement stmt ended statements body body_after branch branch_after more_branches branches otherwise if_body when_branches case_body while_body repeat_body for_query for_body default_clause variables condition cursor named_declaration named_cursor handler_type handled handler declaration declarations atomic block_body structure_body not_null key_words primary_key column_constraint constraints column table_column table_key element more_elements elements table_definition create_table parameter more_parameters parameters if_parameters written_mode mode modal_parameter more_modal_parameters modal_parameters if_modal_parameters language deterministic not_deterministic contains_sql data_access data_characteristic null_call null_characteristic characteristic characteristics returns_type function_definition create_function procedure_definition create_procedure create_word created create object_sort dropped_name drop_word drop_object ddl explain_word explain other_statement unended statement
 expr_rows_hold = record {
   or_is_loosest = refl;
   bars_are_additive = refl;
@@ -579,7 +587,7 @@ expr_rows_hold = record {
 -- ---- reading of queries in expressions
 
 -- VALUES (1)
-abbrev a_query : List Lexeme
+abbrev pub a_query : List Lexeme
 a_query = wd w.Values ∷ sg s.LeftParen ∷ one ∷ sg s.RightParen ∷ []
 
 -- k + (SELECT k FROM t)
@@ -680,7 +688,7 @@ pub record SubqueryRows : Type 0 where
   pub brackets_are_wanted : reading rules most_open expr a_query_without_brackets ≡ Err (NoSpelling (drop 2 a_query_without_brackets))
 
 pub subquery_rows_hold : SubqueryRows
-unfolding same_kind bracketed ident varchar_length plain_type varchar data_type constant literal dotted column_name named function_call aggregate function case_expression exists primary unary_sign factor operator term sum comparison_sign comparison compared truth_test asked tested in_word among predicate_part predicate not_word negation conjunction expr after more_exprs exprs for_length as_type all_rows argument operands when_clause more_when_clauses when_clauses else_clause arms cases more_idents idents column_list alias select_value more_select_values select_values all_columns select_list named_table derived_table table_ref on_condition joined_on comma_item cross_join left_join inner_join from_item more_from_items first_item from_items from_clause filter more_column_names column_names group_clause group_by having grouping select_word select row more_rows rows values_word values query query_or_expr query_or_exprs direction sort_specification more_sort_specifications sort_specifications order_clause order_by ordered_query insert_source insertion into_table insert_word insert dml not_null primary_key column_constraint constraints column more_columns columns parameter more_parameters parameters table_definition create_table returns_type return_value body function_definition create_function create_word created ddl unended statement
+unfolding same_kind bracketed ident varchar_length plain_type varchar data_type constant literal dotted column_name named function_call aggregate function case_expression exists primary unary_sign factor operator term sum comparison_sign comparison compared truth_test not_word asked tested in_word among predicate_part predicate negation conjunction expr after more_exprs exprs for_length as_type all_rows argument operands when_clause more_when_clauses when_clauses else_clause arms cases more_idents idents column_list alias select_value more_select_values select_values all_columns select_list named_table derived_table table_ref on_condition joined_on comma_item cross_join left_join inner_join from_item more_from_items first_item from_items from_clause filter more_column_names column_names group_clause group_by having grouping select_word select row more_rows rows values_word values query query_or_expr query_or_exprs direction sort_specification more_sort_specifications sort_specifications order_clause order_by ordered_query insertion into_table insert_word insert assignment more_assignments assignments set_clause update_word update from_table delete_word delete parameter_argument call_argument more_call_arguments call_arguments if_call_arguments call_word call dml state_text state state_value exception_value warning_value not_found condition_value more_condition_values condition_values sqlstate signal_value message_text message if_message signal_word signal resignal_word if_signal_value resignal statement_item_name statement_item_value statement_item more_statement_items statement_items condition_item_name condition_item_value condition_item more_condition_items condition_items written_number condition_number numbered_items condition_information information written_area area diagnostics get_word get_diagnostics set_word set_statement targets select_into open_word open_statement close_word close_statement fetch_word fetch_orientation fetched_cursor fetch leave_word leave_statement iterate_word iterate_statement return_word return_statement storing cursor_statement condition_statement leaving simple_statement end_label construct structure structures label if_label labelled labelled_block if_construct if_statement case_construct case_statement stmt ended statements body body_after branch branch_after more_branches branches otherwise if_body when_branches case_body while_body repeat_body for_query for_body default_clause variables condition cursor named_declaration named_cursor handler_type handled handler declaration declarations atomic block_body structure_body not_null key_words primary_key column_constraint constraints column table_column table_key element more_elements elements table_definition create_table parameter more_parameters parameters if_parameters written_mode mode modal_parameter more_modal_parameters modal_parameters if_modal_parameters language deterministic not_deterministic contains_sql data_access data_characteristic null_call null_characteristic characteristic characteristics returns_type function_definition create_function procedure_definition create_procedure create_word created create object_sort dropped_name drop_word drop_object ddl explain_word explain other_statement unended statement
 subquery_rows_hold = record {
   subquery_is_read = refl;
   more_brackets_change_nothing = refl;

@@ -2,6 +2,9 @@ pub mod Trees
 pub mod Expressions
 pub mod Queries
 pub mod Writing
+pub mod Conditions
+pub mod Statements
+pub mod Declarations
 pub mod Definitions
 pub mod Sql
 pub mod Constructs
@@ -9,3 +12,5 @@ pub mod Summary
 pub mod Summaries
 pub mod Decides
 pub mod Examples
+pub mod StatementExamples
+pub mod RoutineExamples

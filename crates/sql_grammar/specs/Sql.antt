@@ -1,30 +1,48 @@
 -- The grammar of scripts: its statements, and what stands in constructs.
+use Rattle.syntax_trees.specs.declared.anchor.Anchor.{Anchor}
 use Rattle.sql_lex.specs.declared.token.Kind.TheVariants as kind
 use Rattle.sql_lex.specs.declared.word.Word.TheVariants as w
 use Rattle.sql_lex.specs.declared.sign.Sign.TheVariants as s
-use Rattle.syntax_trees.specs.declared.statement.Stmt.{Stmt}
-use Rattle.syntax_trees.specs.declared.statement.Stmt.TheVariants as stmt
+use Rattle.statement_trees.specs.declared.statement.Stmt.{Stmt}
+use Rattle.statement_trees.specs.declared.statement.Stmt.TheVariants as stmt_of
 use Rattle.token_grammar.specs.Grammar.{optional}
-use Rattle.token_grammar.specs.Notation.{sign, ◌<~◌, ◌or◌, ◌=>◌}
+use Rattle.token_grammar.specs.Notation.{word, sign, ◌~◌, ◌<~◌, ◌or◌, ◌=>◌}
 use Rattle.sql_lex.specs.declared.token.Kind.{Kind}
-use Rattle.sql_grammar.specs.Trees.{Rule, Tree, G, if_any, varchar_length, Columns, Parameters, Length, Arguments, Exprs, Bracketed, Among, Operands, Subquery, Names, Cases}
+use Rattle.sql_grammar.specs.Trees.{Rule, Tree, G, anchor_of, if_any, varchar_length, Elements, Parameters, ModalParameters, Length, Arguments, CallArguments, Exprs, Bracketed, Among, Operands, Subquery, Names, Cases, Body, IfBody, CaseBody}
 use Rattle.sql_grammar.specs.Expressions.{exprs, operands, cases}
 use Rattle.sql_grammar.specs.Queries.{idents, query, query_or_expr, query_or_exprs, ordered_query}
-use Rattle.sql_grammar.specs.Writing.{dml}
-use Rattle.sql_grammar.specs.Definitions.{columns, parameters, ddl}
+use Rattle.sql_grammar.specs.Writing.{if_call_arguments, call, dml}
+use Rattle.sql_grammar.specs.Statements.{labelled_block, if_body, case_body}
+use Rattle.sql_grammar.specs.Declarations.{structure_body}
+use Rattle.sql_grammar.specs.Definitions.{elements, if_parameters, if_modal_parameters, ddl}
 
+unfoldable pub explain_word : G Anchor
+explain_word = anchor_of => word w.Explain
+
+-- EXPLAIN query [order]
+unfoldable pub explain : G Stmt
+explain = (λ p. stmt_of.Explain p.0 p.1) => explain_word ~ ordered_query
+
+-- query [order] | EXPLAIN query [order] | call | [name ':'] block
+unfoldable pub other_statement : G Stmt
+other_statement = stmt_of.Query => ordered_query or explain or stmt_of.Call => call or stmt_of.Labelled => labelled_block
+
+-- statement := query [order] | EXPLAIN query [order] | insert | update | delete | call
+--   | [name ':'] block | DROP .. | CREATE ..
 unfoldable pub unended : G Stmt
-unended = ddl or dml or stmt.Query => ordered_query
+unended = ddl or dml or other_statement
 
 unfoldable pub statement : G Stmt
 statement = unended <~ sign s.Semicolon
 
 -- what stands in a construct
 abbrev pub rules : (r : Rule) → G (Tree r)
-rules Columns = columns
-rules Parameters = if_any => optional parameters
+rules Elements = elements
+rules Parameters = if_parameters
+rules ModalParameters = if_modal_parameters
 rules Length = varchar_length
 rules Arguments = if_any => optional exprs
+rules CallArguments = if_call_arguments
 rules Exprs = exprs
 rules Bracketed = query_or_expr
 rules Among = query_or_exprs
@@ -32,13 +50,18 @@ rules (Operands f) = operands f
 rules Subquery = query
 rules Names = idents
 rules Cases = cases
+rules (Body k) = structure_body k
+rules IfBody = if_body
+rules CaseBody = case_body
 
 -- the token that closes each
 abbrev pub shut : Rule → Kind
-shut Columns = kind.Sign s.RightParen
+shut Elements = kind.Sign s.RightParen
 shut Parameters = kind.Sign s.RightParen
+shut ModalParameters = kind.Sign s.RightParen
 shut Length = kind.Sign s.RightParen
 shut Arguments = kind.Sign s.RightParen
+shut CallArguments = kind.Sign s.RightParen
 shut Exprs = kind.Sign s.RightParen
 shut Bracketed = kind.Sign s.RightParen
 shut Among = kind.Sign s.RightParen
@@ -46,3 +69,6 @@ shut (Operands f) = kind.Sign s.RightParen
 shut Subquery = kind.Sign s.RightParen
 shut Names = kind.Sign s.RightParen
 shut Cases = kind.Word w.End
+shut (Body k) = kind.Word w.End
+shut IfBody = kind.Word w.End
+shut CaseBody = kind.Word w.End

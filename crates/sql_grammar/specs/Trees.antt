@@ -4,6 +4,7 @@ use Rattle.std.specs.Prelude.{ℤ, List, [], ◌∷◌, Option, Some, None}
 use Rattle.sql_grammar.specs.declared.function_word.Function.{Function}
 use Rattle.sql_grammar.specs.declared.function_word.FunctionWord.{FunctionWord}
 use Rattle.sql_grammar.specs.declared.predicate_part.InValue.{InValue}
+use Rattle.sql_grammar.specs.declared.structure_word.StructureWord.{StructureWord}
 use Rattle.sql_lex.specs.declared.token.Kind.{Kind}
 use Rattle.sql_lex.specs.declared.token.Kind.TheVariants as kind
 use Rattle.sql_lex.specs.declared.token.Token.{Token}
@@ -17,20 +18,26 @@ use Rattle.syntax_trees.specs.declared.data_type.TypeName.TheVariants as type
 use Rattle.syntax_trees.specs.declared.expr.Expr.{Expr}
 use Rattle.syntax_trees.specs.declared.expr.Operation.{Operation}
 use Rattle.syntax_trees.specs.declared.query.Query.{Query}
-use Rattle.syntax_trees.specs.declared.statement.Column.{Column}
-use Rattle.syntax_trees.specs.declared.statement.Parameter.{Parameter}
+use Rattle.statement_trees.specs.declared.definition.Parameter.{Parameter}
+use Rattle.statement_trees.specs.declared.definition.TableElement.{TableElement}
+use Rattle.statement_trees.specs.declared.statement.Branch.{Branch}
+use Rattle.statement_trees.specs.declared.statement.Stmt.{Stmt}
+use Rattle.statement_trees.specs.declared.statement.Structure.{Structure}
+use Rattle.statement_trees.specs.declared.writing.Argument.{Argument}
 use Rattle.token_grammar.specs.Grammar.{Grammar, token, nested}
 use Rattle.token_grammar.specs.Notation.{word, name, number, ◌~◌, ◌or◌, ◌=>◌, name_of, number_of}
 
 -- what stands in a construct
 pub data Rule : Type 0 where
-  -- between two brackets: a table's columns; a function's parameters; the length of VARCHAR; the
-  -- arguments of a call; one expression or more; one expression, or a query that stands for one;
-  -- what IN looks in; the operands of a word; a query; the names of a derived table's columns
-  Columns : Rule
+  -- between two brackets: a table's elements; the parameters of a function, and of a procedure; the
+  -- length of VARCHAR; the arguments of a call, and of CALL; one expression or more; one expression,
+  -- or a query that stands for one; what IN looks in; the operands of a word; a query; names
+  Elements : Rule
   Parameters : Rule
+  ModalParameters : Rule
   Length : Rule
   Arguments : Rule
+  CallArguments : Rule
   Exprs : Rule
   Bracketed : Rule
   Among : Rule
@@ -39,12 +46,18 @@ pub data Rule : Type 0 where
   Names : Rule
   -- between CASE and END
   Cases : Rule
+  -- between a word and END: of what may have a label; of IF; of CASE as a statement
+  Body : StructureWord → Rule
+  IfBody : Rule
+  CaseBody : Rule
 
 abbrev pub Tree : Rule → Type 0
-Tree Columns = List Column
+Tree Elements = List TableElement
 Tree Parameters = List Parameter
+Tree ModalParameters = List Parameter
 Tree Length = Anchor × ℤ
 Tree Arguments = List Expr
+Tree CallArguments = List Argument
 Tree Exprs = List Expr
 Tree Bracketed = Expr
 Tree Among = InValue
@@ -52,6 +65,9 @@ Tree (Operands f) = Function × List Expr
 Tree Subquery = Query
 Tree Names = List Ident
 Tree Cases = Operation × List Expr
+Tree (Body k) = Structure
+Tree IfBody = List Branch × List Stmt
+Tree CaseBody = Option Expr × (List Branch × List Stmt)
 
 abbrev pub G : Type 0 → Type 1
 G A = Grammar Rule Tree A

@@ -5,10 +5,12 @@
 mod chain_level;
 mod function_word;
 mod predicate_part;
+mod structure_word;
 
 pub use chain_level::ChainLevel;
 pub use function_word::{Function, FunctionWord};
 pub use predicate_part::{InValue, PredicatePart};
+pub use structure_word::StructureWord;
 use token_grammar::{Ending, Part};
 
 /// The statements of a script, each with its `;`. It stands for their grammar in contracts; no code
@@ -19,7 +21,7 @@ impl Part for Statements {
     ghost use Rattle.sql_grammar.specs.Sql as g;
     ghost use Rattle.sql_grammar.specs.Trees as trees;
     ghost use Rattle.sql_grammar.specs.Decides.{all_decide, statement_decides};
-    ghost use Rattle.syntax_trees.specs.declared.statement.Stmt.{Stmt};
+    ghost use Rattle.statement_trees.specs.declared.statement.Stmt.{Stmt};
 
     ghost Rule = { trees.Rule };
 
@@ -42,7 +44,7 @@ impl Ending for Statements {
     ghost ends = { statement_ends };
 }
 
-ghost use Rattle.sql_grammar.specs.Constructs.{TellOpen, GoBySteps, CountOpen};
+ghost use Rattle.sql_grammar.specs.Constructs.{TellOpen, GoBySteps, CountOpen, TellOpenButAfterEnd, GoByStepsButAfterEnd, CountOpenButAfterEnd};
 ghost use Rattle.sql_grammar.specs.Queries.{query};
 ghost use Rattle.sql_grammar.specs.Writing.{dml};
 ghost use Rattle.sql_grammar.specs.Definitions.{ddl};
@@ -51,7 +53,7 @@ ghost use Rattle.sql_grammar.specs.Sql.{rules, statement};
 /// At each place, the constructs that are open by the tokens alone are those that the grammar has
 /// open there: for the statements of a script, and for each part that a parser reads by itself.
 pub fn open_constructs()
-    ensures statement { TellOpen rules statement }
+    ensures statement { TellOpenButAfterEnd rules statement }
     ensures query { TellOpen rules query }
     ensures dml { TellOpen rules dml }
     ensures ddl { TellOpen rules ddl }
@@ -61,7 +63,7 @@ pub fn open_constructs()
 /// where `opens` holds of it or it is a FOR that begins a loop, lose the innermost at `)` and END,
 /// and stay as they were at any other token.
 pub fn steps_of_constructs()
-    ensures statement { GoBySteps rules statement }
+    ensures statement { GoByStepsButAfterEnd rules statement }
     ensures query { GoBySteps rules query }
     ensures dml { GoBySteps rules dml }
     ensures ddl { GoBySteps rules ddl }
@@ -69,7 +71,7 @@ pub fn steps_of_constructs()
 
 /// How many constructs a beginning has open at once is told by the tokens alone.
 pub fn counted_constructs()
-    ensures statement { CountOpen rules statement }
+    ensures statement { CountOpenButAfterEnd rules statement }
     ensures query { CountOpen rules query }
     ensures dml { CountOpen rules dml }
     ensures ddl { CountOpen rules ddl }

@@ -1,4 +1,4 @@
-//! CREATE TABLE and CREATE FUNCTION.
+//! CREATE TABLE.
 
 ghost use Rattle.std.specs.Prelude.{◌≡◌};
 ghost use Rattle.token_grammar.specs.Reading.{begins, first, reading};
@@ -7,15 +7,23 @@ ghost use Rattle.sql_grammar.specs.Trees as trees;
 ghost use Rattle.sql_grammar.specs.Definitions as definitions;
 ghost use Rattle.sql_grammar.specs.Sql.{rules};
 
-use expr_parse::{ListItem, anchor_in, comma_list, data_type, ident};
-use query_parse::after;
+use expr_parse::{ListItem, anchor_in, bracketed_names, comma_list, data_type, ident};
 use sql_lex::{Kind, Sign, Word};
 use sqlite_items::Items;
+use statement_trees::{Column, Constraint, TableElement};
 use std::alloc::Global;
-use syntax_trees::{
-    Anchor, Column, Constraint, CreateFunction, CreateTable, DataType, Expr, Ident, Parameter, Stmt,
-};
+use syntax_trees::{Anchor, Ident};
 use token_grammar::{Input, ParseError};
+
+/// The word CREATE, by the rule `create_word`. On Ok the input stands behind it, else at the token
+/// that is another.
+#[tactic(auto, unfolding(sql_grammar::specs::Definitions::create_word))]
+pub fn create_word(input: &mut Input<'_>, room: u32) -> Result<Anchor, ParseError>
+    ensures { Reads (reading rules room definitions.create_word input.old.rest.now) result input.new.rest.now }
+{
+    let token = input.expect(Kind::Word(Word::Create))?;
+    Ok(anchor_in(token))
+}
 
 #[tactic(auto, unfolding(sql_grammar::specs::Definitions::not_null))]
 fn not_null(input: &mut Input<'_>, room: u32) -> Result<Constraint, ParseError>
@@ -26,14 +34,22 @@ fn not_null(input: &mut Input<'_>, room: u32) -> Result<Constraint, ParseError>
     Ok(Constraint::NotNull)
 }
 
-#[tactic(auto, unfolding(sql_grammar::specs::Definitions::primary_key))]
-fn primary_key(input: &mut Input<'_>, room: u32) -> Result<Constraint, ParseError>
-    ensures { Reads (reading rules room definitions.primary_key input.old.rest.now) result input.new.rest.now }
+// PRIMARY KEY, with the place of its first word.
+#[tactic(auto, unfolding(sql_grammar::specs::Definitions::key_words))]
+fn key_words(input: &mut Input<'_>, room: u32) -> Result<Anchor, ParseError>
+    ensures { Reads (reading rules room definitions.key_words input.old.rest.now) result input.new.rest.now }
 {
     let token = input.expect(Kind::Word(Word::Primary))?;
     let anchor = anchor_in(token);
     input.expect(Kind::Word(Word::Key))?;
-    Ok(Constraint::PrimaryKey(anchor))
+    Ok(anchor)
+}
+
+#[tactic(auto, unfolding(sql_grammar::specs::Definitions::primary_key))]
+fn primary_key(input: &mut Input<'_>, room: u32) -> Result<Constraint, ParseError>
+    ensures { Reads (reading rules room definitions.primary_key input.old.rest.now) result input.new.rest.now }
+{
+    Ok(Constraint::PrimaryKey(key_words(input, room)?))
 }
 
 #[tactic(auto, unfolding(sql_grammar::specs::Definitions::column_constraint, sql_grammar::specs::Definitions::not_null))]
@@ -47,7 +63,7 @@ fn column_constraint(input: &mut Input<'_>, room: u32) -> Result<Constraint, Par
     }
 }
 
-#[tactic(auto, unfolding(sql_grammar::specs::Definitions::column_constraint, sql_grammar::specs::Definitions::not_null, sql_grammar::specs::Definitions::primary_key))]
+#[tactic(auto, unfolding(sql_grammar::specs::Definitions::column_constraint, sql_grammar::specs::Definitions::not_null, sql_grammar::specs::Definitions::primary_key, sql_grammar::specs::Definitions::key_words))]
 fn begins_constraint(input: &Input<'_>) -> bool
     ensures { result ≡ begins (first definitions.column_constraint) input.now.rest.now }
 {
@@ -86,36 +102,69 @@ fn column(alloc: Global, input: &mut Input<'_>, room: u32) -> Result<Column, Par
     })
 }
 
-// The columns of a table.
-struct TableColumns;
+// A column as an element of its table.
+#[tactic(auto, unfolding(sql_grammar::specs::Definitions::table_column))]
+fn table_column(alloc: Global, input: &mut Input<'_>, room: u32) -> Result<TableElement, ParseError>
+    ensures { Reads (reading rules room definitions.table_column input.old.rest.now) result input.new.rest.now }
+{
+    Ok(TableElement::Column(column(alloc, input, room)?))
+}
 
-impl ListItem for TableColumns {
-    type Tree = Column;
+// PRIMARY KEY with its columns, as an element of their table.
+#[tactic(auto, unfolding(sql_grammar::specs::Definitions::table_key))]
+fn table_key(alloc: Global, input: &mut Input<'_>, room: u32) -> Result<TableElement, ParseError>
+    ensures { Reads (reading rules room definitions.table_key input.old.rest.now) result input.new.rest.now }
+{
+    let anchor = key_words(input, room)?;
+    let columns = bracketed_names(alloc, input, room)?;
+    Ok(TableElement::PrimaryKey(anchor, columns))
+}
 
-    ghost item = { definitions.column };
-
-    fn read(alloc: Global, input: &mut Input<'_>, room: u32) -> Result<Column, ParseError> {
-        column(alloc, input, room)
+#[tactic(auto, unfolding(sql_grammar::specs::Definitions::element, sql_grammar::specs::Definitions::table_column, sql_grammar::specs::Definitions::column, sql_grammar::specs::Trees::ident))]
+fn element(alloc: Global, input: &mut Input<'_>, room: u32) -> Result<TableElement, ParseError>
+    ensures { Reads (reading rules room definitions.element input.old.rest.now) result input.new.rest.now }
+{
+    if input.sees(Kind::Name) {
+        table_column(alloc, input, room)
+    } else {
+        table_key(alloc, input, room)
     }
 }
 
-#[tactic(auto, unfolding(sql_grammar::specs::Definitions::columns, sql_grammar::specs::Definitions::more_columns))]
-fn columns(alloc: Global, input: &mut Input<'_>, room: u32) -> Result<Items<Column>, ParseError>
-    ensures { Reads (reading rules room definitions.columns input.old.rest.now) result input.new.rest.now }
-{
-    comma_list::<TableColumns>(alloc, input, room)
+// The elements of a table.
+struct TableElements;
+
+impl ListItem for TableElements {
+    type Tree = TableElement;
+
+    ghost item = { definitions.element };
+
+    fn read(alloc: Global, input: &mut Input<'_>, room: u32) -> Result<TableElement, ParseError> {
+        element(alloc, input, room)
+    }
 }
 
-#[tactic(auto, unfolding(sql_grammar::specs::Trees::bracketed))]
-fn table_columns(
+#[tactic(auto, unfolding(sql_grammar::specs::Definitions::elements, sql_grammar::specs::Definitions::more_elements))]
+fn elements(
     alloc: Global,
     input: &mut Input<'_>,
     room: u32,
-) -> Result<Items<Column>, ParseError>
-    ensures { Reads (reading rules room (trees.bracketed trees.Columns) input.old.rest.now) result input.new.rest.now }
+) -> Result<Items<TableElement>, ParseError>
+    ensures { Reads (reading rules room definitions.elements input.old.rest.now) result input.new.rest.now }
+{
+    comma_list::<TableElements>(alloc, input, room)
+}
+
+#[tactic(auto, unfolding(sql_grammar::specs::Trees::bracketed))]
+fn bracketed_elements(
+    alloc: Global,
+    input: &mut Input<'_>,
+    room: u32,
+) -> Result<Items<TableElement>, ParseError>
+    ensures { Reads (reading rules room (trees.bracketed trees.Elements) input.old.rest.now) result input.new.rest.now }
 {
     let left = input.open(room, Kind::Sign(Sign::LeftParen))?;
-    let inner = columns(alloc, input, left)?;
+    let inner = elements(alloc, input, left)?;
     input.close(Kind::Sign(Sign::RightParen), inner)
 }
 
@@ -124,168 +173,24 @@ fn table_definition(
     alloc: Global,
     input: &mut Input<'_>,
     room: u32,
-) -> Result<(Ident, Items<Column>), ParseError>
+) -> Result<(Ident, Items<TableElement>), ParseError>
     ensures { Reads (reading rules room definitions.table_definition input.old.rest.now) result input.new.rest.now }
 {
     let name = ident(input, room)?;
-    let columns = table_columns(alloc, input, room)?;
-    Ok((name, columns))
+    let elements = bracketed_elements(alloc, input, room)?;
+    Ok((name, elements))
 }
 
+/// TABLE with its name and its elements (ISO/IEC 9075-2, 11.3), by the rule `create_table`. On Ok
+/// the input stands behind the closing bracket, else at the token that does not go on.
 #[tactic(auto, unfolding(sql_grammar::specs::Definitions::create_table))]
-fn create_table(
+pub fn create_table(
     alloc: Global,
     input: &mut Input<'_>,
     room: u32,
-) -> Result<(Ident, Items<Column>), ParseError>
+) -> Result<(Ident, Items<TableElement>), ParseError>
     ensures { Reads (reading rules room definitions.create_table input.old.rest.now) result input.new.rest.now }
 {
     input.expect(Kind::Word(Word::Table))?;
     table_definition(alloc, input, room)
-}
-
-#[tactic(auto, unfolding(sql_grammar::specs::Definitions::parameter))]
-fn parameter(input: &mut Input<'_>, room: u32) -> Result<Parameter, ParseError>
-    ensures { Reads (reading rules room definitions.parameter input.old.rest.now) result input.new.rest.now }
-{
-    let name = ident(input, room)?;
-    let data_type = data_type(input, room)?;
-    Ok(Parameter { name, data_type })
-}
-
-// The parameters of a function.
-struct FunctionParameters;
-
-impl ListItem for FunctionParameters {
-    type Tree = Parameter;
-
-    ghost item = { definitions.parameter };
-
-    fn read(_alloc: Global, input: &mut Input<'_>, room: u32) -> Result<Parameter, ParseError> {
-        parameter(input, room)
-    }
-}
-
-#[tactic(auto, unfolding(sql_grammar::specs::Definitions::parameters, sql_grammar::specs::Definitions::more_parameters))]
-fn parameters(
-    alloc: Global,
-    input: &mut Input<'_>,
-    room: u32,
-) -> Result<Items<Parameter>, ParseError>
-    ensures { Reads (reading rules room definitions.parameters input.old.rest.now) result input.new.rest.now }
-{
-    comma_list::<FunctionParameters>(alloc, input, room)
-}
-
-#[tactic(auto, unfolding(sql_grammar::specs::Definitions::parameters, sql_grammar::specs::Definitions::parameter, sql_grammar::specs::Trees::ident))]
-fn if_parameters(
-    alloc: Global,
-    input: &mut Input<'_>,
-    room: u32,
-) -> Result<Items<Parameter>, ParseError>
-    ensures { Reads (reading rules room (rules trees.Parameters) input.old.rest.now) result input.new.rest.now }
-{
-    if input.sees(Kind::Name) {
-        parameters(alloc, input, room)
-    } else {
-        Ok(Items::new(alloc))
-    }
-}
-
-#[tactic(auto, unfolding(sql_grammar::specs::Trees::bracketed))]
-fn function_parameters(
-    alloc: Global,
-    input: &mut Input<'_>,
-    room: u32,
-) -> Result<Items<Parameter>, ParseError>
-    ensures { Reads (reading rules room (trees.bracketed trees.Parameters) input.old.rest.now) result input.new.rest.now }
-{
-    let left = input.open(room, Kind::Sign(Sign::LeftParen))?;
-    let inner = if_parameters(alloc, input, left)?;
-    input.close(Kind::Sign(Sign::RightParen), inner)
-}
-
-#[tactic(auto, unfolding(sql_grammar::specs::Definitions::returns_type))]
-fn returns_type(input: &mut Input<'_>, room: u32) -> Result<DataType, ParseError>
-    ensures { Reads (reading rules room definitions.returns_type input.old.rest.now) result input.new.rest.now }
-{
-    input.expect(Kind::Word(Word::Returns))?;
-    data_type(input, room)
-}
-
-#[tactic(auto, unfolding(sql_grammar::specs::Definitions::return_value))]
-fn return_value(alloc: Global, input: &mut Input<'_>, room: u32) -> Result<Expr, ParseError>
-    ensures { Reads (reading rules room definitions.return_value input.old.rest.now) result input.new.rest.now }
-{
-    after(alloc, input, room, Kind::Word(Word::Return))
-}
-
-// RETURNS type RETURN e
-#[tactic(auto, unfolding(sql_grammar::specs::Definitions::body))]
-fn body(alloc: Global, input: &mut Input<'_>, room: u32) -> Result<(DataType, Expr), ParseError>
-    ensures { Reads (reading rules room definitions.body input.old.rest.now) result input.new.rest.now }
-{
-    let returns = returns_type(input, room)?;
-    let value = return_value(alloc, input, room)?;
-    Ok((returns, value))
-}
-
-#[tactic(auto, unfolding(sql_grammar::specs::Definitions::function_definition))]
-fn function_definition(
-    alloc: Global,
-    input: &mut Input<'_>,
-    room: u32,
-) -> Result<(Ident, (Items<Parameter>, (DataType, Expr))), ParseError>
-    ensures { Reads (reading rules room definitions.function_definition input.old.rest.now) result input.new.rest.now }
-{
-    let name = ident(input, room)?;
-    let parameters = function_parameters(alloc, input, room)?;
-    let body = body(alloc, input, room)?;
-    Ok((name, (parameters, body)))
-}
-
-#[tactic(auto, unfolding(sql_grammar::specs::Definitions::create_function))]
-fn create_function(
-    alloc: Global,
-    input: &mut Input<'_>,
-    room: u32,
-) -> Result<(Ident, (Items<Parameter>, (DataType, Expr))), ParseError>
-    ensures { Reads (reading rules room definitions.create_function input.old.rest.now) result input.new.rest.now }
-{
-    input.expect(Kind::Word(Word::Function))?;
-    function_definition(alloc, input, room)
-}
-
-#[tactic(auto, unfolding(sql_grammar::specs::Definitions::create_word))]
-fn create_word(input: &mut Input<'_>, room: u32) -> Result<Anchor, ParseError>
-    ensures { Reads (reading rules room definitions.create_word input.old.rest.now) result input.new.rest.now }
-{
-    let token = input.expect(Kind::Word(Word::Create))?;
-    Ok(anchor_in(token))
-}
-
-/// A statement of data definition.
-#[tactic(auto, unfolding(sql_grammar::specs::Definitions::ddl, sql_grammar::specs::Definitions::created, sql_grammar::specs::Definitions::create_table))]
-pub(crate) fn ddl(alloc: Global, input: &mut Input<'_>, room: u32) -> Result<Stmt, ParseError>
-    ensures { Reads (reading rules room definitions.ddl input.old.rest.now) result input.new.rest.now }
-{
-    let anchor = create_word(input, room)?;
-    if input.sees(Kind::Word(Word::Table)) {
-        let table = create_table(alloc, input, room)?;
-        return Ok(Stmt::CreateTable(CreateTable {
-            anchor,
-            name: table.0,
-            columns: table.1,
-        }));
-    }
-    let function = create_function(alloc, input, room)?;
-    let signed = function.1;
-    let body = signed.1;
-    Ok(Stmt::CreateFunction(CreateFunction {
-        anchor,
-        name: function.0,
-        parameters: signed.0,
-        returns: body.0,
-        result: body.1,
-    }))
 }

@@ -6,31 +6,36 @@ ghost use Rattle.token_grammar.specs.Reads.{Reads};
 ghost use Rattle.sql_grammar.specs.Writing as writing;
 ghost use Rattle.sql_grammar.specs.Sql.{rules};
 
-use expr_parse::{anchor_in, ident};
-use query_parse::values;
+use expr_parse::{anchor_in, column_list, ident};
+use query_parse::query;
 use sql_lex::{Kind, Word};
+use sqlite_items::Items;
+use statement_trees::Insert;
 use std::alloc::Global;
-use syntax_trees::{Anchor, Ident, Insert, Query};
+use syntax_trees::{Anchor, Ident, Query};
 use token_grammar::{Input, ParseError};
 
-#[tactic(auto, unfolding(sql_grammar::specs::Writing::insert_source))]
-fn insert_source(alloc: Global, input: &mut Input<'_>, room: u32) -> Result<Query, ParseError>
-    ensures { Reads (reading rules room writing.insert_source input.old.rest.now) result input.new.rest.now }
-{
-    Ok(Query::Values(values(alloc, input, room)?))
-}
-
+// A table with the columns that are listed, and the query whose rows are put in.
 #[tactic(auto, unfolding(sql_grammar::specs::Writing::insertion))]
-fn insertion(alloc: Global, input: &mut Input<'_>, room: u32) -> Result<(Ident, Query), ParseError>
+fn insertion(
+    alloc: Global,
+    input: &mut Input<'_>,
+    room: u32,
+) -> Result<(Ident, (Items<Ident>, Query)), ParseError>
     ensures { Reads (reading rules room writing.insertion input.old.rest.now) result input.new.rest.now }
 {
     let table = ident(input, room)?;
-    let source = insert_source(alloc, input, room)?;
-    Ok((table, source))
+    let columns = column_list(alloc, input, room)?;
+    let source = query(alloc, input, room)?;
+    Ok((table, (columns, source)))
 }
 
 #[tactic(auto, unfolding(sql_grammar::specs::Writing::into_table))]
-fn into_table(alloc: Global, input: &mut Input<'_>, room: u32) -> Result<(Ident, Query), ParseError>
+fn into_table(
+    alloc: Global,
+    input: &mut Input<'_>,
+    room: u32,
+) -> Result<(Ident, (Items<Ident>, Query)), ParseError>
     ensures { Reads (reading rules room writing.into_table input.old.rest.now) result input.new.rest.now }
 {
     input.expect(Kind::Word(Word::Into))?;
@@ -45,16 +50,18 @@ fn insert_word(input: &mut Input<'_>, room: u32) -> Result<Anchor, ParseError>
     Ok(anchor_in(token))
 }
 
-/// INSERT with its table and its source.
+/// INSERT with its table, its columns and its source.
 #[tactic(auto, unfolding(sql_grammar::specs::Writing::insert))]
 pub(crate) fn insert(alloc: Global, input: &mut Input<'_>, room: u32) -> Result<Insert, ParseError>
     ensures { Reads (reading rules room writing.insert input.old.rest.now) result input.new.rest.now }
 {
     let anchor = insert_word(input, room)?;
     let insertion = into_table(alloc, input, room)?;
+    let rows = insertion.1;
     Ok(Insert {
         anchor,
         table: insertion.0,
-        source: insertion.1,
+        columns: rows.0,
+        source: rows.1,
     })
 }

@@ -1,12 +1,11 @@
-//! Statements as they are written. Brackets leave no node, a chain of operators is a list, and each
-//! node has its anchor.
+//! Expressions and queries as they are written. Brackets leave no node, a chain of operators is a
+//! list, and each node has its anchor.
 #![tactic(auto)]
 
 mod anchor;
 mod data_type;
 mod expr;
 mod query;
-mod statement;
 
 pub use anchor::{Anchor, ColumnName, Ident};
 pub use data_type::{DataType, TypeName};
@@ -15,4 +14,3 @@ pub use query::{
     FromItem, OrderedQuery, Query, Select, SelectItem, SortSpecification, TableRef, ValueRow,
     Values,
 };
-pub use statement::{Column, Constraint, CreateFunction, CreateTable, Insert, Parameter, Stmt};

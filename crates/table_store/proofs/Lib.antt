@@ -2,6 +2,9 @@ pub mod Halving
 pub mod Memory
 pub mod Kept
 pub mod WellKept
+pub mod Places
+pub mod Closing
+pub mod Opening
 pub mod Packing
 pub mod Named
 pub mod Laws

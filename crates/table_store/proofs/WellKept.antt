@@ -1,5 +1,5 @@
 -- Tables whose rows are well kept, after an edit of one of them.
-use Rattle.std.proofs.Common.{ℕ, zero, suc, ◌≡◌, Bool, true, List, [], ◌∷◌, ◌++◌, refl, sym, subst, map, remove, take, slice_get, Some, IsTrue, Ordering}
+use Rattle.std.proofs.Common.{ℕ, zero, suc, ◌≡◌, Bool, true, List, [], ◌∷◌, ◌++◌, refl, sym, subst, map, remove, take, slice_get, Some, IsTrue, Ordering, Result, Ok, Err, OnOk, OnErr}
 use Rattle.std.specs.List.{list_all}
 use Rattle.std.proofs.lemmas.Bool.{and_parts, and_from}
 use Rattle.indexmap.specs.IndexMap.{set_value_at}
@@ -8,6 +8,7 @@ use Rattle.row_types.specs.Ordered.{rises, is_below_first}
 use Rattle.row_types.specs.Rows.{Row, by_key, fits, well_kept}
 use Rattle.row_types.specs.Tables.{Tables, Stored, table_at, with_rows, with_rows_at}
 use Rattle.table_store.specs.Kept.{Kept}
+use Rattle.table_store.specs.Places.{removed_all}
 use Rattle.table_store.specs.Memory.{Named, Memory, stored_of, memory_of, AllWellKept}
 use Rattle.table_store.proofs.Kept.{kept_fits, kept_rises, well_kept-remove}
 use Rattle.table_store.proofs.Memory.{kept_of, tables_are, tables_stay}
@@ -41,6 +42,16 @@ pub well_kept-take : (cs : List ColumnType) (key : List ℕ) (rows : List Row) (
 well_kept-take cs key rows n h =
     and_from (list_all (fits cs key) (take n rows)) (rises (by_key key) (take n rows)) (all-take (fits cs key) rows n (kept_fits cs key rows h))
     (rises-take (by_key key) rows n (kept_rises cs key rows h))
+
+pub well_kept-removed_all : (cs : List ColumnType) (key : List ℕ) (ps : List ℕ) (rows : List Row) → well_kept cs key rows ≡ true → well_kept cs key (removed_all ps rows) ≡ true
+well_kept-removed_all cs key [] rows h = h
+well_kept-removed_all cs key (p ∷ ps) rows h = well_kept-remove cs key (removed_all ps rows) p (well_kept-removed_all cs key ps rows h)
+
+-- rows that went out, or stayed
+pub well_kept-either : {T E : Type 0} (r : Result T E) (cs : List ColumnType) (key : List ℕ) (ps : List ℕ) (rows now : List Row) → OnOk r (now ≡ removed_all ps rows) → OnErr r (now ≡ rows)
+    → well_kept cs key rows ≡ true → well_kept cs key now ≡ true
+well_kept-either (Ok x) cs key ps rows now e f h = subst (λ (xs : List Row). well_kept cs key xs ≡ true) (sym e) (well_kept-removed_all cs key ps rows h)
+well_kept-either (Err x) cs key ps rows now e f h = subst (λ (xs : List Row). well_kept cs key xs ≡ true) (sym f) h
 
 -- ---- all tables
 
@@ -90,3 +101,11 @@ module _ (ns : List Named) (m : Memory) (t : ℕ) (k l : Kept) (e : memory_of ns
 
   pub kept_same : l.table ≡ k.table → AllWellKept (map stored_of (set_value_at ns t l))
   kept_same b = subst AllWellKept (sym (tables_stay ns m t k l e h b)) kept_before
+
+  pub kept_removed_all : (ps : List ℕ) → l.table ≡ with_rows (removed_all ps k.table.rows) k.table → AllWellKept (map stored_of (set_value_at ns t l))
+  kept_removed_all ps b =
+      kept_with (λ rows. removed_all ps rows) b (well_kept-removed_all (table_at m.tables t).columns (table_at m.tables t).key ps (table_at m.tables t).rows (kept_rows_at m.tables t kept_before))
+
+  pub kept_either : {T E : Type 0} (r : Result T E) (ps : List ℕ) → OnOk r (l.table ≡ with_rows (removed_all ps k.table.rows) k.table) → OnErr r (l.table ≡ k.table) → AllWellKept (map stored_of (set_value_at ns t l))
+  kept_either (Ok x) ps b s = kept_removed_all ps b
+  kept_either (Err x) ps b s = kept_same s

@@ -7,12 +7,16 @@ use Rattle.row_types.specs.Tables.{Table, with_rows_at, place_named}
 use Rattle.table_store.specs.Kept.{Kept, holding}
 use Rattle.table_store.specs.Memory.{Memory, memory_of, with_one_more, without_place, kept_at}
 use Rattle.table_store.specs.Blocks.{joined}
+use Rattle.table_store.specs.Places.{removed_all, all_placed_at, places_of, inserted_all}
 
 abbrev one : Row
 one = Int (pos 1) ∷ []
 
 abbrev two : Row
 two = Int (pos 2) ∷ []
+
+abbrev three : Row
+three = Int (pos 3) ∷ []
 
 -- a table of one column, its key, with these rows
 abbrev with_these : List Row → Table
@@ -51,3 +55,16 @@ rows_in_the_first = refl
 
 in_two_blocks : joined ((one ∷ []) ∷ (two ∷ []) ∷ [] ∷ []) ≡ one ∷ two ∷ []
 in_two_blocks = refl
+
+-- rows at places go out, and in again
+left : removed_all (0 ∷ 2 ∷ []) (one ∷ two ∷ three ∷ []) ≡ two ∷ []
+left = refl
+
+handed_back : all_placed_at (0 ∷ 2 ∷ []) (one ∷ two ∷ three ∷ []) ≡ record { at = 0; row = one } ∷ record { at = 2; row = three } ∷ []
+handed_back = refl
+
+in_again : inserted_all (record { at = 0; row = one } ∷ record { at = 2; row = three } ∷ []) (two ∷ []) ≡ one ∷ two ∷ three ∷ []
+in_again = refl
+
+their_places : places_of (record { at = 0; row = one } ∷ record { at = 2; row = three } ∷ []) ≡ 0 ∷ 2 ∷ []
+their_places = refl

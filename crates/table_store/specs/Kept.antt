@@ -4,6 +4,8 @@ use Rattle.std.specs.Prelude.{ℕ, ◌+◌, ◌≤◌, ◌<◌, List, ◌++◌, 
 use Rattle.std.specs.List.{insert}
 use Rattle.row_types.specs.Rows.{Row, well_kept}
 use Rattle.row_types.specs.Tables.{Table, with_rows}
+use Rattle.table_store.specs.declared.placed_row.PlacedRow.{PlacedRow}
+use Rattle.table_store.specs.Places.{Climb, places_of, inserted_all}
 
 -- A table and the number of rows that it has memory for.
 pub record Kept : Type 0 where
@@ -29,6 +31,13 @@ pub record CanInsert (k : Kept) (at : ℕ) (row : Row) : Type 0 where
 pub record CanAppend (k : Kept) (more : List Row) : Type 0 where
   pub room : length k.table.rows + length more ≤ k.capacity
   pub kept : IsTrue (well_kept k.table.columns k.table.key (k.table.rows ++ more))
+
+-- rows may go in at places that increase and are theirs afterwards: there is memory, each fits, and
+-- all stand in key order
+pub record CanInsertAll (k : Kept) (new : List PlacedRow) : Type 0 where
+  pub climb : Climb 0 (places_of new) (length k.table.rows + length new)
+  pub room : length k.table.rows + length new ≤ k.capacity
+  pub kept : IsTrue (well_kept k.table.columns k.table.key (inserted_all new k.table.rows))
 
 -- a row may take the place of another: it fits, and it keeps the key order
 pub record CanReplace (k : Kept) (at : ℕ) (row : Row) : Type 0 where

@@ -3,6 +3,7 @@
 
 mod block;
 mod blocks;
+mod placed_row;
 mod rows;
 mod search;
 mod table;
@@ -10,5 +11,6 @@ mod tables;
 #[cfg(test)]
 mod tests;
 
+pub use placed_row::PlacedRow;
 pub use table::Table;
 pub use tables::Tables;

@@ -1,14 +1,18 @@
 //! Rows by their places. This alone knows how they lie in memory: in blocks of 1,024, all full but
 //! the last that has rows. So an insert or a removal moves at most half the rows of a block and one
-//! row of each block behind it, and a place is found by a division.
+//! row of each block behind it, and a place is found by a division. Many rows go in or out in one
+//! pass, in which a row without values, which takes no memory, stands where a row was moved away.
 
-ghost use Rattle.std.specs.Prelude.{◌≡◌, ◌<◌, ◌≤◌, ◌+◌, ◌-◌, ◌^◌, [], ◌∷◌, ◌++◌, length, slice_index_or, slice_set, OnOk};
+ghost use Rattle.std.specs.Prelude.{◌≡◌, ◌<◌, ◌≤◌, ◌+◌, ◌-◌, ◌^◌, [], ◌∷◌, ◌++◌, length, take, slice_get, slice_index, slice_index_or, slice_set, vec_len, vec_capacity, OnOk, OnErr, IfOk, IsTrue, Some, ◌↔◌};
 ghost use Rattle.std.specs.List.{insert, remove};
+ghost use Rattle.table_store.specs.Places.{Climb, removed_all, all_placed_at, places_of, inserted_all};
 
 use crate::block::Block;
 use crate::blocks::{insert_in, push_in, remove_in, replace_in, row_in};
+use crate::placed_row::PlacedRow;
 use row_types::Row;
 use sql_values::NoMemory;
+use sqlite_items::Items;
 use std::alloc::Global;
 use std::collections::VecDeque;
 use std::marker::Model;
@@ -32,6 +36,24 @@ impl Model for Rows {
     ghost view = { λ r. record { rows = joined r.blocks.items; capacity = 1024 * length r.blocks.items } };
 
     ghost invariant = { λ r. Packed r.blocks.items × (r.count ≡ length (joined r.blocks.items)) × (length r.blocks.items ≤ 2 ^ 40) };
+}
+
+// Whether the next of some places is this one.
+fn is_next(places: &[usize], next: usize, at: usize) -> bool
+    ensures { IsTrue result ↔ (slice_get places.now next ≡ Some at) }
+{
+    match places.get(next) {
+        Some(place) => *place == at,
+        None => false,
+    }
+}
+
+// The place of the last row.
+fn last_place(rows: &[PlacedRow]) -> usize
+    requires { 0 < length rows.now }
+    ensures { result ≡ slice_index (places_of rows.now) (length rows.now - 1) }
+{
+    rows[rows.len() - 1].at
 }
 
 impl Rows {
@@ -107,6 +129,140 @@ impl Rows {
         ensures capacity { self.new.capacity ≡ self.old.capacity }
     {
         replace_in(&mut self.blocks, at / 1024, at % 1024, row)
+    }
+
+    // Takes all rows from a place on out.
+    pub fn truncate(&mut self, at: usize)
+        ensures rows { self.new.rows ≡ take at self.old.rows }
+        ensures capacity { self.new.capacity ≡ self.old.capacity }
+    {
+        while at < self.len() {
+            let _ = self.remove_at(self.len() - 1);
+        }
+    }
+
+    // Takes the row at a place away and leaves one without values there.
+    fn vacate(&mut self, at: usize) -> Row
+        requires { at < length self.old.rows }
+        ensures row { result ≡ slice_index_or self.old.rows at [] }
+        ensures rows { self.new.rows ≡ slice_set self.old.rows at [] }
+        ensures capacity { self.new.capacity ≡ self.old.capacity }
+    {
+        let none = Items::new(*self.blocks.allocator());
+        self.replace_at(at, none)
+    }
+
+    // Moves the row at a place to another and leaves one without values there.
+    fn move_row(&mut self, from: usize, to: usize)
+        requires from { from < length self.old.rows }
+        requires to { to < length self.old.rows }
+        ensures rows { self.new.rows ≡ slice_set (slice_set self.old.rows from []) to (slice_index_or self.old.rows from []) }
+        ensures capacity { self.new.capacity ≡ self.old.capacity }
+    {
+        let row = self.vacate(from);
+        let _ = self.replace_at(to, row);
+    }
+
+    // Takes the rows at places away and leaves rows without values there. The list has memory for
+    // them.
+    fn vacate_all(&mut self, places: &[usize], taken: &mut Vec<PlacedRow>)
+        requires places { Climb 0 places.now (length self.old.rows) }
+        requires noted { vec_len taken.old + length places.now ≤ vec_capacity taken.old }
+        ensures taken { taken.new.items ≡ taken.old.items ++ all_placed_at places.now self.old.rows }
+        ensures left { removed_all places.now self.new.rows ≡ removed_all places.now self.old.rows }
+        ensures len { length self.new.rows ≡ length self.old.rows }
+        ensures capacity { self.new.capacity ≡ self.old.capacity }
+    {
+        for i in 0..places.len() {
+            let row = self.vacate(places[i]);
+            taken.push_reserved(PlacedRow { at: places[i], row });
+        }
+    }
+
+    // Moves the rows from a place on that are not at places down over those that are, and cuts off
+    // what stands behind them then.
+    fn close_up(&mut self, places: &[usize], first: usize)
+        requires places { Climb first places.now (length self.old.rows) }
+        requires there { first ≤ length self.old.rows }
+        ensures rows { self.new.rows ≡ removed_all places.now self.old.rows }
+        ensures capacity { self.new.capacity ≡ self.old.capacity }
+    {
+        let count = self.len();
+        let mut from = first;
+        let mut passed = 0;
+        while from < count {
+            if is_next(places, passed, from) {
+                passed += 1;
+            } else {
+                self.move_row(from, from - passed);
+            }
+            from += 1;
+        }
+        self.truncate(count - passed);
+    }
+
+    /// Takes the rows at places, which increase, out in one pass, and hands them back with their
+    /// places. Memory is taken for these alone; without it the rows stay.
+    pub fn remove_all(&mut self, places: &[usize]) -> Result<Vec<PlacedRow>, NoMemory>
+        requires { Climb 0 places.now (length self.old.rows) }
+        ensures taken { IfOk result (λ v. v.items ≡ all_placed_at places.now self.old.rows) }
+        ensures rows { OnOk result (self.new.rows ≡ removed_all places.now self.old.rows) }
+        ensures unchanged { OnErr result (self.new.rows ≡ self.old.rows) }
+        ensures capacity { self.new.capacity ≡ self.old.capacity }
+    {
+        let mut taken = Vec::with_capacity(*self.blocks.allocator(), places.len())?;
+        self.vacate_all(places, &mut taken);
+        self.drop_all(places);
+        Ok(taken)
+    }
+
+    /// Takes the rows at places, which increase, out in one pass. It takes no memory.
+    pub fn drop_all(&mut self, places: &[usize])
+        requires { Climb 0 places.now (length self.old.rows) }
+        ensures rows { self.new.rows ≡ removed_all places.now self.old.rows }
+        ensures capacity { self.new.capacity ≡ self.old.capacity }
+    {
+        match places.get(0) {
+            Some(first) => self.close_up(places, *first),
+            None => {}
+        }
+    }
+
+    // Rows without values behind the others.
+    fn lengthen(&mut self, n: usize)
+        requires { length self.old.rows + n ≤ self.old.capacity }
+        ensures rows { take (length self.old.rows) self.new.rows ≡ self.old.rows }
+        ensures len { length self.new.rows ≡ length self.old.rows + n }
+        ensures capacity { self.new.capacity ≡ self.old.capacity }
+    {
+        for _ in 0..n {
+            let none = Items::new(*self.blocks.allocator());
+            self.push(none);
+        }
+    }
+
+    /// Puts rows in at places, which increase and are theirs afterwards, in one pass from the back.
+    /// There is memory for them.
+    pub fn insert_all(&mut self, new: Items<PlacedRow>)
+        requires room { length self.old.rows + length new ≤ self.old.capacity }
+        requires places { Climb 0 (places_of new) (length self.old.rows + length new) }
+        ensures rows { self.new.rows ≡ inserted_all new self.old.rows }
+        ensures capacity { self.new.capacity ≡ self.old.capacity }
+    {
+        self.lengthen(new.len());
+        let mut left = new;
+        let mut to = self.len();
+        while left.len() > 0 {
+            to -= 1;
+            if last_place(left.as_slice()) == to {
+                let Some(last) = left.pop() else {
+                    unreachable!()
+                };
+                let _ = self.replace_at(to, last.row);
+            } else {
+                self.move_row(to - left.len(), to);
+            }
+        }
     }
 
     pub fn spare(&self) -> usize

@@ -1,17 +1,20 @@
 //! One table.
 
-ghost use Rattle.std.specs.Prelude.{◌≡◌, ◌<◌, ◌≤◌, ◌+◌, ◌-◌, ◌^◌, [], ◌++◌, length, take, slice_index_or, slice_set, OnOk, IsTrue};
+ghost use Rattle.std.specs.Prelude.{◌≡◌, ◌<◌, ◌≤◌, ◌+◌, ◌-◌, ◌^◌, [], ◌++◌, length, take, slice_index_or, slice_set, OnOk, OnErr, IfOk, IsTrue};
 ghost use Rattle.std.specs.List.{insert, remove};
 ghost use Rattle.std.specs.Ordering.{is_eq};
 ghost use Rattle.row_types.specs.Ordered.{searched};
 ghost use Rattle.row_types.specs.Rows.{by_key, to_key, has_key_columns};
 ghost use Rattle.row_types.specs.Tables.{with_rows};
-ghost use Rattle.table_store.specs.Kept.{IsKept, CanInsert, CanAppend, CanReplace};
+ghost use Rattle.table_store.specs.Kept.{IsKept, CanInsert, CanAppend, CanInsertAll, CanReplace};
+ghost use Rattle.table_store.specs.Places.{Climb, removed_all, all_placed_at, inserted_all};
 
+use crate::placed_row::PlacedRow;
 use crate::rows::Rows;
 use crate::search::{find, place_of};
 use row_types::{ColumnType, Key, Row, RowType, Steps, order_by_key};
 use sql_values::NoMemory;
+use sqlite_items::Items;
 use std::alloc::Global;
 use std::cmp::Ordering;
 use std::marker::Model;
@@ -138,6 +141,16 @@ impl Table {
         self.stored.append(more);
     }
 
+    /// Puts rows in at places, which increase and are theirs afterwards, in one pass over the rows.
+    /// There is memory for them.
+    pub fn insert_all(&mut self, new: Items<PlacedRow>)
+        requires { CanInsertAll self.old new }
+        ensures rows { self.new.table ≡ with_rows (inserted_all new self.old.table.rows) self.old.table }
+        ensures capacity { self.new.capacity ≡ self.old.capacity }
+    {
+        self.stored.insert_all(new);
+    }
+
     /// Takes the row at a place out and hands it back; its memory is kept.
     pub fn remove_at(&mut self, at: usize) -> Row
         requires { at < length self.old.table.rows }
@@ -148,14 +161,35 @@ impl Table {
         self.stored.remove_at(at)
     }
 
+    /// Takes the rows at places, which increase, out in one pass over the rows, and hands them back
+    /// with their places; their memory is kept. Memory is taken for what is handed back alone, and
+    /// without it the table stays.
+    pub fn remove_all(&mut self, places: &[usize]) -> Result<Vec<PlacedRow>, NoMemory>
+        requires { Climb 0 places.now (length self.old.table.rows) }
+        ensures taken { IfOk result (λ v. v.items ≡ all_placed_at places.now self.old.table.rows) }
+        ensures rows { OnOk result (self.new.table ≡ with_rows (removed_all places.now self.old.table.rows) self.old.table) }
+        ensures unchanged { OnErr result (self.new.table ≡ self.old.table) }
+        ensures capacity { self.new.capacity ≡ self.old.capacity }
+    {
+        self.stored.remove_all(places)
+    }
+
+    /// Takes the rows at places, which increase, out in one pass over the rows; their memory is
+    /// kept. It takes no memory.
+    pub fn drop_all(&mut self, places: &[usize])
+        requires { Climb 0 places.now (length self.old.table.rows) }
+        ensures rows { self.new.table ≡ with_rows (removed_all places.now self.old.table.rows) self.old.table }
+        ensures capacity { self.new.capacity ≡ self.old.capacity }
+    {
+        self.stored.drop_all(places);
+    }
+
     /// Takes all rows from a place on out; their memory is kept.
     pub fn truncate(&mut self, at: usize)
         ensures rows { self.new.table ≡ with_rows (take at self.old.table.rows) self.old.table }
         ensures capacity { self.new.capacity ≡ self.old.capacity }
     {
-        while at < self.len() {
-            let _ = self.remove_at(self.len() - 1);
-        }
+        self.stored.truncate(at);
     }
 
     /// Puts a row in the place of another and hands that back.

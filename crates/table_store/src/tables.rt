@@ -1,16 +1,19 @@
 //! All tables, by their names.
 
-ghost use Rattle.std.specs.Prelude.{◌≡◌, ◌<◌, ◌≤◌, ◌+◌, [], ◌++◌, length, take, slice_index, slice_index_or, slice_set, OnOk, OnErr, None};
+ghost use Rattle.std.specs.Prelude.{◌≡◌, ◌<◌, ◌≤◌, ◌+◌, [], ◌++◌, length, take, slice_index, slice_index_or, slice_set, OnOk, OnErr, IfOk, None};
 ghost use Rattle.std.specs.Option.{option_copied, option_map};
 ghost use Rattle.std.specs.List.{insert, remove};
 ghost use Rattle.row_types.specs.Tables.{table_at, table_named, with_rows_at, without_table_named, place_named, HaveDistinctNames};
-ghost use Rattle.table_store.specs.Kept.{CanInsert, CanAppend, CanReplace};
+ghost use Rattle.table_store.specs.Kept.{CanInsert, CanAppend, CanInsertAll, CanReplace};
+ghost use Rattle.table_store.specs.Places.{Climb, removed_all, all_placed_at, inserted_all};
 ghost use Rattle.table_store.specs.Memory.{with_one_more, without_place, kept_at, table_of, NoLess, AllWellKept};
 
+use crate::placed_row::PlacedRow;
 use crate::table::Table;
 use indexmap::IndexMap;
 use row_types::Row;
 use sql_values::{Name, NoMemory};
+use sqlite_items::Items;
 use std::alloc::Global;
 use std::marker::Model;
 
@@ -117,6 +120,17 @@ impl Tables {
         self.entries[t].append(more);
     }
 
+    /// Puts rows into the table at a place, at places that increase and are theirs afterwards, in
+    /// one pass over its rows. There is memory for them.
+    pub fn insert_all(&mut self, t: usize, new: Items<PlacedRow>)
+        requires there { t < length self.old.tables }
+        requires can { CanInsertAll (kept_at self.old t) new }
+        ensures tables { self.new.tables ≡ with_rows_at t (inserted_all new (table_at self.old.tables t).rows) self.old.tables }
+        ensures capacities { NoLess self.old.capacities self.new.capacities }
+    {
+        self.entries[t].insert_all(new);
+    }
+
     /// Takes a row out of the table at a place and hands it back; its memory is kept.
     pub fn remove_at(&mut self, t: usize, at: usize) -> Row
         requires there { t < length self.old.tables }
@@ -126,6 +140,31 @@ impl Tables {
         ensures capacities { NoLess self.old.capacities self.new.capacities }
     {
         self.entries[t].remove_at(at)
+    }
+
+    /// Takes the rows at places, which increase, out of the table at a place in one pass over its
+    /// rows, and hands them back with their places; their memory is kept. Memory is taken for what
+    /// is handed back alone, and without it the tables stay.
+    pub fn remove_all(&mut self, t: usize, places: &[usize]) -> Result<Vec<PlacedRow>, NoMemory>
+        requires there { t < length self.old.tables }
+        requires places { Climb 0 places.now (length (table_at self.old.tables t).rows) }
+        ensures taken { IfOk result (λ v. v.items ≡ all_placed_at places.now (table_at self.old.tables t).rows) }
+        ensures tables { OnOk result (self.new.tables ≡ with_rows_at t (removed_all places.now (table_at self.old.tables t).rows) self.old.tables) }
+        ensures unchanged { OnErr result (self.new.tables ≡ self.old.tables) }
+        ensures capacities { NoLess self.old.capacities self.new.capacities }
+    {
+        self.entries[t].remove_all(places)
+    }
+
+    /// Takes the rows at places, which increase, out of the table at a place in one pass over its
+    /// rows; their memory is kept. It takes no memory.
+    pub fn drop_all(&mut self, t: usize, places: &[usize])
+        requires there { t < length self.old.tables }
+        requires places { Climb 0 places.now (length (table_at self.old.tables t).rows) }
+        ensures tables { self.new.tables ≡ with_rows_at t (removed_all places.now (table_at self.old.tables t).rows) self.old.tables }
+        ensures capacities { NoLess self.old.capacities self.new.capacities }
+    {
+        self.entries[t].drop_all(places);
     }
 
     /// Takes all rows from a place on out of the table at a place; their memory is kept.

@@ -3,7 +3,7 @@ use Rattle.std.specs.Prelude.{codes}
 use Rattle.syntax_trees.specs.declared.expr.Operation.TheVariants.{Plus, IsNot}
 use Rattle.syntax_trees.specs.declared.expr.TruthTest.TheVariants as test
 use Rattle.name_faults.specs.Faults.{Noted}
-use Rattle.psm_names.specs.declared.statement.BoundStmt.{BoundStmt}
+use Rattle.psm_names.specs.declared.bound.BoundStmt.{BoundStmt}
 use Rattle.sql_names.specs.Examples.{name, call, word}
 use Rattle.psm_names.proofs.Rows.{select-row}
 use Rattle.psm_names.proofs.binds_by_place_and_name.Goals as goal

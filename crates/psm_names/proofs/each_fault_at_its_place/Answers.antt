@@ -1,12 +1,13 @@
-use Rattle.std.proofs.Common.{ap, refl, [], ◌∷◌, None}
+use Rattle.std.proofs.Common.{ap, [], ◌∷◌, None}
 use Rattle.std.specs.Prelude.{codes}
 use Rattle.sql_values.specs.declared.fold.FoldKind.TheVariants.{Sum, Max}
+use Rattle.statement_trees.specs.declared.definition.Constraint.TheVariants.{NotNull, PrimaryKey}
 use Rattle.name_faults.specs.Faults.{Noted, least}
-use Rattle.psm_names.specs.declared.statement.BoundStmt.{BoundStmt}
-use Rattle.sql_names.specs.Examples.{null, number, name, call, aggregate}
+use Rattle.psm_names.specs.declared.bound.BoundStmt.{BoundStmt}
+use Rattle.sql_names.specs.Examples.{at, null, number, name, call, aggregate}
 use Rattle.sql_names.specs.Written.{Subquery}
-use Rattle.psm_names.specs.Examples.{integer, new_parameter, select_of}
-use Rattle.psm_names.proofs.Rows.{select-row, values-row, insert-row, function-row}
+use Rattle.psm_names.specs.Examples.{integer, boolean, varchar, new_column, new_parameter, select_of}
+use Rattle.psm_names.proofs.Rows.{table-row, select-row, values-row, insert-row, function-row}
 use Rattle.psm_names.proofs.each_fault_at_its_place.Goals as goal
 
 pub returns : goal.returns
@@ -27,15 +28,15 @@ returns c = record {
   width_of_the_table = ap (λ (x : Noted BoundStmt). least x.faults) (insert-row (codes "T") ((null 5 ∷ []) ∷ []));
   too_high = ap (λ (x : Noted BoundStmt). least x.faults) (function-row (codes "G") [] (integer 8) (call (codes "F") 17 (null 19 ∷ [])));
   too_high_behind_unknown = ap (λ (x : Noted BoundStmt). least x.faults) (function-row (codes "G") [] (integer 8) (call (codes "H") 17 (call (codes "F") 19 (null 21 ∷ []) ∷ [])));
-  second_column = refl;
-  second_key = refl;
-  key_of_second_column = refl;
-  no_key = refl;
-  taken_before_no_key = refl;
-  length_of_a_column = refl;
+  second_column = ap (λ (x : Noted BoundStmt). least x.faults) (table-row (codes "V") (new_column (codes "A") 4 (integer 5) (PrimaryKey (at 6) ∷ []) ∷ new_column (codes "A") 9 (integer 10) [] ∷ []));
+  second_key = ap (λ (x : Noted BoundStmt). least x.faults) (table-row (codes "V") (new_column (codes "K") 4 (integer 5) (PrimaryKey (at 6) ∷ NotNull ∷ PrimaryKey (at 10) ∷ []) ∷ []));
+  key_of_second_column = ap (λ (x : Noted BoundStmt). least x.faults) (table-row (codes "V") (new_column (codes "K") 4 (integer 5) (PrimaryKey (at 6) ∷ []) ∷ new_column (codes "A") 9 (integer 10) (PrimaryKey (at 11) ∷ []) ∷ []));
+  no_key = ap (λ (x : Noted BoundStmt). least x.faults) (table-row (codes "V") (new_column (codes "A") 4 (integer 5) (NotNull ∷ []) ∷ []));
+  taken_before_no_key = ap (λ (x : Noted BoundStmt). least x.faults) (table-row (codes "T") (new_column (codes "A") 4 (integer 5) [] ∷ []));
+  length_of_a_column = ap (λ (x : Noted BoundStmt). least x.faults) (table-row (codes "V") (new_column (codes "K") 4 (varchar 5 7 4097) (PrimaryKey (at 9) ∷ []) ∷ []));
   aggregate_in_a_result = ap (λ (x : Noted BoundStmt). least x.faults) (function-row (codes "G") [] (integer 8) (aggregate Sum 10 (number 12)));
   aggregate_in_a_row = ap (λ (x : Noted BoundStmt). least x.faults) (insert-row (codes "T") ((null 5 ∷ aggregate Max 7 (number 9) ∷ []) ∷ []));
   unknown_table_in_a_subquery = ap (λ (x : Noted BoundStmt). least x.faults) (function-row (codes "G") [] (integer 8) (Subquery (select_of (codes "U") (null 12 ∷ []) None)));
   parameter_in_a_subquery = ap (λ (x : Noted BoundStmt). x.faults) (function-row (codes "G") (new_parameter (codes "X") 4 (integer 5) ∷ []) (integer 8) (Subquery (select_of (codes "T") (name (codes "X") 12 ∷ []) None)));
-  free = refl;
+  free = ap (λ (x : Noted BoundStmt). x.faults) (table-row (codes "V") (new_column (codes "A") 4 (boolean 5) (NotNull ∷ []) ∷ new_column (codes "K") 8 (varchar 9 11 4096) (PrimaryKey (at 13) ∷ []) ∷ []));
 }

@@ -6,7 +6,7 @@ use Rattle.syntax_trees.specs.declared.expr.ChainOperator.TheVariants.{Or, And, 
 use Rattle.syntax_trees.specs.declared.expr.Operation.TheVariants.{Plus, Minus, Not, Compare, Is, IsNot, In, NotIn, Modulo, CharLength, Substring, Cast, Coalesce, Case, CaseOf}
 use Rattle.syntax_trees.specs.declared.expr.TruthTest.TheVariants as test
 use Rattle.name_faults.specs.Faults.{Noted, least}
-use Rattle.psm_names.specs.declared.statement.BoundStmt.{BoundStmt}
+use Rattle.psm_names.specs.declared.bound.BoundStmt.{BoundStmt}
 use Rattle.sql_names.specs.Examples.{null, number, text, truth, name, call, word, chain}
 use Rattle.psm_names.specs.Examples.{integer, boolean, varchar, new_parameter}
 use Rattle.psm_names.proofs.Rows.{select-row, values-row, insert-row, function-row}

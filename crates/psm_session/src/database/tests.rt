@@ -5,9 +5,9 @@ ghost use Rattle.std.specs.Prelude.{◌≡◌};
 
 use crate::{Answer, Database, Prepared, run_next};
 use psm_names::{BoundStmt, bind_statement};
+use psm_parse::parse_statement;
 use row_types::Steps;
 use sql_lex::tokens;
-use sql_parse::parse_statement;
 use sql_values::NoMemory;
 use std::alloc::Global;
 use std::marker::Brand;

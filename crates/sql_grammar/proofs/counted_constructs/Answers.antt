@@ -1,5 +1,5 @@
 use Rattle.sql_grammar.proofs.counted_constructs.Goals as goal
-use Rattle.sql_grammar.proofs.Laws.{count_open}
+use Rattle.sql_grammar.proofs.Laws.{count_open, count_open_but_after_end}
 use Rattle.sql_grammar.specs.Queries.{query}
 use Rattle.sql_grammar.specs.Writing.{dml}
 use Rattle.sql_grammar.specs.Definitions.{ddl}
@@ -7,7 +7,7 @@ use Rattle.sql_grammar.specs.Sql.{statement}
 use Rattle.sql_grammar.specs.Decides.{statement_sound, statement_stands, query_sound, query_stands, dml_sound, dml_stands, ddl_sound, ddl_stands}
 
 pub returns-clause-statement : goal.returns-clause-statement
-returns-clause-statement c = count_open statement statement_sound statement_stands
+returns-clause-statement c = count_open_but_after_end statement statement_sound statement_stands
 
 pub returns-clause-query : goal.returns-clause-query
 returns-clause-query c = count_open query query_sound query_stands

@@ -23,12 +23,15 @@ pub returns-in-Ok : goal.returns-in-Ok
 returns-in-Ok c =
     let w : c.loop-row.stored < length c.args.new.items = (let k = c.in-Some.ensures.cases in let h = c.loop-row.invariant.left in omega arith) in
     let here = c.in-Some.ensures.items in
-    let next = step_in c.args.new.items c.pop_front.new.self.items c.loop-row.stored c.in-Some.row (sym here ∙ c.loop-row.invariant.rest) w in (
-      c.loop-row.invariant.going,
-      stands_there c.args.tables.now c.args.table c.args.new.items c.args.edits.now.items c.loop-row.tables c.loop-row.stored c.loop-row.edits.items c.in-Some.row c.in-Ok.field-0 c.requires.there c.loop-row.invariant.going
+    let next = step_in c.args.new.items c.pop_front.new.self.items c.loop-row.stored c.in-Some.row (sym here ∙ c.loop-row.invariant.rest) w in
+    record {
+      stored = c.loop-row.stored;
+      going = c.loop-row.invariant.going;
+      place = omega arith;
+      judged = stands_there c.args.tables.now c.args.table c.args.new.items c.args.edits.now.items c.loop-row.tables c.loop-row.stored c.loop-row.edits.items c.in-Some.row c.in-Ok.field-0 c.requires.there c.loop-row.invariant.going
           (subst (λ (k : Kept). Ok c.in-Ok.field-0 ≡ searched (λ r. by_key k.table.key r c.in-Some.row) k.table.rows) c.table_at.ensures c.in-Ok.ensures.place)
-          (ap (λ (xs : List Row). c.in-Some.row ∷ xs) (sym next) ∙ sym here ∙ c.loop-row.invariant.rest),
-    )
+          (ap (λ (xs : List Row). c.in-Some.row ∷ xs) (sym next) ∙ sym here ∙ c.loop-row.invariant.rest);
+    }
 
 pub insert_at-requires-clause-can : goal.insert_at-requires-clause-can
 insert_at-requires-clause-can c =

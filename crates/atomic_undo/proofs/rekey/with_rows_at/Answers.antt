@@ -1,7 +1,7 @@
 use Rattle.std.proofs.Common.{◌∷◌, ◌++◌, [], List, ℕ, sym, ap, ◌∙◌, subst, arith, length, length-set, set}
 use Rattle.row_types.specs.Rows.{Row}
 use Rattle.atomic_undo.specs.Changes.{set_all, Climb}
-use Rattle.atomic_undo.proofs.Deleting.{Climb-last, Climb-front, Climb-more}
+use Rattle.table_store.proofs.Laws.{Climb-last, Climb-front, Climb-more}
 use Rattle.atomic_undo.proofs.Replacing.{set_all-append, last_both}
 use Rattle.atomic_undo.proofs.rekey.with_rows_at.Goals as goal
 

@@ -1,5 +1,5 @@
 use Rattle.std.proofs.Common.{◌≡◌, take}
-use Rattle.psm_names.specs.Statements.{parameter_kinds}
+use Rattle.psm_names.specs.Functions.{parameter_kinds}
 use Rattle.psm_names.proofs.function.kinds_of.Given as goal
 
 abbrev pub invariant-loop-parameter : goal.invariant-loop-parameter

@@ -1,0 +1,4 @@
+pub mod Places
+pub mod Meeting
+pub mod Changing
+pub mod Laws

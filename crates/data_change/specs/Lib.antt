@@ -1,0 +1,4 @@
+pub mod Writing
+pub mod Met
+pub mod Laws
+pub mod Examples

@@ -1,0 +1,37 @@
+//! Where rows stand in their table.
+
+ghost use Rattle.std.specs.Prelude.{◌≡◌, IfOk};
+ghost use Rattle.data_change.specs.Writing.{found_at, place_in as place_by, places_in as places_by};
+
+use row_types::Row;
+use sql_values::NoMemory;
+use std::alloc::Global;
+use table_store::Table;
+
+// A place where something is, or is to be put.
+fn found(place: Result<usize, usize>) -> usize
+    ensures { result ≡ found_at place }
+{
+    match place {
+        Ok(at) => at,
+        Err(at) => at,
+    }
+}
+
+// The place of the row that has the key of another one.
+fn place_in(table: &Table, row: &Row) -> usize
+    ensures { result ≡ place_by table.now.table row.now }
+{
+    found(table.place_of(row))
+}
+
+/// The places of rows that are met, in turn. They are found by the keys; no row is copied.
+pub fn places_in(alloc: Global, table: &Table, met: &[Row]) -> Result<Vec<usize>, NoMemory>
+    ensures { IfOk result (λ places. places.items ≡ places_by table.now.table met.now) }
+{
+    let mut places = Vec::with_capacity(alloc, met.len())?;
+    for row in met {
+        places.push(place_in(table, row))?;
+    }
+    Ok(places)
+}
