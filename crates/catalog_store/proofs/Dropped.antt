@@ -5,13 +5,13 @@ use Rattle.std.specs.Str.{bytes_eq}
 use Rattle.std.specs.Map.{remove_entry}
 use Rattle.std.proofs.lemmas.List.Elements.{filter-append}
 use Rattle.catalog_store.specs.declared.entry.Object.{Object as HeldObject}
-use Rattle.catalog_store.specs.declared.entry.Object.TheVariants.{Table, Function as FunctionRecord}
-use Rattle.catalog_store.specs.Catalog.{Object, Catalog, object_named}
+use Rattle.catalog_store.specs.declared.entry.Object.TheVariants.{Table, Function as FunctionRecord, Interpreted as InterpretedRecord, Procedure as ProcedureRecord}
+use Rattle.catalog_store.specs.Catalog.{Object, Entry, Catalog, object_named}
 use Rattle.catalog_store.specs.Uses.{Uses, name_used, names_used, uses_in}
 use Rattle.catalog_store.specs.Entries.{object_of, entry_of, with_all, ObjectFits, Stands, AreSound}
 use Rattle.catalog_store.specs.Users.{mentions, is_user, users_of, without}
 use Rattle.catalog_store.proofs.Named.{bytes_self, bytes_swap, other_bytes, named_kept, named_after, named_more, named_less, without_none, without_front, without_last}
-use Rattle.catalog_store.proofs.Sound.{Held, grown, SameUses, same_object, same_fits}
+use Rattle.catalog_store.proofs.Sound.{Held, grown, SameStand, SameUses, same_stand_back, same_object, same_fits}
 use Rattle.catalog_store.proofs.Trees.{Same, same_back}
 use Rattle.catalog_store.proofs.Lasting.{AgreeIn, AllLasting, lasting_more, planned_back}
 use Rattle.catalog_store.specs.Widths.{object_width, width_in}
@@ -20,17 +20,15 @@ use Rattle.catalog_store.specs.Widths.{object_width, width_in}
 abbrev pub held_user : List ℕ → Held → Bool
 held_user name e = is_user name (entry_of [] e.0 e.1)
 
+one_or_none : (b : Bool) (e : Entry) → length (cond b (e ∷ []) []) ≡ cond b 1 0
+one_or_none true e = refl
+one_or_none false e = refl
+
 users_one : (name : List ℕ) (known : Catalog) (e : Held) → length (filter (is_user name) (entry_of known e.0 e.1 ∷ [])) ≡ cond (held_user name e) 1 0
-users_one name known (other, Table row_type) = by (not (bytes_eq other name) && false)
-  where
-    by : (b : Bool) → length (cond b (entry_of known other (Table row_type) ∷ []) []) ≡ cond b 1 0
-    by true = refl
-    by false = refl
-users_one name known (other, FunctionRecord r) = by (not (bytes_eq other name) && list_any (λ used. bytes_eq used name) r.head.uses)
-  where
-    by : (b : Bool) → length (cond b (entry_of known other (FunctionRecord r) ∷ []) []) ≡ cond b 1 0
-    by true = refl
-    by false = refl
+users_one name known (other, Table row_type) = one_or_none (held_user name (other, Table row_type)) (entry_of known other (Table row_type))
+users_one name known (other, FunctionRecord r) = one_or_none (held_user name (other, FunctionRecord r)) (entry_of known other (FunctionRecord r))
+users_one name known (other, InterpretedRecord f) = one_or_none (held_user name (other, InterpretedRecord f)) (entry_of known other (InterpretedRecord f))
+users_one name known (other, ProcedureRecord p) = one_or_none (held_user name (other, ProcedureRecord p)) (entry_of known other (ProcedureRecord p))
 
 length-filter-cons : {A : Type 0} (test : A → Bool) (x : A) (xs : List A) → length (filter test (x ∷ xs)) ≡ cond (test x) 1 0 + length (filter test xs)
 length-filter-cons test x xs = by (test x)
@@ -79,9 +77,22 @@ other_uses name known (u ∷ us) h = by (bytes_eq (name_used u) name) refl h (ot
         let apart : ¬ (name_used u ≡ name) = λ q. let t : bytes_eq (name_used u) name ≡ true = subst (λ (x : List ℕ). bytes_eq (name_used u) x ≡ true) q (bytes_self (name_used u)) in cc in
         (named_less name (name_used u) known apart, k h)
 
+other_names : (name : List ℕ) (known : Catalog) (names : List (List ℕ)) → list_any (λ used. bytes_eq used name) names ≡ false → SameStand known (without name known) names
+other_names name known [] h = tt
+other_names name known (other ∷ names) h = by (bytes_eq other name) refl h (other_names name known names)
+  where
+    by : (b : Bool) → bytes_eq other name ≡ b → (b || list_any (λ used. bytes_eq used name) names) ≡ false →
+        (list_any (λ used. bytes_eq used name) names ≡ false → SameStand known (without name known) names) → SameStand known (without name known) (other ∷ names)
+    by true e h k = cc
+    by false e h k =
+        let apart : ¬ (other ≡ name) = λ q. let t : bytes_eq other name ≡ true = subst (λ (x : List ℕ). bytes_eq other x ≡ true) q (bytes_self other) in cc in
+        (named_less name other known apart, k h)
+
 same_without : (name : List ℕ) (known : Catalog) (o : HeldObject) → ObjectFits known o → mentions name (object_of [] o) ≡ false → SameUses known (without name known) o
 same_without name known (Table row_type) fits h = tt
 same_without name known (FunctionRecord r) fits h = other_uses name known (uses_in r.body) (sym (fits.uses name) ∙ h)
+same_without name known (InterpretedRecord f) fits h = other_names name known f.head.uses h
+same_without name known (ProcedureRecord p) fits h = other_names name known p.head.uses h
 
 -- of an entry of another name that isn't a user
 mentions_not : (name : List ℕ) (e : Held) → bytes_eq e.0 name ≡ false → held_user name e ≡ false → mentions name (object_of [] e.1) ≡ false
@@ -96,6 +107,8 @@ agree_without name known gone other o h =
 same_uses_back : (known more : Catalog) (o : HeldObject) → SameUses known more o → SameUses more known o
 same_uses_back known more (Table row_type) same = tt
 same_uses_back known more (FunctionRecord r) same = same_back known more (uses_in r.body) same
+same_uses_back known more (InterpretedRecord f) same = same_stand_back known more f.head.uses same
+same_uses_back known more (ProcedureRecord p) same = same_stand_back known more p.head.uses same
 
 stands_without : (name : List ℕ) (known : Catalog) (o : HeldObject) → AllLasting (without name known) → object_named name (without name known) ≡ None → SameUses known (without name known) o → Stands known o → Stands (without name known) o
 stands_without name known o all gone same stands =

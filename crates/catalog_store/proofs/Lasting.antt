@@ -7,7 +7,7 @@ use Rattle.rel_algebra.specs.Emit.{emit_body, top}
 use Rattle.rel_algebra.specs.Lasting.{RoutineLasts}
 use Rattle.rel_algebra.proofs.Laws.{lasting_plans}
 use Rattle.catalog_store.specs.declared.entry.Object.{Object as HeldObject}
-use Rattle.catalog_store.specs.declared.entry.Object.TheVariants.{Table, Function as FunctionRecord}
+use Rattle.catalog_store.specs.declared.entry.Object.TheVariants.{Table, Function as FunctionRecord, Interpreted as InterpretedRecord, Procedure as ProcedureRecord}
 use Rattle.catalog_store.specs.declared.entry.RoutineRecord.{RoutineRecord}
 use Rattle.catalog_store.specs.Catalog.{Object, TableObject, Catalog, object_named, routine_named, routine_in}
 use Rattle.catalog_store.specs.Entries.{object_of, entry_of, with_all, ObjectFits, FunctionFits, IsPlanned, AreSound}
@@ -38,6 +38,8 @@ fitting_last known all S R agree height (reads name ∷ us) fit = (agree name (T
 lasting_object : (known : Catalog) → AllLasting known → (o : HeldObject) → ObjectFits known o → (S R : List ℕ → ℕ) → AgreeIn known S R → RoutineLasts (routine_in (Some (object_of known o))) S R
 lasting_object known all (Table row_type) fits S R agree = tt
 lasting_object known all (FunctionRecord r) fits S R agree = lasting_tree known S R r.body (fitting_last known all S R agree r.head.height (uses_in r.body) fits.all)
+lasting_object known all (InterpretedRecord f) fits S R agree = tt
+lasting_object known all (ProcedureRecord p) fits S R agree = tt
 
 pub none_lasting : AllLasting []
 none_lasting S R agree name = tt
@@ -72,11 +74,15 @@ own_plan-same known more r all agree fits same =
 pub same_planned : (known more : Catalog) (o : HeldObject) → AllLasting known → AgreeIn known (width_in more) (width_in known) → ObjectFits known o → SameUses known more o → IsPlanned known o → IsPlanned more o
 same_planned known more (Table row_type) all agree fits same planned = tt
 same_planned known more (FunctionRecord r) all agree fits same planned = subst (HasPlan r.plan) (sym (own_plan-same known more r all agree fits same)) planned
+same_planned known more (InterpretedRecord f) all agree fits same planned = tt
+same_planned known more (ProcedureRecord p) all agree fits same planned = tt
 
 -- the same towards the first
 pub planned_back : (known more : Catalog) (o : HeldObject) → AllLasting known → AgreeIn known (width_in more) (width_in known) → ObjectFits known o → SameUses known more o → IsPlanned more o → IsPlanned known o
 planned_back known more (Table row_type) all agree fits same planned = tt
 planned_back known more (FunctionRecord r) all agree fits same planned = subst (HasPlan r.plan) (own_plan-same known more r all agree fits same) planned
+planned_back known more (InterpretedRecord f) all agree fits same planned = tt
+planned_back known more (ProcedureRecord p) all agree fits same planned = tt
 
 -- tables keep their columns as entries come behind
 agree_in_all : (known : Catalog) (es : List Held) → AgreeIn known (width_in (with_all known es)) (width_in known)

@@ -4,7 +4,7 @@ use Rattle.std.specs.List.{AllByRecursion, IsDistinct}
 use Rattle.std.specs.Str.{bytes_eq}
 use Rattle.rel_algebra.specs.Plain.{planned_routine}
 use Rattle.catalog_store.specs.declared.entry.Object.{Object as HeldObject}
-use Rattle.catalog_store.specs.declared.entry.Object.TheVariants.{Table, Function as FunctionRecord}
+use Rattle.catalog_store.specs.declared.entry.Object.TheVariants.{Table, Function as FunctionRecord, Interpreted as InterpretedRecord, Procedure as ProcedureRecord}
 use Rattle.catalog_store.specs.Catalog.{Object, Entry, Catalog, names_of, object_named, routine_named, routine_in}
 use Rattle.catalog_store.specs.Entries.{object_of, entry_of, with_all, ObjectFits, AreSound}
 use Rattle.catalog_store.specs.Planning.{AllPlanned}
@@ -16,6 +16,8 @@ use Rattle.catalog_store.proofs.Sound.{Held, grown}
 planned_object : (known : Catalog) (o : HeldObject) → ObjectFits known o → planned_routine (routine_in (Some (object_of known o))) ≡ true
 planned_object known (Table row_type) fits = refl
 planned_object known (FunctionRecord r) fits = fits.planned
+planned_object known (InterpretedRecord f) fits = refl
+planned_object known (ProcedureRecord p) fits = refl
 
 planned_more : (known : Catalog) (e : Held) → AllPlanned known → ObjectFits known e.1 → AllPlanned (grown known e)
 planned_more known e all fits name = by (object_named name known) refl

@@ -1,14 +1,14 @@
 -- Entries that are sound stand for the same seen by those before them and by all.
-use Rattle.std.proofs.Common.{◌≡◌, ℕ, ◌+◌, Bool, true, false, cond, List, [], ◌∷◌, ◌++◌, length, length-append, Option, None, Some, refl, sym, ap, ◌∙◌, subst, arith}
+use Rattle.std.proofs.Common.{◌≡◌, ℕ, ◌+◌, Bool, true, false, cond, List, [], ◌∷◌, ◌++◌, length, length-append, Option, None, Some, IsSome, refl, sym, ap, ◌∙◌, subst, arith}
 use Rattle.std.specs.Option.{option_map}
 use Rattle.std.specs.Str.{bytes_eq}
 use Rattle.std.specs.Map.{lookup}
 use Rattle.catalog_store.specs.declared.entry.Object.{Object as HeldObject}
-use Rattle.catalog_store.specs.declared.entry.Object.TheVariants.{Table, Function as FunctionRecord}
+use Rattle.catalog_store.specs.declared.entry.Object.TheVariants.{Table, Function as FunctionRecord, Interpreted as InterpretedRecord, Procedure as ProcedureRecord}
 use Rattle.rel_algebra.specs.Tree.{Expr, Function as FunctionTree}
 use Rattle.rel_algebra.specs.Plain.{planned_expr}
 use Rattle.catalog_store.specs.Catalog.{Object, TableObject, FunctionObject, Catalog, object_named}
-use Rattle.catalog_store.specs.Uses.{calls, reads, Uses, AllFit, uses_in}
+use Rattle.catalog_store.specs.Uses.{calls, reads, Uses, AllFit, uses_in, UsesStand}
 use Rattle.catalog_store.specs.Entries.{object_of, entry_of, with_all, ObjectFits, Stands, AreSound}
 use Rattle.catalog_store.proofs.Named.{bytes_swap, named_kept, named_after, named_more}
 use Rattle.catalog_store.proofs.Trees.{Same, same_tree, fit_in_both}
@@ -39,6 +39,28 @@ pub kept_in_all : (name : List ℕ) (known : Catalog) (es : List Held) (o : Obje
 kept_in_all name known [] o h = h
 kept_in_all name known (e ∷ es) o h = kept_in_all name (grown known e) es o (named_kept name known (entry_of known e.0 e.1 ∷ []) o h)
 
+-- ---- names that stand for the same in two catalogs
+
+abbrev pub SameStand : Catalog → Catalog → List (List ℕ) → Type 0
+SameStand known more [] = Unit {0}
+SameStand known more (name ∷ names) = (object_named name more ≡ object_named name known) × SameStand known more names
+
+pub same_stand_back : (known more : Catalog) (names : List (List ℕ)) → SameStand known more names → SameStand more known names
+same_stand_back known more [] same = tt
+same_stand_back known more (name ∷ names) same = (sym same.0, same_stand_back known more names same.1)
+
+stand_in_both : (known more : Catalog) (names : List (List ℕ)) → SameStand known more names → UsesStand known names → UsesStand more names
+stand_in_both known more [] same stand = tt
+stand_in_both known more (name ∷ names) same stand = (subst IsSome (sym same.0) stand.0, stand_in_both known more names same.1 stand.1)
+
+same_in_more : (known : Catalog) (es : List Held) (names : List (List ℕ)) → UsesStand known names → SameStand known (with_all known es) names
+same_in_more known es [] stand = tt
+same_in_more known es (name ∷ names) stand = (by (object_named name known) refl stand.0, same_in_more known es names stand.1)
+  where
+    by : (o : Option Object) → object_named name known ≡ o → IsSome o → object_named name (with_all known es) ≡ object_named name known
+    by None h some = absurd cc
+    by (Some o) h some = kept_in_all name known es o h ∙ sym h
+
 -- ---- an object that fits stands for the same in the whole
 
 same_uses : (known : Catalog) (es : List Held) (height : ℕ) (us : Uses) → AllFit known height us → Same known (with_all known es) us
@@ -52,12 +74,16 @@ same_uses known es height (reads name ∷ us) fit =
 abbrev pub SameUses : Catalog → Catalog → HeldObject → Type 0
 SameUses known more (Table row_type) = Unit {0}
 SameUses known more (FunctionRecord r) = Same known more (uses_in r.body)
+SameUses known more (InterpretedRecord f) = SameStand known more f.head.uses
+SameUses known more (ProcedureRecord p) = SameStand known more p.head.uses
 
 pub same_object : (known more : Catalog) (o : HeldObject) → SameUses known more o → object_of more o ≡ object_of known o
 same_object known more (Table row_type) s = refl
 same_object known more (FunctionRecord r) s =
-    ap (λ (tree : Expr). FunctionObject (record { parameters = r.head.parameters; returns = r.head.returns; height = r.head.height; uses = r.head.uses; routine = FunctionTree false r.head.parameters r.head.returns tree }))
+    ap (λ (tree : Expr). FunctionObject (record { parameters = r.head.parameters; returns = r.head.returns; access = r.head.access; height = r.head.height; uses = r.head.uses; routine = FunctionTree false r.head.parameters r.head.returns tree }))
     (same_tree known more r.body s)
+same_object known more (InterpretedRecord f) s = refl
+same_object known more (ProcedureRecord p) s = refl
 
 pub same_fits : (known more : Catalog) (o : HeldObject) → SameUses known more o → ObjectFits known o → ObjectFits more o
 same_fits known more (Table row_type) s fits = fits
@@ -66,10 +92,14 @@ same_fits known more (FunctionRecord r) s fits = record {
   uses = fits.uses;
   planned = ap planned_expr (same_tree known more r.body s) ∙ fits.planned;
 }
+same_fits known more (InterpretedRecord f) s fits = stand_in_both known more f.head.uses s fits
+same_fits known more (ProcedureRecord p) s fits = stand_in_both known more p.head.uses s fits
 
 pub same_in_all : (known : Catalog) (es : List Held) (o : HeldObject) → ObjectFits known o → SameUses known (with_all known es) o
 same_in_all known es (Table row_type) fits = tt
 same_in_all known es (FunctionRecord r) fits = same_uses known es r.head.height (uses_in r.body) fits.all
+same_in_all known es (InterpretedRecord f) fits = same_in_more known es f.head.uses fits
+same_in_all known es (ProcedureRecord p) fits = same_in_more known es p.head.uses fits
 
 -- ---- look-up
 

@@ -1,26 +1,55 @@
 -- The catalog: what its names stand for, in the order of their making. ISO/IEC 9075-2, 4.17
--- (schemas).
-use Rattle.std.specs.Prelude.{ℕ, List, [], ◌∷◌, map, false, if◌then◌else◌, Option, Some, None}
+-- (schemas) and 11.60 (routines).
+use Rattle.std.specs.Prelude.{ℕ, Bool, List, [], ◌∷◌, map, false, if◌then◌else◌, Option, Some, None}
 use Rattle.std.specs.Str.{bytes_eq}
 use Rattle.sql_values.specs.declared.value.Value.TheVariants.{Null}
 use Rattle.sql_values.specs.declared.value.SqlType.{SqlType}
 use Rattle.sql_values.specs.declared.value.SqlType.TheVariants.{Integer}
 use Rattle.row_types.specs.declared.RowType.{RowType}
 use Rattle.rel_algebra.specs.Tree.{Literal, Routine, Function as FunctionTree}
+use Rattle.bound_trees.specs.declared.statement.BoundStmt.{BoundStmt}
+use Rattle.catalog_store.specs.declared.entry.DataAccess.{DataAccess}
+use Rattle.catalog_store.specs.declared.entry.ParameterMode.{ParameterMode}
 
--- a function: the types of its parameters, that of its result, its height, the names that it uses,
--- and its tree
+-- a function with a plan: the types of its parameters, that of its result, what it does with SQL
+-- data, its height, the names that it uses, and its tree
 pub record Function : Type 0 where
   pub parameters : List SqlType
   pub returns : SqlType
+  pub access : DataAccess
   pub height : ℕ
   pub uses : List (List ℕ)
   pub routine : Routine
 
--- a table by the type of its rows, or a function
+-- a function without a plan: the same, whether it is NULL where an argument is, whether it calls
+-- itself, and its body in place of its tree
+pub record Interpreted : Type 0 where
+  pub parameters : List SqlType
+  pub returns : SqlType
+  pub access : DataAccess
+  pub height : ℕ
+  pub uses : List (List ℕ)
+  pub null_call : Bool
+  pub self_calling : Bool
+  pub body : BoundStmt
+
+-- a procedure: the modes and the types of its parameters, what it does with SQL data, its height,
+-- the names that it uses, whether it calls itself, and its body
+pub record Procedure : Type 0 where
+  pub modes : List ParameterMode
+  pub parameters : List SqlType
+  pub access : DataAccess
+  pub height : ℕ
+  pub uses : List (List ℕ)
+  pub self_calling : Bool
+  pub body : BoundStmt
+
+-- a table by the type of its rows, a function with or without a plan, or a procedure
 pub data Object : Type 0 where
   TableObject : RowType → Object
   FunctionObject : Function → Object
+  InterpretedObject : Interpreted → Object
+  ProcedureObject : Procedure → Object
 
 pub record Entry : Type 0 where
   pub name : List ℕ
@@ -37,7 +66,7 @@ abbrev pub object_named : List ℕ → Catalog → Option Object
 object_named name [] = None
 object_named name (e ∷ es) = if bytes_eq e.name name then Some e.object else object_named name es
 
--- the tree that a call runs where there is no function
+-- the tree that a call runs where there is no function with a plan
 abbrev pub missing : Routine
 missing = FunctionTree false [] Integer (Literal Null)
 
@@ -45,6 +74,8 @@ abbrev pub routine_in : Option Object → Routine
 routine_in None = missing
 routine_in (Some (TableObject row_type)) = missing
 routine_in (Some (FunctionObject f)) = f.routine
+routine_in (Some (InterpretedObject f)) = missing
+routine_in (Some (ProcedureObject p)) = missing
 
 -- the tree that a call of a name runs
 abbrev pub routine_named : List ℕ → Catalog → Routine

@@ -1,14 +1,16 @@
 -- Which plain catalog the entries in memory stand for, and when they fit. ISO/IEC 9075-2, 4.17
--- (schemas) and 10.4 (routine invocation).
+-- (schemas), 10.4 (routine invocation) and 11.60 (routines).
 use Rattle.std.specs.Prelude.{◌≡◌, ℕ, true, false, List, [], ◌∷◌, ◌++◌, None, Some, IsTrue}
 use Rattle.row_types.specs.Rows.{has_key_columns}
 use Rattle.rel_algebra.specs.Tree.{Function as FunctionTree}
 use Rattle.catalog_store.specs.declared.entry.Object.{Object as HeldObject}
-use Rattle.catalog_store.specs.declared.entry.Object.TheVariants.{Table, Function as FunctionRecord}
+use Rattle.catalog_store.specs.declared.entry.Object.TheVariants.{Table, Function as FunctionRecord, Interpreted as InterpretedRecord, Procedure as ProcedureRecord}
+use Rattle.catalog_store.specs.declared.entry.InterpretedFunction.{InterpretedFunction}
+use Rattle.catalog_store.specs.declared.entry.Procedure.{Procedure as HeldProcedure}
 use Rattle.catalog_store.specs.declared.entry.RoutineRecord.{RoutineRecord}
-use Rattle.catalog_store.specs.Catalog.{Function, Object, TableObject, FunctionObject, Entry, Catalog, object_named}
+use Rattle.catalog_store.specs.Catalog.{Function, Interpreted, Procedure, Object, TableObject, FunctionObject, InterpretedObject, ProcedureObject, Entry, Catalog, object_named}
 use Rattle.rel_algebra.specs.Plain.{planned_expr}
-use Rattle.catalog_store.specs.Uses.{AllFit, uses_in, names_used, SameNames}
+use Rattle.catalog_store.specs.Uses.{AllFit, uses_in, names_used, SameNames, UsesStand}
 use Rattle.catalog_store.specs.Kept.{IsKept}
 use Rattle.catalog_store.specs.View.{tree_of}
 
@@ -18,14 +20,43 @@ function_of known r =
     record {
       parameters = r.head.parameters;
       returns = r.head.returns;
+      access = r.head.access;
       height = r.head.height;
       uses = r.head.uses;
       routine = FunctionTree false r.head.parameters r.head.returns (tree_of known r.body);
     }
 
+abbrev pub interpreted_of : InterpretedFunction → Interpreted
+interpreted_of f =
+    record {
+      parameters = f.head.parameters;
+      returns = f.head.returns;
+      access = f.head.access;
+      height = f.head.height;
+      uses = f.head.uses;
+      null_call = f.null_call;
+      self_calling = f.self_calling;
+      body = f.body;
+    }
+
+abbrev pub procedure_of : HeldProcedure → Procedure
+procedure_of p =
+    record {
+      modes = p.head.modes;
+      parameters = p.head.parameters;
+      access = p.head.access;
+      height = p.head.height;
+      uses = p.head.uses;
+      self_calling = p.self_calling;
+      body = p.body;
+    }
+
+-- a routine without a plan is the same in every catalog
 abbrev pub object_of : Catalog → HeldObject → Object
 object_of known (Table row_type) = TableObject row_type
 object_of known (FunctionRecord r) = FunctionObject (function_of known r)
+object_of known (InterpretedRecord f) = InterpretedObject (interpreted_of f)
+object_of known (ProcedureRecord p) = ProcedureObject (procedure_of p)
 
 abbrev pub entry_of : Catalog → List ℕ → HeldObject → Entry
 entry_of known name object = record { name = name; object = object_of known object }
@@ -45,15 +76,20 @@ pub record FunctionFits (known : Catalog) (r : RoutineRecord) : Type 0 where
   pub uses : SameNames r.head.uses (names_used (uses_in r.body))
   pub planned : planned_expr (tree_of known r.body) ≡ true
 
--- an object fits a catalog; a table does where its key columns are columns of its own
+-- an object fits a catalog: a table does where its key columns are columns of its own, and a routine
+-- without a plan where what it uses is there
 abbrev pub ObjectFits : Catalog → HeldObject → Type 0
 ObjectFits known (Table row_type) = IsTrue (has_key_columns row_type.columns row_type.key)
 ObjectFits known (FunctionRecord r) = FunctionFits known r
+ObjectFits known (InterpretedRecord f) = UsesStand known f.head.uses
+ObjectFits known (ProcedureRecord p) = UsesStand known p.head.uses
 
--- a function has its plan
+-- a function that is planned has its plan
 abbrev pub IsPlanned : Catalog → HeldObject → Type 0
 IsPlanned known (Table row_type) = Unit {0}
 IsPlanned known (FunctionRecord r) = IsKept known r
+IsPlanned known (InterpretedRecord f) = Unit {0}
+IsPlanned known (ProcedureRecord p) = Unit {0}
 
 -- an object as it stands in a catalog
 pub record Stands (known : Catalog) (o : HeldObject) : Type 0 where

@@ -8,16 +8,22 @@ use Rattle.rel_algebra.specs.World.{World, Gives, no_self, no_frame}
 use Rattle.rel_algebra.specs.Meaning.{ev}
 use Rattle.catalog_store.specs.Catalog.{TableObject, FunctionObject, Entry, Catalog, object_named, routine_named, missing}
 use Rattle.catalog_store.specs.Users.{users_of, without}
+use Rattle.catalog_store.specs.Widths.{width_in}
 use Rattle.bound_trees.specs.declared.expr.BoundExpr.{BoundExpr}
 use Rattle.bound_trees.specs.declared.expr.BoundExpr.TheVariants as bound
 use Rattle.bound_trees.specs.declared.query.BoundFromItem.TheVariants as item
 use Rattle.bound_trees.specs.declared.query.BoundGrouping.{BoundGrouping, roll-BoundGrouping}
 use Rattle.bound_trees.specs.declared.query.BoundQuery.TheVariants as query
+use Rattle.bound_trees.specs.declared.query.BoundRow.TheVariants as row
 use Rattle.bound_trees.specs.declared.query.BoundSelect.{BoundSelect, roll-BoundSelect}
 use Rattle.bound_trees.specs.declared.query.BoundSource.TheVariants as source
-use Rattle.catalog_store.specs.declared.entry.Object.TheVariants.{Function as FunctionRecord}
+use Rattle.bound_trees.specs.declared.statement.BoundStmt.TheVariants as statement
+use Rattle.catalog_store.specs.declared.entry.DataAccess.TheVariants.{ContainsSql, ReadsSqlData, ModifiesSqlData}
+use Rattle.catalog_store.specs.declared.entry.InterpretedFunction.{InterpretedFunction}
+use Rattle.catalog_store.specs.declared.entry.Object.TheVariants.{Function as FunctionRecord, Interpreted as InterpretedRecord, Procedure as ProcedureRecord}
+use Rattle.catalog_store.specs.declared.entry.Procedure.{Procedure as HeldProcedure}
 use Rattle.catalog_store.specs.declared.entry.RoutineRecord.{RoutineRecord}
-use Rattle.catalog_store.specs.Entries.{entry_of}
+use Rattle.catalog_store.specs.Entries.{entry_of, ObjectFits}
 use Rattle.catalog_store.specs.Uses.{calls, reads, uses_in, names_used, SameNames}
 use Rattle.catalog_store.specs.View.{after_comma, crossing, matching, matching_or_nulls, from_of, selected, tree_of}
 
@@ -28,7 +34,7 @@ table = record { name = codes "T"; object = TableObject (record { columns = reco
 -- a function without parameters, by its name, its height, what it uses and what it returns
 abbrev pub entry : List ℕ → ℕ → List (List ℕ) → Expr → Entry
 entry name height uses e =
-    record { name = name; object = FunctionObject (record { parameters = []; returns = Integer; height = height; uses = uses; routine = FunctionTree false [] Integer e }) }
+    record { name = name; object = FunctionObject (record { parameters = []; returns = Integer; access = ContainsSql; height = height; uses = uses; routine = FunctionTree false [] Integer e }) }
 
 abbrev pub number : ℕ → Expr
 number n = Literal (Int (pos n))
@@ -104,7 +110,7 @@ abbrev pub how_many_body : BoundExpr
 how_many_body = bound.Single (query.Select count_of_rows)
 
 abbrev pub how_many : RoutineRecord
-how_many = record { head = record { parameters = []; returns = Integer; height = 1; uses = codes "T" ∷ [] }; body = how_many_body; plan = None }
+how_many = record { head = record { parameters = []; returns = Integer; access = ReadsSqlData; height = 1; uses = codes "T" ∷ [] }; body = how_many_body; plan = None }
 
 -- A body that reads a table uses it.
 pub record TablesInBodies : Type 0 where
@@ -116,3 +122,40 @@ pub record TablesInBodies : Type 0 where
   -- the tree that a call of HOW_MANY runs
   pub tree : tree_of known how_many_body
       ≡ Single (Grouped (Table (codes "T")) NoExpr 0 (MoreExprs (Literal (Truth true)) NoExpr) (Count ∷ []) NoExpr (MoreExprs (Column 0 0) NoExpr))
+
+-- FILL (): INSERT INTO T VALUES (1)
+abbrev pub fill : HeldProcedure
+fill =
+    record {
+      head = record { modes = []; parameters = []; access = ModifiesSqlData; height = 1; uses = codes "T" ∷ [] };
+      self_calling = false;
+      body = statement.Insert (record { table = codes "T"; source = query.Values (row.Row (bound.Literal (Int (pos 1)) ∷ []) ∷ []) }) None;
+    }
+
+-- AGAIN (): RETURN AGAIN() + 1
+abbrev pub again : InterpretedFunction
+again =
+    record {
+      head = record { parameters = []; returns = Integer; access = ContainsSql; height = 1; uses = [] };
+      null_call = false;
+      self_calling = true;
+      body = statement.Return (bound.Chain (bound.Call (codes "AGAIN") []) (record { operator = Add; operand = bound.Literal (Int (pos 1)) } ∷ []));
+    }
+
+abbrev pub with_statements : Catalog
+with_statements = known ++ entry_of known (codes "FILL") (ProcedureRecord fill) ∷ entry_of known (codes "AGAIN") (InterpretedRecord again) ∷ []
+
+-- Routines whose bodies are statements.
+pub record RoutinesWithoutPlans : Type 0 where
+  -- FILL writes T
+  pub used : users_of (codes "T") with_statements ≡ 1
+  -- AGAIN calls itself alone
+  pub itself : users_of (codes "AGAIN") with_statements ≡ 0
+  -- FILL fits where T stands before it, and not where it doesn't
+  pub fits : ObjectFits known (ProcedureRecord fill)
+  pub unfit : ¬ ObjectFits (without (codes "T") known) (ProcedureRecord fill)
+  -- a query calls neither
+  pub function : routine_named (codes "AGAIN") with_statements ≡ missing
+  pub procedure : routine_named (codes "FILL") with_statements ≡ missing
+  -- and reads neither
+  pub no_columns : width_in with_statements (codes "AGAIN") ≡ 0

@@ -3,12 +3,14 @@
 use Rattle.std.specs.Prelude.{ℕ, ◌&&◌, Bool, false, not, List, [], ◌∷◌, filter, length, if◌then◌else◌}
 use Rattle.std.specs.List.{list_any}
 use Rattle.std.specs.Str.{bytes_eq}
-use Rattle.catalog_store.specs.Catalog.{Object, TableObject, FunctionObject, Entry, Catalog}
+use Rattle.catalog_store.specs.Catalog.{Object, TableObject, FunctionObject, InterpretedObject, ProcedureObject, Entry, Catalog}
 
 -- whether an object uses a name
 abbrev pub mentions : List ℕ → Object → Bool
 mentions name (TableObject row_type) = false
 mentions name (FunctionObject f) = list_any (λ used. bytes_eq used name) f.uses
+mentions name (InterpretedObject f) = list_any (λ used. bytes_eq used name) f.uses
+mentions name (ProcedureObject p) = list_any (λ used. bytes_eq used name) p.uses
 
 -- an entry of another name that uses it
 abbrev pub is_user : List ℕ → Entry → Bool

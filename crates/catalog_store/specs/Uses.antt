@@ -1,6 +1,6 @@
 -- What a bound tree uses of a catalog, the functions that it calls and the tables that it reads, and
 -- when these fit a catalog. ISO/IEC 9075-2, 7.6 (table reference) and 10.4 (routine invocation).
-use Rattle.std.specs.Prelude.{◌≡◌, ◌<◌, ℕ, List, [], ◌∷◌, ◌++◌, map, length, Option, None, Some}
+use Rattle.std.specs.Prelude.{◌≡◌, ◌<◌, ℕ, List, [], ◌∷◌, ◌++◌, map, length, Option, None, Some, IsSome}
 use Rattle.std.specs.List.{flat_map, list_any}
 use Rattle.std.specs.Str.{bytes_eq}
 use Rattle.row_types.specs.declared.RowType.{RowType}
@@ -133,3 +133,8 @@ Fits known height (reads name) = TableFits known name
 abbrev pub AllFit : Catalog → ℕ → Uses → Type 0
 AllFit known height [] = Unit {0}
 AllFit known height (u ∷ us) = Fits known height u × AllFit known height us
+
+-- each name that a routine without a plan uses stands for something in the catalog
+abbrev pub UsesStand : Catalog → List (List ℕ) → Type 0
+UsesStand known [] = Unit {0}
+UsesStand known (name ∷ names) = IsSome (object_named name known) × UsesStand known names

@@ -17,10 +17,11 @@ use sql_values::Name;
 use std::alloc::{AllocFailed, Global};
 use std::marker::Model;
 
-/// Tables and functions by their names, which differ, in the order of their making. Each call in a
-/// function's body names a function that stands before it, is lower, and has as many parameters as
-/// the call has arguments, and each table in FROM stands before it; and the plan of each function is
-/// kept, which is what the emitter makes of its body.
+/// Tables, functions and procedures by their names, which differ, in the order of their making. Where
+/// a function has a plan, each call in its body names another that has one, stands before it, is
+/// lower, and has as many parameters as the call has arguments, and each table in FROM stands before
+/// it; and its plan is kept, which is what the emitter makes of its body. Of a function without a
+/// plan and of a procedure, each name that the head lists stands for something before it.
 #[derive(Drop)]
 pub struct Catalog {
     objects: IndexMap<Name, Object>,
@@ -49,6 +50,8 @@ fn mentions(object: &Object, name: &Name) -> bool
     match object {
         Object::Table(_) => false,
         Object::Function(record) => record.head.uses.as_slice().contains(name),
+        Object::Interpreted(function) => function.head.uses.as_slice().contains(name),
+        Object::Procedure(procedure) => procedure.head.uses.as_slice().contains(name),
     }
 }
 
@@ -91,7 +94,7 @@ impl Catalog {
         self.objects.get(name)
     }
 
-    /// The function of a name; `None` where the name stands for no function.
+    /// The function with a plan of a name; `None` where the name stands for none.
     pub fn routine(&self, name: &Name) -> Option<&RoutineRecord>
         ensures tree { MatchOption result (routine_named name.now self.now ≡ missing)
             (λ r. routine_named name.now self.now ≡ FunctionTree false r.now.head.parameters r.now.head.returns (tree_of self.now r.now.body)) }
@@ -100,6 +103,8 @@ impl Catalog {
         match self.get(name) {
             Some(Object::Function(record)) => Some(record),
             Some(Object::Table(_)) => None,
+            Some(Object::Interpreted(_)) => None,
+            Some(Object::Procedure(_)) => None,
             None => None,
         }
     }
@@ -118,8 +123,8 @@ impl Catalog {
         Ok(())
     }
 
-    /// Takes out the entry of a name that no other entry uses, so that no function calls it or reads
-    /// it. The others keep their order, and stand for what they stood for.
+    /// Takes out the entry of a name that no other entry uses, so that no routine calls it, reads it or
+    /// writes it. The others keep their order, and stand for what they stood for.
     pub fn drop_entry(&mut self, name: &Name)
         requires there { IsSome (object_named name.now self.old) }
         requires unused { users_of name.now self.old ≡ 0 }

@@ -1,4 +1,4 @@
-//! The catalog: tables and functions by their names, in the order of their making.
+//! The catalog: tables, functions and procedures by their names, in the order of their making.
 #![tactic(auto)]
 
 mod catalog;
@@ -8,8 +8,11 @@ mod names;
 mod tests;
 
 pub use catalog::Catalog;
-pub use entry::{Body, FunctionPlan, Head, Object, RoutineRecord};
+pub use entry::{
+    Body, DataAccess, FunctionPlan, Head, InterpretedFunction, Object, ParameterMode, Procedure,
+    ProcedureHead, RoutineRecord,
+};
 pub use names::{
     adding_leaves_the_others, calls_after_a_drop, dropping_leaves_the_others, grouped_or_not,
-    items_from_the_left, objects_by_name, tables_in_bodies, users_of_names,
+    items_from_the_left, objects_by_name, routines_without_plans, tables_in_bodies, users_of_names,
 };

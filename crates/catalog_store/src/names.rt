@@ -1,6 +1,6 @@
 //! How names keep what they stand for as the catalog changes.
 
-ghost use Rattle.catalog_store.specs.Examples.{ObjectsByName, UsersOfNames, CallsAfterADrop, ItemsFromTheLeft, GroupedOrNot, TablesInBodies};
+ghost use Rattle.catalog_store.specs.Examples.{ObjectsByName, UsersOfNames, CallsAfterADrop, ItemsFromTheLeft, GroupedOrNot, TablesInBodies, RoutinesWithoutPlans};
 ghost use Rattle.catalog_store.specs.Laws.{AddingLeavesOthers, DroppingLeavesOthers};
 
 /// One more entry leaves what every other name stands for, and so the trees that calls run.
@@ -18,7 +18,7 @@ pub fn objects_by_name()
     ensures { ObjectsByName }
 {}
 
-/// The users of a name are the other functions that call it or read it.
+/// The users of a name are the other routines that call it, read it or write it.
 pub fn users_of_names()
     ensures { UsersOfNames }
 {}
@@ -43,4 +43,9 @@ pub fn grouped_or_not()
 /// A function whose body reads a table uses it, as it uses the functions that it calls.
 pub fn tables_in_bodies()
     ensures { TablesInBodies }
+{}
+
+/// A routine whose body is a statement uses what its head lists, and no query calls it.
+pub fn routines_without_plans()
+    ensures { RoutinesWithoutPlans }
 {}

@@ -1,11 +1,14 @@
-//! A table and functions are added, found, counted as users and dropped.
+//! A table and routines are added, found, counted as users and dropped.
 
 ghost use Rattle.std.specs.Prelude.{◌≤◌, IfOk};
 ghost use Rattle.catalog_store.specs.Catalog.{Catalog as PlainCatalog};
 ghost use Rattle.catalog_store.specs.Entries.{ObjectFits, IsPlanned};
 
-use crate::{Body, Catalog, FunctionPlan, Head, Object, RoutineRecord};
-use bound_trees::BoundExpr;
+use crate::{
+    Body, Catalog, DataAccess, FunctionPlan, Head, InterpretedFunction, Object, Procedure,
+    ProcedureHead, RoutineRecord,
+};
+use bound_trees::{BoundExpr, BoundStmt};
 use rel_algebra::Scalar;
 use row_types::{ColumnType, RowType};
 use sql_values::{Name, NoMemory, SqlType, Value};
@@ -21,6 +24,7 @@ fn returning(alloc: Global) -> Object
         head: Head {
             parameters: Items::new(alloc),
             returns: SqlType::Integer,
+            access: DataAccess::ContainsSql,
             height: 1,
             uses: Items::new(alloc),
         },
@@ -29,6 +33,43 @@ fn returning(alloc: Global) -> Object
             nodes: Items::new(alloc),
             scalar: Scalar::Constant(Value::Null),
         }),
+    })
+}
+
+// A function whose body is the statement RETURN NULL.
+fn interpreted(alloc: Global) -> Object
+    ensures fits { (known : PlainCatalog) → ObjectFits known result }
+    ensures planned { (known : PlainCatalog) → IsPlanned known result }
+{
+    Object::Interpreted(InterpretedFunction {
+        head: Head {
+            parameters: Items::new(alloc),
+            returns: SqlType::Integer,
+            access: DataAccess::ContainsSql,
+            height: 1,
+            uses: Items::new(alloc),
+        },
+        null_call: false,
+        self_calling: false,
+        body: BoundStmt::Return(BoundExpr::Literal(Value::Null)),
+    })
+}
+
+// A procedure that does nothing.
+fn procedure(alloc: Global) -> Object
+    ensures fits { (known : PlainCatalog) → ObjectFits known result }
+    ensures planned { (known : PlainCatalog) → IsPlanned known result }
+{
+    Object::Procedure(Procedure {
+        head: ProcedureHead {
+            modes: Items::new(alloc),
+            parameters: Items::new(alloc),
+            access: DataAccess::ContainsSql,
+            height: 1,
+            uses: Items::new(alloc),
+        },
+        self_calling: false,
+        body: BoundStmt::If(Items::new(alloc), Items::new(alloc)),
     })
 }
 
@@ -83,11 +124,13 @@ fn add_function(catalog: &mut Catalog, alloc: Global, letter: u8) -> Option<()>
     add(catalog, called, returning(alloc))
 }
 
-// T is a table; A and B are functions.
+// T is a table; A and B are functions with plans, I is one without, and P is a procedure.
 fn fill(catalog: &mut Catalog, alloc: Global) -> Option<()> {
     add_table(catalog, alloc, b'T')?;
     add_function(catalog, alloc, b'A')?;
-    add_function(catalog, alloc, b'B')
+    add_function(catalog, alloc, b'B')?;
+    add(catalog, name(alloc, b'I')?, interpreted(alloc))?;
+    add(catalog, name(alloc, b'P')?, procedure(alloc))
 }
 
 fn stands(catalog: &Catalog, alloc: Global, letter: u8) -> Option<bool>
@@ -95,6 +138,13 @@ fn stands(catalog: &Catalog, alloc: Global, letter: u8) -> Option<bool>
 {
     let sought = name(alloc, letter)?;
     Some(catalog.get(&sought).is_some())
+}
+
+fn has_plan(catalog: &Catalog, alloc: Global, letter: u8) -> Option<bool>
+    requires { (65 ≤ letter) × (letter ≤ 90) }
+{
+    let sought = name(alloc, letter)?;
+    Some(catalog.routine(&sought).is_some())
 }
 
 fn users(catalog: &Catalog, alloc: Global, letter: u8) -> Option<usize>
@@ -121,12 +171,16 @@ fn entries_come_and_go(rt: HostRuntime) {
     let alloc = rt.alloc();
     let mut catalog = Catalog::new(alloc);
     assert_eq!(rt; fill(&mut catalog, alloc), Some(()));
-    assert_eq!(rt; catalog.len(), 3);
+    assert_eq!(rt; catalog.len(), 5);
     assert_eq!(rt; stands(&catalog, alloc, b'T'), Some(true));
     assert_eq!(rt; stands(&catalog, alloc, b'D'), Some(false));
+    assert_eq!(rt; has_plan(&catalog, alloc, b'A'), Some(true));
+    assert_eq!(rt; has_plan(&catalog, alloc, b'I'), Some(false));
+    assert_eq!(rt; has_plan(&catalog, alloc, b'P'), Some(false));
     assert_eq!(rt; users(&catalog, alloc, b'A'), Some(0));
     assert_eq!(rt; drop_unused(&mut catalog, alloc, b'A'), Some(true));
     assert_eq!(rt; drop_unused(&mut catalog, alloc, b'A'), Some(false));
-    assert_eq!(rt; catalog.len(), 2);
+    assert_eq!(rt; drop_unused(&mut catalog, alloc, b'P'), Some(true));
+    assert_eq!(rt; catalog.len(), 3);
     assert_eq!(rt; stands(&catalog, alloc, b'B'), Some(true));
 }

@@ -10,7 +10,7 @@ use bound_trees::{
     BoundExpr, BoundFromItem, BoundGrouping, BoundLink, BoundOperation, BoundQuery, BoundRow,
     BoundSelect, BoundSource,
 };
-use catalog_store::{Body, Catalog, Head, Object, RoutineRecord};
+use catalog_store::{Body, Catalog, DataAccess, Head, Object, RoutineRecord};
 use expr_interp::World;
 use query_plan::with_plan;
 use row_types::{ColumnType, Row, RowType, SortKey};
@@ -392,6 +392,7 @@ fn function(alloc: Global) -> Option<Object>
     let head = Head {
         parameters,
         returns: SqlType::Integer,
+        access: DataAccess::ContainsSql,
         height: 1,
         uses: Items::new(alloc),
     };

@@ -10,6 +10,9 @@ use Rattle.names_in_sight.specs.declared.sight.Found.{Found}
 use Rattle.names_in_sight.specs.declared.sight.Found.TheVariants.{Column, Guessed, Variable, Barred, Several, Unknown}
 use Rattle.names_in_sight.specs.declared.key.Key.{Key}
 use Rattle.names_in_sight.specs.declared.key.Key.TheVariants.{Own, Guessed as GuessedKey, Other}
+use Rattle.names_in_sight.specs.declared.scope.Scope.{Scope}
+use Rattle.names_in_sight.specs.declared.scope.Variable.{Variable as Held}
+use Rattle.names_in_sight.specs.Scopes.{parameter_scope, loop_scope, condition_named, cursor_named}
 use Rattle.names_in_sight.specs.Sight.{Level, Seen, stands_for, key_of, may_stand, inside_aggregate, inside_values}
 
 abbrev pub ident : List ℕ → Ident
@@ -43,9 +46,20 @@ level base is = record { items = is; base = base; keys = []; grouped = false; ag
 abbrev pub group : List Key → List Item → Level
 group keys is = record { items = is; base = 0; keys = keys; grouped = true; aggregates = true }
 
--- inside these queries, in a function with a parameter X
+abbrev pub held : Kind → Held
+held kind = record { kind = kind; data_type = None }
+
+-- of a routine with a parameter X
+abbrev pub parameters : Scope
+parameters = parameter_scope (codes "X" ∷ []) (held Text ∷ [])
+
+-- inside these queries and these scopes
+abbrev pub in_scopes : List Level → List Scope → Seen
+in_scopes levels scopes = record { levels = levels; scopes = scopes; catalog = []; own = None; writing = false }
+
+-- inside these queries, in a routine with a parameter X
 abbrev pub seen : List Level → Seen
-seen levels = record { levels = levels; variables = record { names = codes "X" ∷ []; kinds = Text ∷ [] }; catalog = [] }
+seen levels = in_scopes levels (parameters ∷ [])
 
 -- T (K, A), and U (A, B) right of it
 abbrev pub t : Item
@@ -126,3 +140,64 @@ pub record GroupsBar : Type 0 where
   pub key : key_of (Column 0 3 Integer) (codes "B") ≡ Own 3
   pub outer_key : key_of (Column 1 3 Integer) (codes "B") ≡ Other
   pub unknown_key : key_of (Guessed 0 1) (codes "Z") ≡ GuessedKey 1 (codes "Z")
+
+-- ---- in scopes
+
+-- a compound statement whose variables begin at slot 3, with a variable X, a condition D of SQLSTATE 45000 and a cursor C
+abbrev pub block : Scope
+block = record {
+  loop_name = None;
+  first = 3;
+  variables = codes "Y" ∷ codes "X" ∷ [];
+  held = held Boolean ∷ held Integer ∷ [];
+  conditions = codes "D" ∷ [];
+  states = codes "45000" ∷ [];
+  first_cursor = 1;
+  cursors = codes "C" ∷ [];
+  columns = record { kinds = Integer ∷ Text ∷ [] } ∷ [];
+}
+
+-- a compound statement outside of it, with a condition X and a cursor C
+abbrev pub outer : Scope
+outer = record {
+  loop_name = None;
+  first = 1;
+  variables = codes "D" ∷ codes "Z" ∷ [];
+  held = held Text ∷ held Text ∷ [];
+  conditions = codes "X" ∷ codes "D" ∷ [];
+  states = codes "45001" ∷ codes "45002" ∷ [];
+  first_cursor = 0;
+  cursors = codes "C" ∷ [];
+  columns = record { kinds = [] } ∷ [];
+}
+
+-- F, a FOR loop with the columns A and B, and another F inside with the column A alone
+abbrev pub loop : Scope
+loop = loop_scope (Some (codes "F")) 5 2 (codes "A" ∷ codes "B" ∷ []) (held Text ∷ held Integer ∷ [])
+
+abbrev pub inner_loop : Scope
+inner_loop = loop_scope (Some (codes "F")) 7 2 (codes "A" ∷ []) (held Boolean ∷ [])
+
+-- what a name stands for in these scopes
+abbrev pub Within : ColumnName → List Scope → Found → Type 0
+Within c scopes found = stands_for c (in_scopes [] scopes) ≡ found
+
+pub record ScopesHide : Type 0 where
+  pub inner_variable : Within (plain (codes "X")) (block ∷ parameters ∷ []) (Variable 4 Integer)
+  pub outer_variable : Within (plain (codes "Z")) (block ∷ outer ∷ []) (Variable 2 Text)
+  pub parameter : Within (plain (codes "X")) (outer ∷ parameters ∷ []) (Variable 0 Text)
+  pub column_before_variable : stands_for (plain (codes "A")) (in_scopes (level 0 (t ∷ []) ∷ []) (loop ∷ [])) ≡ Column 0 1 Text
+  pub variable_in_a_query : stands_for (plain (codes "B")) (in_scopes (level 0 (t ∷ []) ∷ []) (loop ∷ [])) ≡ Variable 6 Integer
+  pub column_of_a_loop : Within (qualified (codes "F") (codes "B")) (block ∷ loop ∷ []) (Variable 6 Integer)
+  pub column_of_a_loop_by_its_name_alone : Within (plain (codes "B")) (block ∷ loop ∷ []) (Variable 6 Integer)
+  pub inner_loop_hides : Within (qualified (codes "F") (codes "B")) (inner_loop ∷ loop ∷ []) Unknown
+  pub inner_loop_first : Within (qualified (codes "F") (codes "A")) (inner_loop ∷ loop ∷ []) (Variable 7 Boolean)
+  pub outer_loop_by_its_name_alone : Within (plain (codes "B")) (inner_loop ∷ loop ∷ []) (Variable 6 Integer)
+  pub no_loop_of_the_name : Within (qualified (codes "G") (codes "A")) (inner_loop ∷ loop ∷ []) Unknown
+  pub item_before_loop : stands_for (qualified (codes "F") (codes "B")) (in_scopes (level 0 (item (codes "F") 0 (column (codes "K") Integer ∷ []) ∷ []) ∷ []) (loop ∷ [])) ≡ Unknown
+  pub condition_behind_a_variable : condition_named (codes "X") (block ∷ outer ∷ []) ≡ Some (codes "45001")
+  pub inner_condition : condition_named (codes "D") (block ∷ outer ∷ []) ≡ Some (codes "45000")
+  pub no_condition : condition_named (codes "Y") (block ∷ outer ∷ []) ≡ None
+  pub inner_cursor : cursor_named (codes "C") (block ∷ outer ∷ []) ≡ Some (1, record { kinds = Integer ∷ Text ∷ [] })
+  pub cursor_of_the_outer : cursor_named (codes "C") (loop ∷ outer ∷ []) ≡ Some (0, record { kinds = [] })
+  pub no_cursor : cursor_named (codes "X") (block ∷ outer ∷ []) ≡ None

@@ -1,4 +1,5 @@
 pub mod Index
 pub mod Columns
+pub mod Scopes
 pub mod Sight
 pub mod Examples

@@ -1,16 +1,17 @@
 -- The names in sight of an expression, and what a name stands for. ISO/IEC 9075-2, 5.4 (names), 6.6 (identifier chain) and 7.6 (table reference).
-use Rattle.std.specs.Prelude.{ℕ, ◌+◌, ◌-◌, ◌==◌, Bool, true, false, ◌&&◌, not, if◌then◌else◌, List, [], ◌∷◌, map, position, get_or, Option, Some, None, is_some}
+use Rattle.std.specs.Prelude.{ℕ, ◌+◌, ◌-◌, ◌==◌, Bool, true, false, ◌&&◌, not, if◌then◌else◌, List, [], ◌∷◌, map, position, Option, Some, None, is_some}
 use Rattle.std.specs.List.{list_any}
 use Rattle.std.specs.Str.{bytes_eq}
 use Rattle.syntax_trees.specs.declared.anchor.ColumnName.{ColumnName}
 use Rattle.syntax_trees.specs.declared.anchor.Ident.{Ident}
 use Rattle.name_kinds.specs.declared.kind.Kind.{Kind}
-use Rattle.name_kinds.specs.declared.kind.Kind.TheVariants.{Null}
 use Rattle.catalog_store.specs.Catalog.{Catalog}
 use Rattle.names_in_sight.specs.declared.item.Item.{Item}
 use Rattle.names_in_sight.specs.declared.output.Hit.{Hit}
 use Rattle.names_in_sight.specs.declared.output.Hit.TheVariants.{Nowhere, Once, Twice}
-use Rattle.names_in_sight.specs.declared.sight.Variables.{Variables}
+use Rattle.names_in_sight.specs.declared.scope.Own.{Own}
+use Rattle.names_in_sight.specs.declared.scope.Scope.{Scope}
+use Rattle.names_in_sight.specs.declared.scope.Variable.{Variable as Held}
 use Rattle.names_in_sight.specs.declared.sight.Found.{Found}
 use Rattle.names_in_sight.specs.declared.sight.Found.TheVariants.{Column, Guessed, Variable, Barred, Several, Unknown}
 use Rattle.names_in_sight.specs.declared.key.Key.{Key}
@@ -18,7 +19,7 @@ use Rattle.names_in_sight.specs.declared.key.Key.TheVariants as key
 use Rattle.names_in_sight.specs.declared.sight.Level.{Level as CodeLevel}
 use Rattle.names_in_sight.specs.declared.sight.Sight.{Sight as CodeSight}
 use Rattle.names_in_sight.specs.Columns.{hits, together, or_else, moved}
-use Rattle.names_in_sight.specs.Index.{place_of}
+use Rattle.names_in_sight.specs.Scopes.{variable_named, loop_variable, scope_by}
 
 -- What a query brings in sight: items of its FROM, and the place in its row at which the first of them begins. In the list and in HAVING of a grouped
 -- query only its grouping columns are, and aggregates may stand, but not in VALUES there.
@@ -29,11 +30,14 @@ pub record Level : Type 0 where
   pub grouped : Bool
   pub aggregates : Bool
 
--- the queries around an expression, the innermost first, the variables and parameters, and the catalog
+-- the queries and the scopes around an expression, the innermost first, the catalog, the routine in whose body it stands, and whether it stands
+-- inside INSERT, UPDATE or DELETE
 pub record Seen : Type 0 where
   pub levels : List Level
-  pub variables : Variables
+  pub scopes : List Scope
   pub catalog : Catalog
+  pub own : Option Own
+  pub writing : Bool
 
 -- ---- in one query
 
@@ -126,25 +130,22 @@ abbrev pub guess : ColumnName → ℕ → List Level → Found → Found
 guess c level [] other = other
 guess c level (l ∷ ls) other = guess_or level c l (unknown_item c.qualifier l.items) (guess c (level + 1) ls other)
 
--- the kind at a place
-abbrev pub kind_at : List Kind → ℕ → Kind
-kind_at kinds place = get_or kinds place Null
+abbrev pub found_variable : Option (ℕ × Held) → Found
+found_variable None = Unknown
+found_variable (Some v) = Variable v.0 v.1.kind
 
-abbrev pub variable_at : List Kind → Option ℕ → Found
-variable_at kinds None = Unknown
-variable_at kinds (Some place) = Variable place (kind_at kinds place)
+-- by its name alone, or behind the name of a FOR loop
+abbrev pub variable_by : Option Ident → List ℕ → List Scope → Option (ℕ × Held)
+variable_by None name ss = variable_named name ss
+variable_by (Some q) name ss = loop_variable q.name name ss
 
-abbrev pub unqualified : Option Ident → Found → Found
-unqualified None found = found
-unqualified (Some q) found = Unknown
+-- a variable, a parameter or a column of a FOR loop
+abbrev pub variable : ColumnName → List Scope → Found
+variable c ss = found_variable (variable_by c.qualifier c.name.name ss)
 
--- a name with another before it is no variable
-abbrev pub variable : ColumnName → Variables → Found
-variable c vs = unqualified c.qualifier (variable_at vs.kinds (place_of c.name.name vs.names))
-
--- a column of a known item, then of any that is not known, then a variable or parameter
+-- a column of a known item, then of any that is not known, then a variable, a parameter or a column of a FOR loop
 abbrev pub stands_for : ColumnName → Seen → Found
-stands_for c seen = outwards c 0 seen.levels (guess c 0 seen.levels (variable c seen.variables))
+stands_for c seen = outwards c 0 seen.levels (guess c 0 seen.levels (variable c seen.scopes))
 
 -- ---- grouping columns and aggregates
 
@@ -166,9 +167,13 @@ abbrev pub ungrouped : List Level → List Level
 ungrouped [] = []
 ungrouped (l ∷ ls) = record { items = l.items; base = l.base; keys = l.keys; grouped = false; aggregates = false } ∷ ls
 
+-- other queries around
+abbrev pub at_levels : List Level → Seen → Seen
+at_levels levels seen = record { levels = levels; scopes = seen.scopes; catalog = seen.catalog; own = seen.own; writing = seen.writing }
+
 -- in the argument of an aggregate each column of its query is in sight, and no aggregate may stand
 abbrev pub inside_aggregate : Seen → Seen
-inside_aggregate seen = record { levels = ungrouped seen.levels; variables = seen.variables; catalog = seen.catalog }
+inside_aggregate seen = at_levels (ungrouped seen.levels) seen
 
 abbrev pub without_aggregates : List Level → List Level
 without_aggregates [] = []
@@ -176,28 +181,33 @@ without_aggregates (l ∷ ls) = record { items = l.items; base = l.base; keys = 
 
 -- in VALUES the same columns are in sight, and no aggregate may stand
 abbrev pub inside_values : Seen → Seen
-inside_values seen = record { levels = without_aggregates seen.levels; variables = seen.variables; catalog = seen.catalog }
+inside_values seen = at_levels (without_aggregates seen.levels) seen
 
 -- ---- sights
 
-abbrev pub no_variables : Variables
-no_variables = record { names = []; kinds = [] }
-
 -- where no name is in sight but those of the catalog
 abbrev pub at_top : Catalog → Seen
-at_top catalog = record { levels = []; variables = no_variables; catalog = catalog }
-
--- in the body of a function with these parameters
-abbrev pub in_function : Variables → Catalog → Seen
-in_function parameters catalog = record { levels = []; variables = parameters; catalog = catalog }
+at_top catalog = record { levels = []; scopes = []; catalog = catalog; own = None; writing = false }
 
 -- in a query
 abbrev pub inside : Level → Seen → Seen
-inside level outside = record { levels = level ∷ outside.levels; variables = outside.variables; catalog = outside.catalog }
+inside level outside = at_levels (level ∷ outside.levels) outside
+
+-- in a compound statement, a FOR loop or the body of a routine
+abbrev pub in_scope : Scope → Seen → Seen
+in_scope scope seen = record { levels = seen.levels; scopes = scope ∷ seen.scopes; catalog = seen.catalog; own = seen.own; writing = seen.writing }
+
+-- in the body of a routine
+abbrev pub in_routine : Own → Seen → Seen
+in_routine own seen = record { levels = seen.levels; scopes = seen.scopes; catalog = seen.catalog; own = Some own; writing = seen.writing }
+
+-- in INSERT, UPDATE or DELETE
+abbrev pub inside_writing : Seen → Seen
+inside_writing seen = record { levels = seen.levels; scopes = seen.scopes; catalog = seen.catalog; own = seen.own; writing = true }
 
 -- with another catalog
 abbrev pub over_catalog : Catalog → Seen → Seen
-over_catalog catalog seen = record { levels = seen.levels; variables = seen.variables; catalog = catalog }
+over_catalog catalog seen = record { levels = seen.levels; scopes = seen.scopes; catalog = catalog; own = seen.own; writing = seen.writing }
 
 -- ---- what the code's sight shows
 
@@ -205,4 +215,4 @@ abbrev pub level_by : CodeLevel → Level
 level_by l = record { items = l.items.now; base = l.base; keys = l.keys.now; grouped = l.grouped; aggregates = l.aggregates }
 
 abbrev pub seen_by : CodeSight → Seen
-seen_by s = record { levels = map level_by s.levels.now; variables = s.variables.now; catalog = s.catalog.now }
+seen_by s = record { levels = map level_by s.levels.now; scopes = map scope_by s.scopes.now; catalog = s.catalog.now; own = s.own.now; writing = s.writing }

@@ -96,6 +96,14 @@ impl ColumnList {
         self.columns.as_slice()
     }
 
+    /// The columns, without their index.
+    pub fn into_items(self) -> Items<Output>
+        ensures { result ≡ self }
+    {
+        let ColumnList { columns, .. } = self;
+        columns
+    }
+
     /// How many there are.
     pub fn len(&self) -> usize
         ensures { result ≡ length self.now }

@@ -1,14 +1,15 @@
-//! The names in sight: columns in rows, FROM items, the queries around an expression, and what a name
-//! stands for. No tree is walked here.
+//! The names in sight: columns in rows, FROM items, the queries and the scopes around an expression,
+//! and what a name stands for. No tree is walked here.
 #![tactic(auto)]
 
-ghost use Rattle.names_in_sight.specs.Examples.{NamesStandForOne, ItemsHide, GroupsBar};
+ghost use Rattle.names_in_sight.specs.Examples.{NamesStandForOne, ItemsHide, GroupsBar, ScopesHide};
 
 mod column_list;
 mod item;
 mod key;
 mod name_list;
 mod output;
+mod scope;
 mod sight;
 
 pub use column_list::ColumnList;
@@ -16,9 +17,12 @@ pub use item::{Item, any_named};
 pub use key::{Key, column_of, key_of};
 pub use name_list::NameList;
 pub use output::{Hit, Output, copied};
+pub use scope::{
+    Cursor, FoundCursor, Own, Scope, ScopeRef, Variable, condition_named, cursor_named,
+    empty_scope, entered_scope, loop_scope, loop_variable, parameter_scope, variable_named,
+};
 pub use sight::{
-    Found, Level, Sight, Variables, entered, may_stand, no_variables, stands_for, ungrouped,
-    without_aggregates,
+    Found, Level, Sight, entered, may_stand, stands_for, ungrouped, without_aggregates,
 };
 
 /// A name stands for one column at most, by its place in the row of its query.
@@ -35,4 +39,9 @@ pub fn items_hide()
 /// all are.
 pub fn groups_bar()
     ensures { GroupsBar }
+{}
+
+/// Inner scopes hide outer ones, columns hide variables, and a FOR loop hides those of its name.
+pub fn scopes_hide()
+    ensures { ScopesHide }
 {}

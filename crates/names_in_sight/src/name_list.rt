@@ -1,6 +1,6 @@
 //! Names in a row, with an index by which the place of each is found.
 
-ghost use Rattle.std.specs.Prelude.{◌≡◌, [], IfOk, OnOk, is_some, take};
+ghost use Rattle.std.specs.Prelude.{◌≡◌, [], ◌∷◌, ◌++◌, IfOk, OnOk, OnErr, is_some, take};
 ghost use Rattle.names_in_sight.specs.Index.{place_of, with_name, Indexes};
 
 use indexmap::IndexMap;
@@ -29,7 +29,8 @@ impl Model for NameList {
 
 // A name with its place, where it is not there already.
 fn add(index: &mut IndexMap<Name, usize>, name: &Name, place: usize) -> Result<(), NoMemory>
-    ensures { OnOk result (index.new.entries ≡ with_name index.old.entries name.now place) }
+    ensures ok { OnOk result (index.new.entries ≡ with_name index.old.entries name.now place) }
+    ensures err { OnErr result (index.new.entries ≡ index.old.entries) }
 {
     match index.get(name) {
         Some(_) => Ok(()),
@@ -68,6 +69,23 @@ impl NameList {
     {
         let index = index_of(alloc, names.as_slice())?;
         Ok(NameList { names, index })
+    }
+
+    /// One name more, behind the others. Without memory there is none more.
+    pub fn push(&mut self, name: Name) -> Result<(), NoMemory>
+        ensures ok { OnOk result (self.new ≡ self.old ++ name ∷ []) }
+        ensures err { OnErr result (self.new ≡ self.old) }
+    {
+        let place = self.names.len();
+        let copy = name.copied()?;
+        self.names.push(copy)?;
+        match add(&mut self.index, &name, place) {
+            Ok(()) => Ok(()),
+            Err(failed) => {
+                let _last = self.names.pop();
+                Err(failed)
+            }
+        }
     }
 
     /// The place of the first of this name.

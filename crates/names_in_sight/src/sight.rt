@@ -2,25 +2,18 @@
 
 ghost use Rattle.std.specs.Prelude.{◌≡◌, ◌∷◌, IfOk, map};
 ghost use Rattle.names_in_sight.specs.Sight as spec;
+ghost use Rattle.names_in_sight.specs.Scopes.{scope_by};
 ghost use Rattle.names_in_sight.specs.Sight.{seen_by, level_by};
 
 use crate::item::{Item, among, hides, unknown_item};
 use crate::key::{Key, column_of, guess_of};
-use crate::name_list::NameList;
 use crate::output::Hit;
+use crate::scope::{Own, ScopeRef, Variable, loop_variable, variable_named};
 use catalog_store::Catalog;
 use name_kinds::Kind;
 use sql_values::NoMemory;
-use sqlite_items::Items;
 use std::alloc::Global;
 use syntax_trees::ColumnName;
-
-/// Variables or parameters, with the kind of each.
-#[derive(Drop)]
-pub struct Variables {
-    pub names: NameList,
-    pub kinds: Items<Kind>,
-}
 
 /// What a query brings in sight: items of its FROM, and the place in its row at which the first of
 /// them begins. In the list and in HAVING of a grouped query only its grouping columns are in sight,
@@ -36,13 +29,16 @@ pub struct Level<'a> {
     pub aggregates: bool,
 }
 
-/// The queries around an expression, the innermost first, the variables and parameters, and the
-/// catalog.
+/// What is in sight of an expression: the queries and the scopes around it, the innermost first, the
+/// catalog, and the routine in whose body it stands.
 #[derive(Clone, Copy)]
 pub struct Sight<'a> {
     pub levels: &'a [Level<'a>],
-    pub variables: &'a Variables,
+    pub scopes: &'a [ScopeRef<'a>],
     pub catalog: &'a Catalog,
+    pub own: &'a Option<Own>,
+    /// Whether it stands inside INSERT, UPDATE or DELETE.
+    pub writing: bool,
 }
 
 /// What a name stands for.
@@ -53,7 +49,7 @@ pub enum Found {
     Column(usize, usize, Kind),
     /// So many queries outwards, a column of the item of this place, which is not known.
     Guessed(usize, usize),
-    /// The variable or parameter of this place, of this kind.
+    /// The variable, the parameter or the column of a FOR loop of this slot, of this kind.
     Variable(usize, Kind),
     /// A column of a grouped query that is no grouping column.
     Barred,
@@ -74,36 +70,34 @@ fn guess(wanted: &ColumnName, levels: &[Level<'_>], other: Found) -> Found
     other
 }
 
-// The kind at a place.
-fn kind_at(kinds: &[Kind], place: usize) -> Kind
-    ensures { result ≡ spec.kind_at kinds.now place }
+fn found_variable(found: Option<(usize, Variable)>) -> Found
+    ensures { result ≡ spec.found_variable found }
 {
-    match kinds.get(place) {
-        Some(kind) => *kind,
-        None => Kind::Null,
-    }
-}
-
-fn variable_at(kinds: &[Kind], place: Option<usize>) -> Found
-    ensures { result ≡ spec.variable_at kinds.now place }
-{
-    match place {
-        Some(place) => Found::Variable(place, kind_at(kinds, place)),
+    match found {
+        Some((slot, variable)) => Found::Variable(slot, variable.kind),
         None => Found::Unknown,
     }
 }
 
-// A name with another before it is no variable.
-fn variable(wanted: &ColumnName, variables: &Variables) -> Found
-    ensures { result ≡ spec.variable wanted.now variables.now }
+// A variable or a parameter by its name alone, or a column behind the name of its FOR loop.
+fn variable_by(
+    wanted: &ColumnName,
+    scopes: &[ScopeRef<'_>],
+) -> Result<Option<(usize, Variable)>, NoMemory>
+    ensures { IfOk result (λ v. v ≡ spec.variable_by wanted.now.qualifier wanted.now.name.name (map scope_by scopes.now)) }
 {
     match &wanted.qualifier {
-        Some(_) => Found::Unknown,
-        None => {
-            let place = variables.names.place(&wanted.name.name);
-            variable_at(variables.kinds.as_slice(), place)
-        }
+        Some(qualifier) => loop_variable(&qualifier.get().name, &wanted.name.name, scopes),
+        None => variable_named(&wanted.name.name, scopes),
     }
+}
+
+// A variable, a parameter or a column of a FOR loop.
+fn variable(wanted: &ColumnName, scopes: &[ScopeRef<'_>]) -> Result<Found, NoMemory>
+    ensures { IfOk result (λ f. f ≡ spec.variable wanted.now (map scope_by scopes.now)) }
+{
+    let found = variable_by(wanted, scopes)?;
+    Ok(found_variable(found))
 }
 
 // A column of a known item, of the innermost query outwards.
@@ -126,23 +120,14 @@ fn outwards(wanted: &ColumnName, levels: &[Level<'_>], other: Found) -> Result<F
     Ok(other)
 }
 
-/// A column of a known item, then of any that is not known, then a variable or parameter.
+/// A column of a known item, then of any that is not known, then a variable, a parameter or a column
+/// of a FOR loop.
 pub fn stands_for(wanted: &ColumnName, sight: &Sight<'_>) -> Result<Found, NoMemory>
     ensures { IfOk result (λ f. f ≡ spec.stands_for wanted.now (seen_by sight.now)) }
 {
-    let other = variable(wanted, sight.variables);
+    let other = variable(wanted, sight.scopes)?;
     let other = guess(wanted, sight.levels, other);
     outwards(wanted, sight.levels, other)
-}
-
-/// No variable.
-pub fn no_variables(alloc: Global) -> Variables
-    ensures { result ≡ spec.no_variables }
-{
-    Variables {
-        names: NameList::new(alloc),
-        kinds: Items::new(alloc),
-    }
 }
 
 /// The levels inside a query.

@@ -4,6 +4,7 @@ use Rattle.sql_lex.specs.Tokens.{Lexing, IsTokens}
 use Rattle.sql_lex.proofs.Laws as lists
 use Rattle.psm_session.specs.Database.{Plain}
 use Rattle.psm_session.specs.Statement.{Statement}
+use Rattle.psm_session.specs.Statement.{Checked}
 use Rattle.psm_session.proofs.Laws as session
 
 -- bytes have one list of tokens
@@ -23,3 +24,12 @@ one_statement = session.one_statement
 pub some_statement : (t : Lexing) (at : ℕ) (before : Plain) → at < length t.tokens
     → (reply : List ℕ) × (to : ℕ) × (after : Plain) × Statement t at before reply to after × (at < to) × (to ≤ length t.tokens)
 some_statement = session.some_statement
+
+-- and so has the check of a statement
+pub one_checked : (t : Lexing) (at : ℕ) (before : Plain) (r r' : List ℕ) (to to' : ℕ) (after after' : Plain)
+    → Checked t at before r to after → Checked t at before r' to' after' → (r ≡ r') × (to ≡ to') × (after ≡ after')
+one_checked = session.one_checked
+
+pub some_checked : (t : Lexing) (at : ℕ) (before : Plain) → at < length t.tokens
+    → (reply : List ℕ) × (to : ℕ) × (after : Plain) × Checked t at before reply to after × (at < to) × (to ≤ length t.tokens)
+some_checked = session.some_checked

@@ -6,17 +6,18 @@ use Rattle.psm_cli.proofs.RunLemmas.{whole-more}
 use Rattle.psm_cli.specs.Outcome.{CutInReply, FirstFew}
 use Rattle.std.specs.Io.KnownBytes.{Consumes}
 use Rattle.io_edges.specs.Told.{Told, Takes, TakesFlushed, with_bytes, all_flushed, IsWithin}
+use Rattle.io_edges.proofs.Laws.{Takes-nil}
 use Rattle.sql_lex.specs.Tokens.{Lexing, IsTokens}
 use Rattle.psm_session.specs.Database.{Plain}
 use Rattle.psm_cli.specs.Script.{Runs, IsDetermined, AlwaysGoesOn, whole, has_exception, is_exception}
 use Rattle.psm_cli.specs.Session.{Does, Script}
-use Rattle.psm_cli.specs.declared.command.Command.{Command}
-use Rattle.psm_cli.specs.declared.command.Command.TheVariants.{Run}
+use Rattle.psm_words.specs.declared.command.Command.{Command}
+use Rattle.psm_words.specs.declared.command.Command.TheVariants.{Run, Check}
 use Rattle.psm_cli.specs.Reading.{ReadsWhole}
 use Rattle.psm_cli.specs.Whole.{RunsWhole, IsCutShort, IsFirstFew, SaysExceptions, LeavesTheOnlyRun, WritesFront}
 use Rattle.psm_cli.specs.declared.status.Status.{Status}
 use Rattle.psm_cli.specs.declared.status.Status.TheVariants.{Done, DoneWithExceptions, Usage, ReadFault, WriteFault, NoMemory, ScriptTooLong}
-use Rattle.psm_cli.proofs.LowerLaws.{one_lexing, some_lexing, one_statement, some_statement}
+use Rattle.psm_cli.proofs.LowerLaws.{one_lexing, some_lexing, one_statement, some_statement, one_checked, some_checked}
 use Rattle.psm_cli.proofs.Runs.{some_run, runs_same, runs_front}
 
 -- what a command does is determined
@@ -25,11 +26,18 @@ Does-determined Run t = record {
   one = λ at before r r' to to' after after' p q. one_statement t at before r r' to to' after after' p.1 q.1;
   ends = λ before r to after p. absurd (omega (arith, p.0));
 }
+Does-determined Check t = record {
+  one = λ at before r r' to to' after after' p q. one_checked t at before r r' to to' after after' p.1 q.1;
+  ends = λ before r to after p. absurd (omega (arith, p.0));
+}
 
 -- and there is always something that it does, up to the end
 Does-goes_on : (command : Command) (t : Lexing) → AlwaysGoesOn (Does command t) (length t.tokens)
 Does-goes_on Run t at before there =
     let s = some_statement t at before there in
+    (s.0, s.1, s.2, (there, s.3), s.4, s.5)
+Does-goes_on Check t at before there =
+    let s = some_checked t at before there in
     (s.0, s.1, s.2, (there, s.3), s.4, s.5)
 
 -- Each script has a run.
@@ -121,6 +129,12 @@ module _ (command : Command) (left left' : Option (List ℕ)) (told told' : Opti
       absurd (unflushed told told' t _ _ within tells (rest (inr (inl refl))) all (exceptions_length replies excepts))
   exactly ScriptTooLong done cut few rest = λ script replies last t is ran excepts tells all.
       absurd (unflushed told told' t _ _ within tells (rest (inr (inr refl))) all (exceptions_length replies excepts))
+
+-- where nothing was written, not all was
+pub nothing_written : (command : Command) (left : Option (List ℕ)) (told : Option Told) (before : Plain) (status : Status) → IsWithin told
+    → SaysExceptions command left told told before status
+nothing_written command left told before status within = λ script replies last t is ran excepts tells all.
+    absurd (unflushed told told t _ _ within tells (Takes-nil told) all (exceptions_length replies excepts))
 
 module _ (command : Command) (left left' : Option (List ℕ)) (told told' : Option Told) (before after : Plain) where
   pub only_run : (excepts : Bool) → RunsWhole command left left' told told' before after excepts → LeavesTheOnlyRun command left told told' before after

@@ -7,7 +7,7 @@ use Rattle.io_edges.proofs.Laws.{Takes-nil}
 use Rattle.psm_session.specs.Database.{Plain}
 use Rattle.psm_cli.specs.Reading.{TakesCount}
 use Rattle.psm_cli.specs.Whole.{EndsOn}
-use Rattle.psm_cli.specs.declared.command.Command.{Command}
+use Rattle.psm_words.specs.declared.command.Command.{Command}
 use Rattle.psm_cli.specs.declared.read.TheConstants.{LIMIT}
 use Rattle.psm_cli.specs.declared.status.Status.{Status}
 use Rattle.psm_cli.specs.declared.status.Status.TheVariants.{NoMemory, ScriptTooLong}

@@ -1,23 +1,6 @@
--- Worked rows of the definitions on words, replies and runs.
-use Rattle.std.specs.Prelude.{◌≡◌, ◌+◌, ◌*◌, nat_lt, if◌then◌else◌, ℕ, true, false, Some, None, [], ◌∷◌, codes, refl}
+-- Worked rows of the definitions on replies and runs.
+use Rattle.std.specs.Prelude.{◌≡◌, ◌+◌, ◌*◌, nat_lt, if◌then◌else◌, ℕ, true, false, [], ◌∷◌, codes, refl}
 use Rattle.psm_cli.specs.Script.{Step, Runs, has_exception, whole}
-use Rattle.psm_cli.specs.Command.{command_of}
-use Rattle.psm_cli.specs.declared.command.Command.TheVariants.{Run}
-
-pub two_words : command_of (codes "psm" ∷ codes "run" ∷ []) ≡ Some Run
-two_words = refl
-
-pub any_name : command_of (codes "./a" ∷ codes "run" ∷ []) ≡ Some Run
-any_name = refl
-
-pub name_alone : command_of (codes "psm" ∷ []) ≡ None
-name_alone = refl
-
-pub other_word : command_of (codes "psm" ∷ codes "check" ∷ []) ≡ None
-other_word = refl
-
-pub a_word_more : command_of (codes "psm" ∷ codes "run" ∷ codes "--dump" ∷ []) ≡ None
-a_word_more = refl
 
 pub no_exception : has_exception (codes "00000\n" ∷ codes "2,10\n00000 rows 1\n" ∷ []) ≡ false
 no_exception = refl

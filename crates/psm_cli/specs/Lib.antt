@@ -1,6 +1,5 @@
 pub mod Script
 pub mod Session
-pub mod Command
 pub mod Reading
 pub mod Writing
 pub mod Outcome

@@ -4,13 +4,15 @@ use Rattle.std.specs.Prelude.{ℕ, ◌<◌, List, length}
 use Rattle.sql_lex.specs.Tokens.{Lexing, IsTokens}
 use Rattle.psm_session.specs.Database.{Plain}
 use Rattle.psm_session.specs.Statement.{Statement}
+use Rattle.psm_session.specs.Statement.{Checked}
 use Rattle.psm_cli.specs.Script.{Step, Runs}
-use Rattle.psm_cli.specs.declared.command.Command.{Command}
-use Rattle.psm_cli.specs.declared.command.Command.TheVariants.{Run}
+use Rattle.psm_words.specs.declared.command.Command.{Command}
+use Rattle.psm_words.specs.declared.command.Command.TheVariants.{Run, Check}
 
 -- what a command does with the statement that begins at a token
 abbrev pub Does : Command → Lexing → Step Plain
 Does Run lexing at before reply to after = (at < length lexing.tokens) × Statement lexing at before reply to after
+Does Check lexing at before reply to after = (at < length lexing.tokens) × Checked lexing at before reply to after
 
 -- to the command the bytes are a script with these replies, and it leaves this database
 pub record Script (command : Command) (bytes : List ℕ) (before : Plain) (replies : List (List ℕ)) (after : Plain) : Type 0 where

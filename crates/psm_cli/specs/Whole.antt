@@ -8,7 +8,7 @@ use Rattle.sql_lex.specs.Tokens.{Lexing, IsTokens}
 use Rattle.psm_session.specs.Database.{Plain}
 use Rattle.psm_cli.specs.Script.{whole, has_exception}
 use Rattle.psm_cli.specs.Session.{Does, Script}
-use Rattle.psm_cli.specs.declared.command.Command.{Command}
+use Rattle.psm_words.specs.declared.command.Command.{Command}
 use Rattle.psm_cli.specs.Reading.{ReadsWhole, TakesCount}
 use Rattle.psm_cli.specs.Outcome.{Completes, CutInReply, Unflushed, FirstFew, Ends}
 use Rattle.psm_cli.specs.declared.status.Status.{Status}

@@ -53,7 +53,7 @@ fn name_faults(rt: HostRuntime) -> Result<(), Fail> {
             "unknown name at line 2 column 58",
         ),
         (
-            "CREATE FUNCTION g (x INTEGER) RETURNS INTEGER RETURN g(x);",
+            "CREATE FUNCTION g (x INTEGER) RETURNS INTEGER RETURN h(x);",
             "unknown name at line 2 column 54",
         ),
         ("VALUES (1, a);", "unknown name at line 2 column 12"),
@@ -259,11 +259,13 @@ fn greatest_height(rt: HostRuntime) -> Result<(), Fail> {
         )?;
         script.extend_from_slice(line.as_bytes())?;
     }
+    script.extend_from_slice(b"CREATE FUNCTION g (x INTEGER) RETURNS INTEGER RETURN u + f8(x);\n")?;
     let mut replies = Vec::new(alloc);
     for _ in 0..8u32 {
         replies.extend_from_slice(b"00000\n")?;
     }
     replies.extend_from_slice(b"! 42000 too high at line 9 column 17\n")?;
+    replies.extend_from_slice(b"! 42000 too high at line 10 column 17\n")?;
     let end = run(alloc, &script)?;
     assert_eq!(rt; end.out.bytes(), replies.as_slice());
     Ok(())

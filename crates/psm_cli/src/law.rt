@@ -3,7 +3,7 @@
 ghost use Rattle.std.specs.Prelude.{◌≡◌, List, ℕ};
 ghost use Rattle.psm_session.specs.Database.{Plain};
 ghost use Rattle.psm_cli.specs.Session.{Script};
-ghost use Rattle.psm_cli.specs.declared.command.Command.{Command};
+ghost use Rattle.psm_words.specs.declared.command.Command.{Command};
 
 /// To each command each list of bytes is a script with one run, whatever the database before: there
 /// are replies and a database that it leaves, and no others.

@@ -1,16 +1,16 @@
-//! psm runs a script of SQL and SQL/PSM from standard input and writes its replies to standard
-//! output:
+//! psm runs a script of SQL and SQL/PSM from standard input, or checks each of its statements alone,
+//! and writes its replies to standard output:
 //!
 //! ```text
 //! psm run <script
+//! psm check <script
 //! ```
 //!
-//! From here on down: `program` has the answers, `command` the words, `read` and `write` the edges
-//! of a call, `run` the statements one by one, and `law` says that each script has one run. What a
-//! statement means is psm_session's.
+//! From here on down: `program` has the answers, `read` and `write` the edges of a call, `run` the
+//! statements one by one, and `law` says that each script has one run. Which words are a command is
+//! psm_words', and what a statement means is psm_session's.
 #![tactic(auto)]
 
-mod command;
 #[cfg(test)]
 mod fault_tests;
 #[cfg(test)]
@@ -22,6 +22,8 @@ mod query_tests;
 mod read;
 #[cfg(test)]
 mod reading_tests;
+#[cfg(test)]
+mod routine_tests;
 mod run;
 mod status;
 #[cfg(test)]
@@ -34,7 +36,6 @@ mod write;
 #[cfg(test)]
 mod writing_tests;
 
-pub use command::Command;
 use io_edges::{StdSink, StdSource};
 pub use law::each_script_has_one_run;
 pub use program::run_program;

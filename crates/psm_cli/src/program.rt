@@ -2,18 +2,18 @@
 //! clauses of `run_program`; what a script means to a command stands in specs/Session.antt.
 ghost use Rattle.std.specs.Prelude.{◌≡◌, ◌⊎◌, ◌≤◌, ◌+◌, ◌++◌, ℕ, List, length, map, Some, None, true, false};
 ghost use Rattle.io_edges.specs.Causes.{Rose};
-ghost use Rattle.psm_cli.specs.Command.{command_of};
+ghost use Rattle.psm_words.specs.Words.{command_of};
 ghost use Rattle.psm_cli.specs.Reading.{TakesCount};
 ghost use Rattle.psm_cli.specs.Whole.{RunsWhole, IsCutShort, IsFirstFew, SaysExceptions, LeavesTheOnlyRun, WritesFront, ReadsCount, Tells, line_of};
-ghost use Rattle.psm_cli.specs.declared.command.Command.{Command};
+ghost use Rattle.psm_words.specs.declared.command.Command.{Command};
 
-use crate::command::Command;
 use crate::read::{LIMIT, ReadEnd, read_script};
 use crate::run::run_script;
 use crate::status::Status;
 use crate::write::write_whole;
 use io_edges::{Sink, Source};
 use psm_session::Database;
+use psm_words::{Command, read_words};
 use std::alloc::Global;
 
 /// Writes the line of a status. A sink that fails changes nothing else.
@@ -85,10 +85,12 @@ pub fn run_program<'a, S: Source, K: Sink, E: Sink>(
     ensures exactly { (command : Command) → command_of (map (λ w. w.now) words.entry.now) ≡ Some command
         → SaysExceptions command (S.left src.old) (K.told out.old) (K.told out.new) db.old result }
 
-    // 2: exactly where the words are no command, and nothing is touched.
+    // 2: only where the command does not take the words, and nothing is touched. Words that it does
+    // not take give 2, or there was no memory to read them; nothing is touched then either.
     ensures usage { result ≡ Status.Usage → (command_of (map (λ w. w.now) words.entry.now) ≡ None)
         × (src.new ≡ src.old) × (out.new ≡ out.old) × (db.new ≡ db.old) }
-    ensures not_taken { command_of (map (λ w. w.now) words.entry.now) ≡ None → result ≡ Status.Usage }
+    ensures not_taken { command_of (map (λ w. w.now) words.entry.now) ≡ None → ((result ≡ Status.Usage) ⊎ (result ≡ Status.NoMemory))
+        × (src.new ≡ src.old) × (out.new ≡ out.old) × (db.new ≡ db.old) }
 
     // 3: the source failed, and nothing was run or written.
     ensures read_fault { result ≡ Status.ReadFault
@@ -135,9 +137,10 @@ pub fn run_program<'a, S: Source, K: Sink, E: Sink>(
     // A front of the status's line, and all of it where `err` did not fail.
     ensures err { Tells (E.told err.old) (E.told err.new) (E.faults err.old) (E.faults err.new) (line_of result) }
 {
-    let status = match Command::of_words(words) {
-        Some(command) => run_source(alloc, command, src, out, db),
-        None => Status::Usage,
+    let status = match read_words(alloc, words) {
+        Ok(Some(command)) => run_source(alloc, command, src, out, db),
+        Ok(None) => Status::Usage,
+        Err(_) => Status::NoMemory,
     };
     tell(err, status);
     status

@@ -200,6 +200,7 @@ static NESTS: [(&str, &str, &str, &str); 9] = [
 fn nested_statements(rt: HostRuntime) -> Result<(), Fail> {
     let alloc = rt.alloc();
     for (head, opening, core, closing) in &NESTS {
+        let head = format!(in alloc; "CREATE TABLE t (k INTEGER PRIMARY KEY);\n{head}")?;
         let openings = opening.repeat(alloc, 23)?;
         let closings = closing.repeat(alloc, 23)?;
         let front = format!(in alloc; "{head}{openings}")?;
@@ -208,12 +209,14 @@ fn nested_statements(rt: HostRuntime) -> Result<(), Fail> {
         let end = run(alloc, read.as_bytes())?;
         assert_eq!(rt;
             end.out.bytes(),
-            b"! 42000 not permitted at line 1 column 1\n".as_slice(),
+            b"00000\n! 42000 not permitted at line 2 column 1\n".as_slice(),
             "{read}"
         );
         let deeper = format!(in alloc; "{front}{opening}{core}{closing}{back}")?;
         let (line, column) = end_of(front.as_bytes());
-        let fault = format!(in alloc; "! 42000 nesting too deep at line {line} column {column}\n")?;
+        let fault = format!(in alloc;
+            "00000\n! 42000 nesting too deep at line {line} column {column}\n"
+        )?;
         let end = run(alloc, deeper.as_bytes())?;
         assert_eq!(rt; end.out.bytes(), fault.as_bytes(), "{deeper}");
     }
@@ -222,8 +225,8 @@ fn nested_statements(rt: HostRuntime) -> Result<(), Fail> {
 
 // All constructs in one another: 24 are read, and the twenty-fifth is not. FOR opens none after
 // HANDLER, CURSOR or CONDITION and in SUBSTRING, and no word opens one after END.
-const MIXED: &[u8] =
-    b"BEGIN DECLARE d CONDITION FOR SQLSTATE '45000'; DECLARE c CURSOR FOR SELECT k FROM t;
+const MIXED: &[u8] = b"CREATE TABLE t (k INTEGER PRIMARY KEY);
+BEGIN DECLARE d CONDITION FOR SQLSTATE '45000'; DECLARE c CURSOR FOR SELECT k FROM t;
 DECLARE EXIT HANDLER FOR SQLEXCEPTION IF 'b' = SUBSTRING('ab' FROM 2 FOR 1) THEN RESIGNAL; END IF;
 BEGIN END;
 BEGIN IF TRUE THEN CASE WHEN TRUE THEN LOOP WHILE TRUE DO REPEAT FOR r AS SELECT k FROM t DO
@@ -247,8 +250,9 @@ SIGNAL d SET MESSAGE_TEXT = (CASE WHEN TRUE THEN ('a') END)
 ; END;
 ";
 
-const MIXED_REPLIES: &[u8] = b"! 42000 not permitted at line 1 column 1
-! 42000 nesting too deep at line 18 column 50
+const MIXED_REPLIES: &[u8] = b"00000
+! 42000 not permitted at line 2 column 1
+! 42000 nesting too deep at line 19 column 50
 ";
 
 // What is read and not run is refused at its first token after a label, whatever stands in it, and
@@ -287,7 +291,7 @@ const NOT_RUN_REPLIES: &[u8] = b"00000
 ! 42000 not permitted at line 6 column 1
 ! 42000 unknown name at line 7 column 9
 ! 42000 not permitted at line 8 column 1
-! 42000 not permitted at line 9 column 1
+! 42000 unknown name at line 9 column 6
 ! 42000 unknown name at line 10 column 16
 ! 42000 not permitted at line 11 column 1
 ! 42000 not permitted at line 12 column 1
@@ -319,7 +323,11 @@ const UNFINISHED_REPLIES: &[u8] = b"00000
 #[test]
 fn scripts_that_are_read(rt: HostRuntime) -> Result<(), Fail> {
     let alloc = rt.alloc();
-    let rows: [(&[u8], &[u8]); 2] = [(NOT_RUN, NOT_RUN_REPLIES), (UNFINISHED, UNFINISHED_REPLIES)];
+    let rows: [(&[u8], &[u8]); 3] = [
+        (NOT_RUN, NOT_RUN_REPLIES),
+        (UNFINISHED, UNFINISHED_REPLIES),
+        (MIXED, MIXED_REPLIES),
+    ];
     for (script, replies) in rows {
         let end = run(alloc, script)?;
         assert_eq!(rt; end.out.bytes(), replies);

@@ -7,11 +7,11 @@ ghost use Rattle.psm_cli.specs.Session.{Does};
 ghost use Rattle.psm_cli.specs.Outcome.{RanTo, Stepped, StepStopped, Stopped, Finishes, Ends};
 ghost use Rattle.psm_cli.specs.Whole.{EndsOn};
 
-use crate::command::Command;
 use crate::status::Status;
 use crate::write::write_whole;
 use io_edges::Sink;
-use psm_session::{Database, Reply, run_next};
+use psm_session::{Database, Reply, check_next, run_next};
+use psm_words::Command;
 use sql_lex::{Tokens, tokens};
 use sql_values::NoMemory;
 use std::alloc::Global;
@@ -51,6 +51,7 @@ fn do_next(
 {
     match command {
         Command::Run => run_next(alloc, list, at, db),
+        Command::Check => check_next(alloc, list, at, db),
     }
 }
 

@@ -1,5 +1,5 @@
 -- The elements of a new table: its key is among its columns, and what is asked of them in turn.
-use Rattle.std.proofs.Common.{◌≡◌, refl, sym, ap, ap₂, ◌∙◌, subst, arith, ℕ, suc, nat_lt, Bool, true, false, List, [], ◌∷◌, ◌++◌, length, Option, Some, None}
+use Rattle.std.proofs.Common.{◌≡◌, refl, sym, ap, ap₂, ◌∙◌, subst, arith, ℕ, suc, ◌+◌, ◌<◌, nat_lt, Bool, true, false, List, [], ◌∷◌, ◌++◌, length, drop, get_or, Option, Some, None}
 use Rattle.std.specs.Prelude.{if◌then◌else◌, ◌&&◌}
 use Rattle.std.specs.List.{list_all, flat_map}
 use Rattle.std.specs.Str.{bytes_eq}
@@ -16,7 +16,8 @@ use Rattle.name_faults.specs.declared.fault.Fault.{Fault}
 use Rattle.name_faults.specs.Faults.{noted}
 use Rattle.name_faults.proofs.Laws.{noted_append}
 use Rattle.names_in_sight.specs.Index.{place_of, one_further}
-use Rattle.psm_names.specs.Names.{names_of, repeated, at_place, place_in, places_in}
+use Rattle.typed_parts.proofs.Laws.{unrolled}
+use Rattle.change_names.specs.Names.{names_of, repeated, at_place, place_in, places_in}
 use Rattle.psm_names.specs.Tables.{is_key, or_later, key_of, column_idents, column_names, column_types, type_faults_in, key_places, key_faults, key_list_faults, element_faults}
 
 first : (place many : ℕ) → Some 0 ≡ Some place → nat_lt place (suc many) ≡ true
@@ -92,3 +93,11 @@ judged-elements s idents names places n n1 n2 n3 n4 i e p q k r t =
     let three : n3 ≡ noted (noted (noted n own) types) keys = r ∙ ap₂ (λ z places. noted z (key_faults s.name places)) two k in
     t ∙ ap₂ (λ z names. noted z (flat_map (key_list_faults names) s.elements)) three (e ∙ ap names_of i)
     ∙ sym (noted_append n own (types ++ (keys ++ lists)) ∙ noted_append (noted n own) types (keys ++ lists) ∙ noted_append (noted (noted n own) types) keys lists)
+
+-- faults of each in turn
+pub faults-more : {X : Type 0} (f : X → List Fault) (xs : List X) (i : ℕ) (x : X) (n m : Option Fault) → i < length xs → x ≡ get_or xs i x → m ≡ noted n (f x)
+    → noted m (flat_map f (drop (i + 1) xs)) ≡ noted n (flat_map f (drop i xs))
+faults-more f xs i x n m h e p =
+    ap (λ k. noted k (flat_map f (drop (i + 1) xs))) p
+    ∙ sym (noted_append n (f x) (flat_map f (drop (i + 1) xs)))
+    ∙ ap (λ d. noted n (flat_map f d)) (sym (unrolled xs i x h e))

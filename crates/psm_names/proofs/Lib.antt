@@ -1,4 +1,4 @@
-pub mod Repeated
+pub mod Access
 pub mod Elements
 pub mod Meeting
 pub mod Made

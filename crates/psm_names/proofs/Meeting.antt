@@ -11,7 +11,7 @@ use Rattle.bound_trees.specs.declared.query.BoundSelect.{roll-BoundSelect}
 use Rattle.bound_trees.specs.declared.query.BoundSource.TheVariants as source
 use Rattle.rel_algebra.specs.Tree.{Exprs, MoreExprs, Table, Select}
 use Rattle.rel_algebra.specs.Plain.{planned, planned_expr, planned_all}
-use Rattle.catalog_store.specs.Catalog.{Object, TableObject, FunctionObject, Catalog, object_named}
+use Rattle.catalog_store.specs.Catalog.{Object, TableObject, FunctionObject, InterpretedObject, ProcedureObject, Catalog, object_named}
 use Rattle.catalog_store.specs.Planning.{AllPlanned}
 use Rattle.catalog_store.specs.View.{after_comma, from_of, item_of, tree_of, exprs_of, query_of}
 use Rattle.catalog_store.specs.Widths.{object_width}
@@ -23,11 +23,9 @@ use Rattle.names_in_sight.specs.Sight.{Seen, may_stand}
 use Rattle.typed_parts.specs.From.{table_in}
 use Rattle.typed_parts.specs.Turns.{each_noted}
 use Rattle.sql_names.specs.Names.{judge}
-use Rattle.sql_names.proofs.Conjuncts.{alike-conjuncts}
-use Rattle.sql_names.proofs.Laws.{front_nil, back_nil, fitting}
+use Rattle.sql_names.proofs.Laws.{front_nil, back_nil, fitting, conjuncts_planned}
 use Rattle.psm_names.specs.Binds.{MeetsRows}
-use Rattle.psm_names.specs.declared.target.Target.{Target}
-use Rattle.psm_names.specs.Writing.{target_of, target_named, kind_named, columns_from, met_query, judged_where, one_value}
+use Rattle.change_names.specs.Writing.{target_of, target_named, kind_named, columns_from, met_query, judged_where, one_value}
 
 -- ---- what they stand for
 
@@ -50,6 +48,8 @@ widths : (o : Option Object) → length (target_of (table_in o)).kinds ≡ objec
 widths None = refl
 widths (Some (TableObject t)) = length-map t.columns (λ c. kind_of_type c.data_type)
 widths (Some (FunctionObject f)) = refl
+widths (Some (InterpretedObject f)) = refl
+widths (Some (ProcedureObject p)) = refl
 
 -- ---- plans
 
@@ -88,15 +88,16 @@ module _ (known : Catalog) (all : AllPlanned known) (seen : Seen) (is : seen.cat
   where-planned (Some e) p =
       let x = judge e seen in
       let free = front_nil x.faults (misfit Boolean x.value.head) p in
-      (alike-conjuncts known x.value.tree).1 (judged-planned e free)
+      conjuncts_planned known x.value.tree (judged-planned e free)
 
-  pub values-planned : (to : Target) (so : List BoundExpr) (sets : List Assignment) → Planned known so
-      → (each_noted (one_value to seen) so sets).faults ≡ [] → Planned known (each_noted (one_value to seen) so sets).value
-  values-planned to so [] q p = q
-  values-planned to so (a ∷ sets) q p =
+  pub values-planned : (n : List ℕ) (so : List BoundExpr) (sets : List Assignment) → Planned known so
+      → (each_noted (one_value (target_named n known) seen) so sets).faults ≡ [] → Planned known (each_noted (one_value (target_named n known) seen) so sets).value
+  values-planned n so [] q p = q
+  values-planned n so (a ∷ sets) q p =
+      let to = target_named n known in
       let x = judge a.value seen in
       let one = one_value to seen so a in
       let first = front_nil one.faults (each_noted (one_value to seen) one.value sets).faults p in
       let rest = back_nil one.faults (each_noted (one_value to seen) one.value sets).faults p in
       let e = judged-planned a.value (front_nil x.faults (misfit (kind_named to a.target) x.value.head) first) in
-      values-planned to (so ++ x.value.tree ∷ []) sets (planned-both known so (x.value.tree ∷ []) q (ap (λ b. b && true) e)) rest
+      values-planned n (so ++ x.value.tree ∷ []) sets (planned-both known so (x.value.tree ∷ []) q (ap (λ b. b && true) e)) rest

@@ -11,8 +11,8 @@ use Rattle.catalog_store.specs.View.{query_of}
 use Rattle.catalog_store.specs.Widths.{width_in}
 use Rattle.data_change.specs.Met.{Meets}
 pub use Rattle.sql_names.specs.Binds.{Binds, HasPlan}
-use Rattle.psm_names.specs.declared.bound.BoundStmt.{BoundStmt}
-use Rattle.psm_names.specs.declared.bound.BoundStmt.TheVariants as bound
+use Rattle.psm_names.specs.declared.bound.Bound.{Bound}
+use Rattle.psm_names.specs.declared.bound.Bound.TheVariants as bound
 use Rattle.psm_names.specs.Statements.{judged_statement}
 
 -- a query of rows of the table of a name has a plan, and gives each with all of its columns
@@ -21,15 +21,18 @@ MeetsRows catalog name q = HasPlan catalog q × Meets name (width_in catalog nam
 
 -- What is made has a name that stands for nothing, and fits the catalog; what is dropped stands there,
 -- and nothing else uses it. A query has a plan: so have the functions that it calls, and the rows of
--- VALUES are of one length.
-abbrev pub StatementFits : Catalog → BoundStmt → Type 0
+-- VALUES are of one length. Of EXPLAIN, of CALL and of a compound statement nothing is said: they are
+-- bound alone.
+abbrev pub StatementFits : Catalog → Bound → Type 0
 StatementFits catalog (bound.Create name object) = (object_named name catalog ≡ None) × ObjectFits catalog object
 StatementFits catalog (bound.Drop name) = IsSome (object_named name catalog) × (users_of name catalog ≡ 0)
 StatementFits catalog (bound.Insert b listed) = HasPlan catalog b.source
 StatementFits catalog (bound.Update b) = MeetsRows catalog b.table b.rows
 StatementFits catalog (bound.Delete b) = MeetsRows catalog b.table b.rows
 StatementFits catalog (bound.Query q) = HasPlan catalog q
+StatementFits catalog (bound.Explain q) = Unit {0}
+StatementFits catalog (bound.Routine s) = Unit {0}
 
 -- a statement without faults fits a catalog whose functions have plans
 abbrev pub FaultlessFits : Type 0
-FaultlessFits = (s : Stmt) (catalog : Catalog) → AllPlanned catalog → (judged_statement s catalog).faults ≡ [] → StatementFits catalog (judged_statement s catalog).value
+FaultlessFits = (s : Stmt) (catalog : Catalog) → AllPlanned catalog → (judged_statement s catalog).faults ≡ [] → StatementFits catalog (judged_statement s catalog).value.bound

@@ -1,6 +1,6 @@
 -- Worked rows: one for each kind of fault and each rule of its place, and what a statement without
 -- faults is bound to.
-use Rattle.std.specs.Prelude.{ℕ, ◌+◌, pos, ◌≡◌, true, false, List, [], ◌∷◌, ◌++◌, map, Option, None, Some, codes}
+use Rattle.std.specs.Prelude.{ℕ, ◌+◌, pos, ◌≡◌, Bool, true, false, List, [], ◌∷◌, ◌++◌, map, Option, None, Some, codes}
 use Rattle.sql_values.specs.declared.value.SqlType.TheVariants as type
 use Rattle.sql_values.specs.declared.value.Value.TheVariants.{Null, Int}
 use Rattle.sql_values.specs.declared.fold.FoldKind.TheVariants.{Sum, Max}
@@ -51,6 +51,7 @@ use Rattle.bound_trees.specs.declared.query.BoundRow.TheVariants as row
 use Rattle.bound_trees.specs.declared.query.BoundSelect.{roll-BoundSelect}
 use Rattle.bound_trees.specs.declared.query.BoundSource.TheVariants as source
 use Rattle.catalog_store.specs.Catalog.{Catalog, FunctionObject, missing}
+use Rattle.catalog_store.specs.declared.entry.DataAccess.TheVariants.{ReadsSqlData}
 use Rattle.catalog_store.specs.declared.entry.Object.TheVariants as new
 use Rattle.name_faults.specs.declared.fault.Fault.{Fault}
 use Rattle.name_faults.specs.declared.fault.FaultKind.{FaultKind}
@@ -59,9 +60,9 @@ use Rattle.name_faults.specs.Faults.{least}
 use Rattle.name_kinds.specs.Conjuncts.{conjuncts_of}
 use Rattle.sql_names.specs.Examples.{at, fault, called, null, number, text, truth, name, qualified, call, word, chain, equal, aggregate, column, catalog, item, table as table_ref}
 use Rattle.sql_names.specs.Written.{Expr, Subquery, Query, Select, Values, Comma, exprs, froms, expr_of, query_of}
-use Rattle.psm_names.specs.declared.bound.BoundStmt.TheVariants as bound_as
+use Rattle.psm_names.specs.declared.bound.Bound.TheVariants as bound_as
 use Rattle.psm_names.specs.Functions.{Definition}
-use Rattle.psm_names.specs.Statements.{judged_statement}
+use Rattle.psm_names.specs.Statements.{with_runs, judged_statement}
 
 -- ---- statements
 
@@ -189,7 +190,8 @@ pub record EachFaultAtItsPlace : Type 0 where
   pub no_column_in_values : Least (insert (codes "T") ((null 5 ∷ name (codes "A") 7 ∷ []) ∷ [])) UnknownName 7
   pub unknown_function : Least (select (codes "T") (call (codes "G") 1 (null 3 ∷ []) ∷ []) None) UnknownName 1
   pub table_as_function : Least (select (codes "T") (call (codes "T") 1 [] ∷ []) None) UnknownName 1
-  pub self_call : Least (function (codes "G") (new_parameter (codes "X") 4 (integer 5) ∷ []) (integer 8) (call (codes "G") 10 (name (codes "X") 12 ∷ []))) UnknownName 10
+  pub self_call : (judged_statement (function (codes "G") (new_parameter (codes "X") 4 (integer 5) ∷ []) (integer 8) (call (codes "G") 10 (name (codes "X") 12 ∷ []))) catalog).faults ≡ []
+  pub arguments_of_a_self_call : Least (function (codes "G") (new_parameter (codes "X") 4 (integer 5) ∷ []) (integer 8) (call (codes "G") 10 [])) WrongCount 10
   pub taken_name : Least (function (codes "F") [] (integer 8) (null 10)) DuplicateName 2
   pub second_parameter : Least (function (codes "G") (new_parameter (codes "X") 4 (integer 5) ∷ new_parameter (codes "X") 7 (integer 8) ∷ []) (integer 10) (null 12)) DuplicateName 7
   pub arguments : Least (select (codes "T") (call (codes "F") 1 [] ∷ []) None) WrongCount 1
@@ -242,7 +244,7 @@ pub record KeysOfTables : Type 0 where
 
 -- the catalog with a function G that reads T and calls E
 abbrev pub with_user : Catalog
-with_user = catalog ++ record { name = codes "G"; object = FunctionObject (record { parameters = []; returns = type.Integer; height = 2; uses = codes "T" ∷ codes "E" ∷ []; routine = missing }) } ∷ []
+with_user = catalog ++ record { name = codes "G"; object = FunctionObject (record { parameters = []; returns = type.Integer; access = ReadsSqlData; height = 2; uses = codes "T" ∷ codes "E" ∷ []; routine = missing }) } ∷ []
 
 abbrev pub LeastOver : Stmt → Catalog → FaultKind → ℕ → Type 0
 LeastOver s known kind token = least (judged_statement s known).faults ≡ Some (fault kind token)
@@ -257,9 +259,9 @@ pub record DropsOfEntries : Type 0 where
   pub sort_before_use : LeastOver (drop sort.Function (codes "T")) with_user UnknownName 2
   pub unused : All (drop sort.Table (codes "T")) []
   pub user : (judged_statement (drop sort.Function (codes "G")) with_user).faults ≡ []
-  pub dropped : (judged_statement (drop sort.Function (codes "F")) catalog).value ≡ bound_as.Drop (codes "F")
+  pub dropped : (judged_statement (drop sort.Function (codes "F")) catalog).value ≡ with_runs true (bound_as.Drop (codes "F"))
 
--- ---- statements that are not run
+-- ---- statements that are bound alone
 
 -- CREATE FUNCTION G (X INTEGER) RETURNS INTEGER characteristics body
 abbrev pub g_of : List Characteristic → Stmt → Definition
@@ -291,23 +293,26 @@ block label token statements =
 abbrev pub procedure : Stmt → Stmt
 procedure body = stmt.CreateProcedure (roll-CreateProcedure (record { anchor = at 0; name = called (codes "P") 2; parameters = []; characteristics = []; body = body }))
 
--- EXPLAIN SELECT NULL FROM U, a table that is not known
-abbrev pub explained : OrderedQuery
-explained = unordered (select_of (codes "U") (null 2 ∷ []) None)
+-- EXPLAIN SELECT NULL FROM name
+abbrev pub explained : List ℕ → Stmt
+explained n = stmt.Explain (at 0) (unordered (select_of n (null 2 ∷ []) None))
 
-pub record RefusedForms : Type 0 where
-  pub form_that_is_run : All (function (codes "G") (new_parameter (codes "X") 4 (integer 5) ∷ []) (integer 8) (name (codes "X") 10)) []
-  pub body_that_is_a_block : Only (function_g [] (block None 9 (returning (codes "X") ∷ []))) NotPermitted 0
-  pub body_that_is_a_call : Only (function_g [] (stmt.Call (call_of 9))) NotPermitted 0
-  pub with_a_characteristic : Only (function_g (deterministic ∷ []) (returning (codes "X"))) NotPermitted 0
-  pub fault_inside_unseen : Only (function_g (deterministic ∷ []) (returning (codes "B"))) NotPermitted 0
-  pub of_a_procedure : Only (procedure (delete (codes "T") None)) NotPermitted 0
-  pub of_call : Only (stmt.Call (call_of 0)) NotPermitted 0
-  pub at_begin : Only (block (Some (called (codes "L") 0)) 2 (delete (codes "U") None ∷ [])) NotPermitted 2
-  pub at_begin_without_a_label : Only (block None 0 []) NotPermitted 0
-  pub of_explain : Only (stmt.Explain (at 0) explained) NotPermitted 0
-  pub of_return : Only (returning (codes "X")) NotPermitted 10
-  pub nothing_made : (judged_statement (block None 0 []) catalog).value ≡ bound_as.Query (query.Values [])
+-- whether a statement is run
+abbrev pub IsRun : Stmt → Bool → Type 0
+IsRun s runs = (judged_statement s catalog).value.runs ≡ runs
+
+pub record FormsBoundAlone : Type 0 where
+  pub form_that_is_run : IsRun (function (codes "G") (new_parameter (codes "X") 4 (integer 5) ∷ []) (integer 8) (name (codes "X") 10)) true
+  pub self_call : IsRun (function (codes "G") (new_parameter (codes "X") 4 (integer 5) ∷ []) (integer 8) (call (codes "G") 10 (name (codes "X") 12 ∷ []))) false
+  pub body_that_is_a_block : IsRun (function_g [] (block None 9 (returning (codes "X") ∷ []))) false
+  pub with_a_characteristic : IsRun (function_g (deterministic ∷ []) (returning (codes "X"))) false
+  pub of_a_procedure : IsRun (procedure (delete (codes "T") None)) false
+  pub of_call : IsRun (stmt.Call (call_of 0)) false
+  pub of_a_block : IsRun (block (Some (called (codes "L") 0)) 2 (delete (codes "T") None ∷ [])) false
+  pub of_explain : IsRun (explained (codes "T")) false
+  pub explain_without_faults : (judged_statement (explained (codes "T")) catalog).faults ≡ []
+  pub unknown_table_in_explain : Only (explained (codes "U")) UnknownName 90
+  pub unknown_procedure : Only (stmt.Call (call_of 0)) UnknownName 1
 
 -- ---- writing
 
@@ -401,7 +406,7 @@ abbrev pub bound_query : BoundQuery
 bound_query = query.Select (roll-BoundSelect (record { items = bound_items; from = from.Comma (source.Table (codes "T")) ∷ []; conjuncts = []; grouping = None }))
 
 pub record BindsByPlaceAndName : Type 0 where
-  pub whole : (judged_statement selected catalog).value ≡ bound_as.Query bound_query
+  pub whole : (judged_statement selected catalog).value ≡ with_runs true (bound_as.Query bound_query)
 
 -- ---- what is written, met and made
 
@@ -420,18 +425,18 @@ a_is_null = bound.Operation NullTest (bound.Column 0 1 ∷ [])
 pub record BindsWriting : Type 0 where
   -- INSERT INTO T (A, K) VALUES (NULL, 7)
   pub by_the_list : (judged_statement (insert_listed (codes "T") (called (codes "A") 4 ∷ called (codes "K") 6 ∷ []) (null 12 ∷ number 14 ∷ [])) catalog).value
-      ≡ bound_as.Insert (record { table = codes "T"; source = query.Values (row.Row (bound.Literal Null ∷ bound.Literal (Int (pos 7)) ∷ []) ∷ []) }) (Some (1 ∷ 0 ∷ []))
+      ≡ with_runs true (bound_as.Insert (record { table = codes "T"; source = query.Values (row.Row (bound.Literal Null ∷ bound.Literal (Int (pos 7)) ∷ []) ∷ []) }) (Some (1 ∷ 0 ∷ [])))
   pub without_a_list : (judged_statement (insert (codes "T") ((null 5 ∷ null 7 ∷ []) ∷ [])) catalog).value
-      ≡ bound_as.Insert (record { table = codes "T"; source = query.Values (row.Row (bound.Literal Null ∷ bound.Literal Null ∷ []) ∷ []) }) None
+      ≡ with_runs true (bound_as.Insert (record { table = codes "T"; source = query.Values (row.Row (bound.Literal Null ∷ bound.Literal Null ∷ []) ∷ []) }) None)
   -- UPDATE S SET B = NULL, A = A
   pub in_another_order : (judged_statement (update (codes "S") ((called (codes "B") 3, null 5) ∷ (called (codes "A") 7, name (codes "A") 9) ∷ []) None) catalog).value
-      ≡ bound_as.Update (record { table = codes "S"; targets = 1 ∷ 0 ∷ []; rows = met (codes "S") (bound.Literal Null ∷ bound.Column 0 0 ∷ []) [] })
+      ≡ with_runs true (bound_as.Update (record { table = codes "S"; targets = 1 ∷ 0 ∷ []; rows = met (codes "S") (bound.Literal Null ∷ bound.Column 0 0 ∷ []) [] }))
   -- DELETE FROM T WHERE K = 7 AND A IS NULL
   pub by_conjuncts : (judged_statement (delete (codes "T") (Some (chain (equal (name (codes "K") 4) 5 (number 6)) And 7 (word (Is test.Null) 9 (name (codes "A") 8 ∷ []))))) catalog).value
-      ≡ bound_as.Delete (record { table = codes "T"; rows = met (codes "T") [] (conjuncts_of (bound.Operation word_of.And (k_is_seven ∷ a_is_null ∷ []))) })
-  pub without_a_test : (judged_statement (delete (codes "T") None) catalog).value ≡ bound_as.Delete (record { table = codes "T"; rows = met (codes "T") [] [] })
+      ≡ with_runs true (bound_as.Delete (record { table = codes "T"; rows = met (codes "T") [] (conjuncts_of (bound.Operation word_of.And (k_is_seven ∷ a_is_null ∷ []))) }))
+  pub without_a_test : (judged_statement (delete (codes "T") None) catalog).value ≡ with_runs true (bound_as.Delete (record { table = codes "T"; rows = met (codes "T") [] [] }))
   -- the columns of a key in the order in which it lists them
   pub key_of_two_columns : (judged_statement (table_of (codes "V") (a_column 4 ∷ key 7 (k_and_a 10 12) ∷ k_column 15 (NotNull ∷ []) ∷ [])) catalog).value
-      ≡ bound_as.Create (codes "V") (new.Table (record { columns = column (codes "A") type.Integer ∷ record { name = codes "K"; data_type = type.Integer; not_null = true } ∷ []; key = 1 ∷ 0 ∷ [] }))
+      ≡ with_runs true (bound_as.Create (codes "V") (new.Table (record { columns = column (codes "A") type.Integer ∷ record { name = codes "K"; data_type = type.Integer; not_null = true } ∷ []; key = 1 ∷ 0 ∷ [] })))
   pub key_of_a_column : (judged_statement (table_of (codes "V") (a_column 4 ∷ k_column 7 (PrimaryKey (at 9) ∷ []) ∷ [])) catalog).value
-      ≡ bound_as.Create (codes "V") (new.Table (record { columns = column (codes "A") type.Integer ∷ column (codes "K") type.Integer ∷ []; key = 1 ∷ [] }))
+      ≡ with_runs true (bound_as.Create (codes "V") (new.Table (record { columns = column (codes "A") type.Integer ∷ column (codes "K") type.Integer ∷ []; key = 1 ∷ [] })))

@@ -1,7 +1,7 @@
-pub mod Names
 pub mod Tables
+pub mod Characteristics
+pub mod Routines
 pub mod Functions
-pub mod Writing
 pub mod Statements
 pub mod Binds
 pub mod Examples

@@ -19,7 +19,7 @@ use Rattle.name_faults.specs.declared.fault.Fault.{Fault}
 use Rattle.name_faults.specs.declared.fault.FaultKind.TheVariants.{DuplicateName, NotPermitted}
 use Rattle.name_faults.specs.Faults.{Noted, give, ◌>>◌, fault_if}
 use Rattle.name_kinds.specs.Types.{type_of, type_faults}
-use Rattle.psm_names.specs.Names.{names_of, taken_name, repeated, list_faults, place_in, places_in}
+use Rattle.change_names.specs.Names.{names_of, taken_name, repeated, list_faults, place_in, places_in}
 
 -- ---- columns
 

@@ -1,14 +1,13 @@
-//! Statements with their names resolved: a column stands by its place, a table and a function by
-//! their names.
+//! Statements of a script with their names resolved.
 
-use bound_trees::{BoundInsert, BoundQuery};
+use bound_trees::{BoundDelete, BoundInsert, BoundQuery, BoundStmt, BoundUpdate};
 use catalog_store::Object;
 use sql_values::Name;
 use sqlite_items::Items;
 
-/// A statement with its names resolved.
+/// A statement of a script with its names resolved.
 #[derive(Drop)]
-pub enum BoundStmt {
+pub enum Bound {
     /// A new entry of the catalog.
     Create(Name, Object),
     /// An entry that stands, of the sort that is written, and that nothing uses.
@@ -19,22 +18,16 @@ pub enum BoundStmt {
     Delete(BoundDelete),
     /// A query.
     Query(BoundQuery),
+    /// EXPLAIN of a query.
+    Explain(BoundQuery),
+    /// A CALL, or a compound statement.
+    Routine(BoundStmt),
 }
 
-/// An UPDATE (ISO/IEC 9075-2, 14.14): the table's name, the places of the columns that are
-/// assigned, in the order in which they are written, and the query of the rows that are met, each
-/// with all columns of the table and then a value for each of these places.
+/// A statement with its names resolved, and whether it is run: a form that is not run is bound
+/// alone.
 #[derive(Drop)]
-pub struct BoundUpdate {
-    pub table: Name,
-    pub targets: Items<usize>,
-    pub rows: BoundQuery,
-}
-
-/// A DELETE (ISO/IEC 9075-2, 14.9): the table's name, and the query of the rows that are met, each
-/// with all columns of the table.
-#[derive(Drop)]
-pub struct BoundDelete {
-    pub table: Name,
-    pub rows: BoundQuery,
+pub struct BoundStatement {
+    pub bound: Bound,
+    pub runs: bool,
 }

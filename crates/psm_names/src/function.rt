@@ -1,229 +1,526 @@
-//! CREATE FUNCTION.
+//! CREATE FUNCTION and CREATE PROCEDURE.
 
-ghost use Rattle.std.specs.Prelude.{◌≡◌, ◌++◌, [], map, IfOk, OnOk};
-ghost use Rattle.std.specs.List.{flat_map};
+ghost use Rattle.std.specs.Prelude.{◌≡◌, IfOk, OnOk};
 ghost use Rattle.statement_trees.specs.declared.statement.CreateFunction.{out-CreateFunction};
+ghost use Rattle.statement_trees.specs.declared.statement.CreateProcedure.{out-CreateProcedure};
 ghost use Rattle.name_faults.specs.Faults.{noted};
-ghost use Rattle.name_kinds.specs.Types.{type_faults};
-ghost use Rattle.name_kinds.specs.Types.{type_of as written_type};
-ghost use Rattle.sql_names.specs.Names.{judge};
-ghost use Rattle.names_in_sight.specs.Sight.{in_function};
-ghost use Rattle.sql_names.specs.Heights as heights;
-ghost use Rattle.psm_names.specs.Functions.{judged_function, function_with, parameter_kinds};
+ghost use Rattle.statement_names.specs.Places.{place_by};
+ghost use Rattle.routine_names.specs.Statements.{judge_stmt};
 ghost use Rattle.psm_names.specs.Functions as spec;
 
-use crate::names::{copied, indexed, note_repeated, note_taken};
-use bound_trees::BoundExpr;
-use catalog_store::{Body, Catalog, Head, Object, RoutineRecord};
-use name_faults::{Fault, FaultKind, Notes, note_if};
-use name_kinds::{Kind, in_turn, kind_of_type, note_type, type_of};
-use names_in_sight::{Sight, Variables};
-use sql_names::bind_expr;
-use sql_values::{Name, NoMemory, SqlType};
+use crate::characteristics::{
+    access_by, is_null_on_null, need_of, note_access, note_groups, note_null_calls,
+};
+use crate::routine::{
+    calls, greatest_height, height_above, note_height, parameter_types, parameters_of, used_in,
+};
+use bound_trees::{BoundExpr, BoundStmt};
+use catalog_store::{
+    Body, Catalog, DataAccess, Head, InterpretedFunction, Object, ParameterMode, Procedure,
+    ProcedureHead, RoutineRecord,
+};
+use change_names::note_taken;
+use name_faults::{Fault, Notes};
+use name_kinds::{kind_of_type, note_type, type_of};
+use names_in_sight::{Own, Scope, ScopeRef};
+use routine_names::{bind_statement, writes};
+use sql_names::all_run;
+use sql_values::{Name, NoMemory};
 use sqlite_items::Items;
-use statement_trees::{CreateFunction, Parameter};
+use statement_names::{Place, bind_of_kind};
+use statement_trees::{
+    Characteristic, CreateFunction, CreateProcedure, Parameter, ParameterMode as WrittenMode, Stmt,
+};
 use std::alloc::Global;
+use std::mem::drop;
 use syntax_trees::{Expr, Ident};
 
-/// The greatest height that a function may have.
-pub const MOST_HEIGHT: u32 = 8;
-
-/// A function's result with its names resolved, and the functions that it uses.
+/// A function's result with its names resolved, and the names that it uses.
 #[derive(Drop)]
-pub(crate) struct BoundBody {
-    pub(crate) head: name_kinds::Head,
+pub(crate) struct BoundResult {
     pub(crate) tree: BoundExpr,
     pub(crate) uses: Items<Name>,
 }
 
-fn parameter_idents(alloc: Global, parameters: &[Parameter]) -> Result<Items<Ident>, NoMemory>
-    ensures { IfOk result (λ idents. idents ≡ spec.parameter_idents parameters.now) }
-{
-    let mut idents = Items::new(alloc);
-    for parameter in parameters {
-        idents.push(copied(&parameter.name)?)?;
-    }
-    Ok(idents)
+/// A routine's body with its names resolved, and the names that it uses.
+#[derive(Drop)]
+pub(crate) struct BoundBody {
+    pub(crate) stmt: BoundStmt,
+    pub(crate) uses: Items<Name>,
 }
 
-// The written types of the parameters.
-fn note_types(parameters: &[Parameter], least: &mut Option<Fault>)
-    ensures { least.new ≡ noted least.old (flat_map (λ p. type_faults p.data_type) parameters.now) }
-{
-    for parameter in parameters {
-        note_type(parameter.data_type, least);
-    }
-}
+// ---- heads
 
-// The kinds of parameters.
-fn kinds_of(alloc: Global, parameters: &[Parameter]) -> Result<Items<Kind>, NoMemory>
-    ensures { IfOk result (λ ks. ks ≡ parameter_kinds parameters.now) }
-{
-    let mut kinds = Items::new(alloc);
-    for parameter in parameters {
-        kinds.push(kind_of_type(type_of(parameter.data_type)))?;
-    }
-    Ok(kinds)
-}
-
-// The parameters. One of a name that an earlier one has is a fault, and so is a type out of range.
-fn parameters_of(
+fn head_with(
     alloc: Global,
     create: &CreateFunction,
-    least: &mut Option<Fault>,
-) -> Result<Variables, NoMemory>
-    ensures variables { IfOk result (λ l. l ≡ spec.parameters_of (out-CreateFunction create.now).parameters) }
-    ensures faults { OnOk result (least.new ≡ noted least.old (spec.parameter_faults (out-CreateFunction create.now))) }
-{
-    let parameters = create.parameters.as_slice();
-    let idents = parameter_idents(alloc, parameters)?;
-    let names = indexed(alloc, idents.as_slice())?;
-    note_repeated(idents.as_slice(), &names, least);
-    note_types(parameters, least);
-    note_type(create.returns, least);
-    let kinds = kinds_of(alloc, parameters)?;
-    Ok(Variables { names, kinds })
-}
-
-fn parameter_types(alloc: Global, parameters: &[Parameter]) -> Result<Items<SqlType>, NoMemory>
-    ensures { IfOk result (λ ts. ts ≡ map (λ p. written_type p.data_type) parameters.now) }
-{
-    let mut types = Items::new(alloc);
-    for parameter in parameters {
-        types.push(type_of(parameter.data_type))?;
-    }
-    Ok(types)
-}
-
-fn height_of(name: &Name, catalog: &Catalog) -> u32
-    ensures { result ≡ heights.height_named catalog.now name.now }
-{
-    match catalog.get(name) {
-        Some(Object::Function(function)) => function.head.height,
-        Some(Object::Table(_)) => 0,
-        None => 0,
-    }
-}
-
-// The greatest height among functions, 0 where there is none.
-fn greatest_height(catalog: &Catalog, names: &[Name]) -> u32
-    ensures { result ≡ heights.greatest_height catalog.now names.now }
-{
-    let mut height = 0;
-    for name in names {
-        height = height_of(name, catalog).max(height);
-    }
-    height
-}
-
-// Above what it calls, within the limit of heights.
-fn height_above(called: u32) -> u32
-    ensures { result ≡ spec.height_above called }
-{
-    if called < MOST_HEIGHT {
-        called + 1
-    } else {
-        MOST_HEIGHT
-    }
-}
-
-fn function(
-    alloc: Global,
-    create: &CreateFunction,
-    called: u32,
-    body: BoundBody,
-) -> Result<Object, NoMemory>
-    ensures { IfOk result (λ o. o ≡ spec.function_of (out-CreateFunction create.now) called body.uses body.tree) }
+    access: DataAccess,
+    height: u32,
+    uses: Items<Name>,
+) -> Result<Head, NoMemory>
+    ensures { IfOk result (λ h. h ≡ spec.head_with (out-CreateFunction create.now) access height uses) }
 {
     let parameters = parameter_types(alloc, create.parameters.as_slice())?;
-    let head = Head {
+    Ok(Head {
         parameters,
         returns: type_of(create.returns),
-        height: height_above(called),
-        uses: body.uses,
-    };
-    Ok(Object::Function(RoutineRecord {
-        head,
-        body: Body::shown(body.tree),
-        plan: None,
-    }))
-}
-
-// The result, in which the parameters and the catalog's functions are in sight.
-fn bind_body(
-    alloc: Global,
-    returned: &Expr,
-    parameters: &Variables,
-    catalog: &Catalog,
-    least: &mut Option<Fault>,
-) -> Result<BoundBody, NoMemory>
-    ensures head { IfOk result (λ b. b.head ≡ (judge returned.now (in_function parameters.now catalog.now)).value.head) }
-    ensures tree { IfOk result (λ b. b.tree ≡ (judge returned.now (in_function parameters.now catalog.now)).value.tree) }
-    ensures uses { IfOk result (λ b. b.uses ≡ (judge returned.now (in_function parameters.now catalog.now)).uses) }
-    ensures faults { OnOk result (least.new ≡ noted least.old (judge returned.now (in_function parameters.now catalog.now)).faults) }
-{
-    let sight = Sight {
-        levels: &[],
-        variables: parameters,
-        catalog,
-    };
-    let mut notes = Notes::behind(alloc, *least);
-    let bound = bind_expr(alloc, returned, &sight, &mut notes)?;
-    *least = notes.least;
-    Ok(BoundBody {
-        head: bound.head,
-        tree: bound.tree,
-        uses: notes.uses,
+        access,
+        height,
+        uses,
     })
 }
 
-// The result is of the kind of the type that is returned, and the height is within the limit.
-fn note_result(
-    create: &CreateFunction,
-    head: name_kinds::Head,
-    called: u32,
-    least: &mut Option<Fault>,
-)
-    ensures { least.new ≡ noted least.old (spec.result_faults (out-CreateFunction create.now) head ++ spec.too_high (out-CreateFunction create.now).name called) }
+fn mode_of(mode: WrittenMode) -> ParameterMode
+    ensures { result ≡ spec.mode_of mode }
 {
-    let kinds = [kind_of_type(type_of(create.returns))];
-    in_turn(&kinds, &[head], least);
-    let too_high = called >= MOST_HEIGHT;
-    note_if(too_high, FaultKind::TooHigh, create.name.anchor, least);
+    match mode {
+        WrittenMode::In => ParameterMode::In,
+        WrittenMode::Out => ParameterMode::Out,
+        WrittenMode::Inout => ParameterMode::Inout,
+    }
 }
 
-// The function of its result, with the faults of the result and of its height noted.
+fn modes_of(alloc: Global, parameters: &[Parameter]) -> Result<Items<ParameterMode>, NoMemory>
+    ensures { IfOk result (λ ms. ms ≡ spec.modes_of parameters.now) }
+{
+    let mut modes = Items::new(alloc);
+    for parameter in parameters {
+        modes.push(mode_of(parameter.mode))?;
+    }
+    Ok(modes)
+}
+
+fn procedure_head(
+    alloc: Global,
+    parameters: &[Parameter],
+    access: DataAccess,
+    height: u32,
+    uses: Items<Name>,
+) -> Result<ProcedureHead, NoMemory>
+    ensures { IfOk result (λ h. h ≡ spec.procedure_head parameters.now access height uses) }
+{
+    let modes = modes_of(alloc, parameters)?;
+    let parameters = parameter_types(alloc, parameters)?;
+    Ok(ProcedureHead {
+        modes,
+        parameters,
+        access,
+        height,
+        uses,
+    })
+}
+
+// ---- what a body sees
+
+fn own_function(alloc: Global, create: &CreateFunction) -> Result<Own, NoMemory>
+    ensures { IfOk result (λ o. o ≡ spec.own_function (out-CreateFunction create.now)) }
+{
+    let head = head_with(
+        alloc,
+        create,
+        DataAccess::ModifiesSqlData,
+        0,
+        Items::new(alloc),
+    )?;
+    Ok(Own {
+        name: create.name.name.copied()?,
+        head: Some(head),
+    })
+}
+
+fn own_procedure(create: &CreateProcedure) -> Result<Own, NoMemory>
+    ensures { IfOk result (λ o. o ≡ spec.own_procedure (out-CreateProcedure create.now)) }
+{
+    Ok(Own {
+        name: create.name.name.copied()?,
+        head: None,
+    })
+}
+
+// ---- functions whose body is RETURN
+
+// The result of a function, in sight of its parameters.
 fn bind_result(
     alloc: Global,
     create: &CreateFunction,
     returned: &Expr,
-    parameters: &Variables,
+    scope: &Scope,
+    catalog: &Catalog,
+    least: &mut Option<Fault>,
+) -> Result<BoundResult, NoMemory>
+    ensures tree { IfOk result (λ b. b.tree ≡ (spec.judged_result (out-CreateFunction create.now) returned.now scope.now catalog.now).value) }
+    ensures uses { IfOk result (λ b. b.uses ≡ (spec.judged_result (out-CreateFunction create.now) returned.now scope.now catalog.now).uses) }
+    ensures faults { OnOk result (least.new ≡ noted least.old (spec.judged_result (out-CreateFunction create.now) returned.now scope.now catalog.now).faults) }
+{
+    let own = Some(own_function(alloc, create)?);
+    let scopes = [ScopeRef { scope }];
+    let place = Place {
+        scopes: &scopes,
+        labels: &[],
+        returns: Some(type_of(create.returns)),
+        own: &own,
+        procedure: &None,
+        catalog,
+    };
+    let kind = kind_of_type(type_of(create.returns));
+    let mut notes = Notes::behind(alloc, *least);
+    let tree = bind_of_kind(alloc, kind, returned, &place, &mut notes)?;
+    *least = notes.least;
+    Ok(BoundResult {
+        tree,
+        uses: notes.uses,
+    })
+}
+
+// A function with a plan.
+fn planned_function(
+    alloc: Global,
+    create: &CreateFunction,
+    catalog: &Catalog,
+    bound: BoundResult,
+) -> Result<Object, NoMemory>
+    ensures { IfOk result (λ o. o ≡ spec.planned_function (out-CreateFunction create.now) catalog.now bound.uses bound.tree) }
+{
+    let access = need_of(catalog, bound.uses.as_slice(), false);
+    let height = height_above(greatest_height(catalog, bound.uses.as_slice()));
+    let head = head_with(alloc, create, access, height, bound.uses)?;
+    Ok(Object::Function(RoutineRecord {
+        head,
+        body: Body::shown(bound.tree),
+        plan: None,
+    }))
+}
+
+// The head of a function without a plan, by what its body uses.
+fn interpreted_head(
+    alloc: Global,
+    create: &CreateFunction,
+    catalog: &Catalog,
+    access: DataAccess,
+    uses: &[Name],
+) -> Result<Head, NoMemory>
+    ensures { IfOk result (λ h. h ≡ spec.interpreted_head (out-CreateFunction create.now) catalog.now access uses.now) }
+{
+    let height = height_above(greatest_height(catalog, uses));
+    let used = used_in(alloc, catalog, uses)?;
+    let head = head_with(alloc, create, access, height, used)?;
+    Ok(head)
+}
+
+// A function with its head and its body.
+fn with_body(create: &CreateFunction, head: Head, body: BoundBody) -> Object
+    ensures { result ≡ spec.with_body (out-CreateFunction create.now) head body.uses body.stmt }
+{
+    Object::Interpreted(InterpretedFunction {
+        head,
+        null_call: is_null_on_null(create.characteristics.as_slice()),
+        self_calling: calls(&create.name.name, body.uses.as_slice()),
+        body: body.stmt,
+    })
+}
+
+// A function without a plan. `drop` lets go of the body in a call.
+fn interpreted(
+    alloc: Global,
+    create: &CreateFunction,
+    catalog: &Catalog,
+    access: DataAccess,
+    body: BoundBody,
+) -> Result<Object, NoMemory>
+    ensures { IfOk result (λ o. o ≡ spec.interpreted (out-CreateFunction create.now) catalog.now access body.uses body.stmt) }
+{
+    match interpreted_head(alloc, create, catalog, access, body.uses.as_slice()) {
+        Ok(head) => Ok(with_body(create, head, body)),
+        Err(NoMemory) => {
+            drop(body);
+            Err(NoMemory)
+        }
+    }
+}
+
+fn returning(
+    alloc: Global,
+    create: &CreateFunction,
+    catalog: &Catalog,
+    bound: BoundResult,
+) -> Result<Object, NoMemory>
+    ensures { IfOk result (λ o. o ≡ spec.returning (out-CreateFunction create.now) catalog.now bound.uses bound.tree) }
+{
+    if all_run(bound.uses.as_slice(), catalog) {
+        planned_function(alloc, create, catalog, bound)
+    } else {
+        let access = need_of(catalog, bound.uses.as_slice(), false);
+        let body = BoundBody {
+            stmt: BoundStmt::Return(bound.tree),
+            uses: bound.uses,
+        };
+        interpreted(alloc, create, catalog, access, body)
+    }
+}
+
+// The function of its result, with the faults of the result and of its height noted.
+fn returning_with(
+    alloc: Global,
+    create: &CreateFunction,
+    returned: &Expr,
+    scope: &Scope,
     catalog: &Catalog,
     least: &mut Option<Fault>,
 ) -> Result<Object, NoMemory>
-    ensures value { IfOk result (λ o. o ≡ (function_with (out-CreateFunction create.now) catalog.now (judge returned.now (in_function parameters.now catalog.now))).value) }
-    ensures faults { OnOk result (least.new ≡ noted least.old (function_with (out-CreateFunction create.now) catalog.now (judge returned.now (in_function parameters.now catalog.now))).faults) }
+    ensures value { IfOk result (λ o. o ≡ (spec.returning_with (out-CreateFunction create.now) catalog.now (spec.judged_result (out-CreateFunction create.now) returned.now scope.now catalog.now)).value) }
+    ensures faults { OnOk result (least.new ≡ noted least.old (spec.returning_with (out-CreateFunction create.now) catalog.now (spec.judged_result (out-CreateFunction create.now) returned.now scope.now catalog.now)).faults) }
 {
-    let body = bind_body(alloc, returned, parameters, catalog, least)?;
-    let called = greatest_height(catalog, body.uses.as_slice());
-    note_result(create, body.head, called, least);
-    function(alloc, create, called, body)
+    let bound = bind_result(alloc, create, returned, scope, catalog, least)?;
+    let called = greatest_height(catalog, bound.uses.as_slice());
+    note_height(&create.name, called, least);
+    returning(alloc, create, catalog, bound)
 }
 
-/// A new function that gives back the value of an expression, with its faults noted: the name is
-/// taken, two parameters have one name, a type is out of range, a name in its result stands for
-/// nothing, the result is of another kind than the type that is returned, or its height is over 8.
-pub(crate) fn bind_function(
+// The parameters, with what is asked of the name and of the types.
+fn bind_signature(
+    alloc: Global,
+    create: &CreateFunction,
+    catalog: &Catalog,
+    least: &mut Option<Fault>,
+) -> Result<Scope, NoMemory>
+    ensures scope { IfOk result (λ s. s ≡ spec.parameters_of_function (out-CreateFunction create.now)) }
+    ensures faults { OnOk result (least.new ≡ noted least.old (spec.signature_faults (out-CreateFunction create.now) catalog.now)) }
+{
+    note_taken(&create.name, catalog, least);
+    let scope = parameters_of(alloc, create.parameters.as_slice(), least)?;
+    note_type(create.returns, least);
+    Ok(scope)
+}
+
+/// A new function that gives back the value of an expression, with its faults noted.
+pub(crate) fn bind_returning(
     alloc: Global,
     create: &CreateFunction,
     returned: &Expr,
     catalog: &Catalog,
     least: &mut Option<Fault>,
 ) -> Result<Object, NoMemory>
-    ensures value { IfOk result (λ o. o ≡ (judged_function (out-CreateFunction create.now) returned.now catalog.now).value) }
-    ensures faults { OnOk result (least.new ≡ noted least.old (judged_function (out-CreateFunction create.now) returned.now catalog.now).faults) }
+    ensures value { IfOk result (λ o. o ≡ (spec.judged_returning (out-CreateFunction create.now) returned.now catalog.now).value) }
+    ensures faults { OnOk result (least.new ≡ noted least.old (spec.judged_returning (out-CreateFunction create.now) returned.now catalog.now).faults) }
+{
+    let scope = bind_signature(alloc, create, catalog, least)?;
+    let object = returning_with(alloc, create, returned, &scope, catalog, least)?;
+    Ok(object)
+}
+
+// ---- bodies
+
+// A body at a place.
+fn bind_body(
+    alloc: Global,
+    body: &Stmt,
+    place: &Place<'_>,
+    least: &mut Option<Fault>,
+) -> Result<BoundBody, NoMemory>
+    ensures stmt { IfOk result (λ b. b.stmt ≡ (judge_stmt body.now (place_by place.now)).value) }
+    ensures uses { IfOk result (λ b. b.uses ≡ (judge_stmt body.now (place_by place.now)).uses) }
+    ensures faults { OnOk result (least.new ≡ noted least.old (judge_stmt body.now (place_by place.now)).faults) }
+{
+    let mut notes = Notes::behind(alloc, *least);
+    let stmt = bind_statement(alloc, body, place, &mut notes)?;
+    *least = notes.least;
+    Ok(BoundBody {
+        stmt,
+        uses: notes.uses,
+    })
+}
+
+fn body_need(catalog: &Catalog, body: &BoundBody) -> DataAccess
+    ensures { result ≡ spec.need_in catalog.now body.now.uses body.now.stmt }
+{
+    need_of(catalog, body.uses.as_slice(), writes(&body.stmt))
+}
+
+// What the body needs is written, and its height is within the limit.
+fn note_body(
+    ident: &Ident,
+    characteristics: &[Characteristic],
+    catalog: &Catalog,
+    body: &BoundBody,
+    least: &mut Option<Fault>,
+)
+    ensures { least.new ≡ noted least.old (spec.asked_of_body ident.now characteristics.now catalog.now body.now.uses body.now.stmt) }
+{
+    let need = body_need(catalog, body);
+    note_access(need, characteristics, least);
+    let called = greatest_height(catalog, body.uses.as_slice());
+    note_height(ident, called, least);
+}
+
+// ---- functions of other forms
+
+// The body of a function, in sight of its parameters.
+fn function_body(
+    alloc: Global,
+    create: &CreateFunction,
+    scope: &Scope,
+    catalog: &Catalog,
+    least: &mut Option<Fault>,
+) -> Result<BoundBody, NoMemory>
+    ensures stmt { IfOk result (λ b. b.stmt ≡ (spec.body_of_function (out-CreateFunction create.now) scope.now catalog.now).value) }
+    ensures uses { IfOk result (λ b. b.uses ≡ (spec.body_of_function (out-CreateFunction create.now) scope.now catalog.now).uses) }
+    ensures faults { OnOk result (least.new ≡ noted least.old (spec.body_of_function (out-CreateFunction create.now) scope.now catalog.now).faults) }
+{
+    let own = Some(own_function(alloc, create)?);
+    let scopes = [ScopeRef { scope }];
+    let place = Place {
+        scopes: &scopes,
+        labels: &[],
+        returns: Some(type_of(create.returns)),
+        own: &own,
+        procedure: &None,
+        catalog,
+    };
+    let body = bind_body(alloc, create.body.get(), &place, least)?;
+    Ok(body)
+}
+
+fn function_with(
+    alloc: Global,
+    create: &CreateFunction,
+    scope: &Scope,
+    catalog: &Catalog,
+    least: &mut Option<Fault>,
+) -> Result<Object, NoMemory>
+    ensures value { IfOk result (λ o. o ≡ (spec.function_with (out-CreateFunction create.now) catalog.now (spec.body_of_function (out-CreateFunction create.now) scope.now catalog.now)).value) }
+    ensures faults { OnOk result (least.new ≡ noted least.old (spec.function_with (out-CreateFunction create.now) catalog.now (spec.body_of_function (out-CreateFunction create.now) scope.now catalog.now)).faults) }
+{
+    let characteristics = create.characteristics.as_slice();
+    let body = function_body(alloc, create, scope, catalog, least)?;
+    note_body(&create.name, characteristics, catalog, &body, least);
+    let access = access_by(characteristics, body_need(catalog, &body));
+    interpreted(alloc, create, catalog, access, body)
+}
+
+/// A new function of another form, with its faults noted.
+pub(crate) fn bind_function(
+    alloc: Global,
+    create: &CreateFunction,
+    catalog: &Catalog,
+    least: &mut Option<Fault>,
+) -> Result<Object, NoMemory>
+    ensures value { IfOk result (λ o. o ≡ (spec.judged_function (out-CreateFunction create.now) catalog.now).value) }
+    ensures faults { OnOk result (least.new ≡ noted least.old (spec.judged_function (out-CreateFunction create.now) catalog.now).faults) }
+{
+    let scope = bind_signature(alloc, create, catalog, least)?;
+    note_groups(create.characteristics.as_slice(), least);
+    let object = function_with(alloc, create, &scope, catalog, least)?;
+    Ok(object)
+}
+
+// ---- procedures
+
+// The body of a procedure, in sight of its parameters.
+fn procedure_body(
+    alloc: Global,
+    create: &CreateProcedure,
+    scope: &Scope,
+    catalog: &Catalog,
+    least: &mut Option<Fault>,
+) -> Result<BoundBody, NoMemory>
+    ensures stmt { IfOk result (λ b. b.stmt ≡ (spec.body_of_procedure (out-CreateProcedure create.now) scope.now catalog.now).value) }
+    ensures uses { IfOk result (λ b. b.uses ≡ (spec.body_of_procedure (out-CreateProcedure create.now) scope.now catalog.now).uses) }
+    ensures faults { OnOk result (least.new ≡ noted least.old (spec.body_of_procedure (out-CreateProcedure create.now) scope.now catalog.now).faults) }
+{
+    let own = Some(own_procedure(create)?);
+    let parameters = create.parameters.as_slice();
+    let access = DataAccess::ModifiesSqlData;
+    let procedure = Some(procedure_head(alloc, parameters, access, 0, Items::new(alloc))?);
+    let scopes = [ScopeRef { scope }];
+    let place = Place {
+        scopes: &scopes,
+        labels: &[],
+        returns: None,
+        own: &own,
+        procedure: &procedure,
+        catalog,
+    };
+    let body = bind_body(alloc, create.body.get(), &place, least)?;
+    Ok(body)
+}
+
+// The head of a procedure, by what its body uses.
+fn head_of_procedure(
+    alloc: Global,
+    create: &CreateProcedure,
+    catalog: &Catalog,
+    access: DataAccess,
+    uses: &[Name],
+) -> Result<ProcedureHead, NoMemory>
+    ensures { IfOk result (λ h. h ≡ spec.head_of_procedure (out-CreateProcedure create.now) catalog.now access uses.now) }
+{
+    let height = height_above(greatest_height(catalog, uses));
+    let used = used_in(alloc, catalog, uses)?;
+    let head = procedure_head(alloc, create.parameters.as_slice(), access, height, used)?;
+    Ok(head)
+}
+
+// A procedure with its head and its body.
+fn procedure_with_body(create: &CreateProcedure, head: ProcedureHead, body: BoundBody) -> Object
+    ensures { result ≡ spec.procedure_with_body (out-CreateProcedure create.now) head body.uses body.stmt }
+{
+    Object::Procedure(Procedure {
+        head,
+        self_calling: calls(&create.name.name, body.uses.as_slice()),
+        body: body.stmt,
+    })
+}
+
+// A procedure of its body. `drop` lets go of the body in a call.
+fn procedure_of(
+    alloc: Global,
+    create: &CreateProcedure,
+    catalog: &Catalog,
+    access: DataAccess,
+    body: BoundBody,
+) -> Result<Object, NoMemory>
+    ensures { IfOk result (λ o. o ≡ spec.procedure_of (out-CreateProcedure create.now) catalog.now access body.uses body.stmt) }
+{
+    match head_of_procedure(alloc, create, catalog, access, body.uses.as_slice()) {
+        Ok(head) => Ok(procedure_with_body(create, head, body)),
+        Err(NoMemory) => {
+            drop(body);
+            Err(NoMemory)
+        }
+    }
+}
+
+fn procedure_with(
+    alloc: Global,
+    create: &CreateProcedure,
+    scope: &Scope,
+    catalog: &Catalog,
+    least: &mut Option<Fault>,
+) -> Result<Object, NoMemory>
+    ensures value { IfOk result (λ o. o ≡ (spec.procedure_with (out-CreateProcedure create.now) catalog.now (spec.body_of_procedure (out-CreateProcedure create.now) scope.now catalog.now)).value) }
+    ensures faults { OnOk result (least.new ≡ noted least.old (spec.procedure_with (out-CreateProcedure create.now) catalog.now (spec.body_of_procedure (out-CreateProcedure create.now) scope.now catalog.now)).faults) }
+{
+    let characteristics = create.characteristics.as_slice();
+    let body = procedure_body(alloc, create, scope, catalog, least)?;
+    note_body(&create.name, characteristics, catalog, &body, least);
+    let access = access_by(characteristics, body_need(catalog, &body));
+    procedure_of(alloc, create, catalog, access, body)
+}
+
+/// A new procedure, with its faults noted.
+pub(crate) fn bind_procedure(
+    alloc: Global,
+    create: &CreateProcedure,
+    catalog: &Catalog,
+    least: &mut Option<Fault>,
+) -> Result<Object, NoMemory>
+    ensures value { IfOk result (λ o. o ≡ (spec.judged_procedure (out-CreateProcedure create.now) catalog.now).value) }
+    ensures faults { OnOk result (least.new ≡ noted least.old (spec.judged_procedure (out-CreateProcedure create.now) catalog.now).faults) }
 {
     note_taken(&create.name, catalog, least);
-    let parameters = parameters_of(alloc, create, least)?;
-    bind_result(alloc, create, returned, &parameters, catalog, least)
+    let scope = parameters_of(alloc, create.parameters.as_slice(), least)?;
+    note_groups(create.characteristics.as_slice(), least);
+    note_null_calls(create.characteristics.as_slice(), least);
+    let object = procedure_with(alloc, create, &scope, catalog, least)?;
+    Ok(object)
 }

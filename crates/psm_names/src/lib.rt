@@ -3,21 +3,19 @@
 #![tactic(auto, using(name_faults::proofs::Laws::noted_append))]
 
 ghost use Rattle.psm_names.specs.Binds.{FaultlessFits};
-ghost use Rattle.psm_names.specs.Examples.{EachFaultAtItsPlace, KeysOfTables, DropsOfEntries, RefusedForms, FaultsOfWriting, KindsFit, BindsByPlaceAndName, BindsWriting};
+ghost use Rattle.psm_names.specs.Examples.{EachFaultAtItsPlace, KeysOfTables, DropsOfEntries, FormsBoundAlone, FaultsOfWriting, KindsFit, BindsByPlaceAndName, BindsWriting};
 
 mod bound;
-mod change;
+mod characteristics;
 mod function;
-mod insert;
-mod names;
 mod removal;
+mod routine;
 mod statement;
 mod table;
-mod target;
 
-pub use bound::{BoundDelete, BoundStmt, BoundUpdate};
-pub use function::MOST_HEIGHT;
-pub use statement::bind_statement;
+pub use bound::{Bound, BoundStatement};
+pub use routine::MOST_HEIGHT;
+pub use statement::{anchor_of, bind_statement};
 pub use typed_parts::NameFault;
 
 /// A statement without faults makes what fits the catalog: a name that is free, a key of columns,
@@ -42,9 +40,9 @@ pub fn drops_of_entries()
     ensures { DropsOfEntries }
 {}
 
-/// A statement of a form that is not run has one fault, at its anchor, and nothing is made of it.
-pub fn refused_forms()
-    ensures { RefusedForms }
+/// Which statements are run, and which are bound alone.
+pub fn forms_bound_alone()
+    ensures { FormsBoundAlone }
 {}
 
 /// Lists of columns, assignments and WHERE of what writes a table: each fault at its place.

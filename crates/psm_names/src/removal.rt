@@ -29,6 +29,15 @@ fn is_function(sort: ObjectSort) -> bool
     }
 }
 
+fn is_procedure(sort: ObjectSort) -> bool
+    ensures { result ≡ spec.is_procedure sort }
+{
+    match sort {
+        ObjectSort::Procedure => true,
+        ObjectSort::Table | ObjectSort::Function => false,
+    }
+}
+
 // Whether what a name stands for is of a sort.
 fn is_of_sort(sort: ObjectSort, name: &Name, catalog: &Catalog) -> bool
     ensures { result ≡ spec.is_of_sort sort (object_named name.now catalog.now) }
@@ -36,6 +45,8 @@ fn is_of_sort(sort: ObjectSort, name: &Name, catalog: &Catalog) -> bool
     match catalog.get(name) {
         Some(Object::Table(_)) => is_table(sort),
         Some(Object::Function(_)) => is_function(sort),
+        Some(Object::Interpreted(_)) => is_function(sort),
+        Some(Object::Procedure(_)) => is_procedure(sort),
         None => false,
     }
 }

@@ -6,26 +6,35 @@ ghost use Rattle.statement_trees.specs.declared.statement.CreateFunction.{out-Cr
 ghost use Rattle.name_faults.specs.Faults.{noted};
 ghost use Rattle.names_in_sight.specs.Sight.{at_top};
 ghost use Rattle.sql_names.specs.Order.{judge_ordered};
-ghost use Rattle.psm_names.specs.Statements.{refused, result_of, judged_definition, judged_statement};
+ghost use Rattle.psm_names.specs.Statements.{result_of, judged_routine, judged_statement};
+ghost use Rattle.psm_names.specs.Statements as spec;
 ghost use Rattle.psm_names.specs.Binds.{Binds, StatementFits};
 
-use crate::bound::BoundStmt;
-use crate::change::{bind_delete, bind_update};
-use crate::function::bind_function;
-use crate::insert::bind_insert;
+use crate::bound::{Bound, BoundStatement};
+use crate::function::{bind_function, bind_procedure, bind_returning};
 use crate::removal::bind_drop;
 use crate::table::bind_table;
-use bound_trees::BoundQuery;
-use catalog_store::Catalog;
-use name_faults::{Fault, FaultKind, Notes, note_if};
-use names_in_sight::{Sight, no_variables};
-use sql_names::bind_ordered;
+use bound_trees::{BoundQuery, BoundStmt};
+use catalog_store::{Catalog, Object};
+use change_names::{bind_delete, bind_insert, bind_update};
+use name_faults::{Fault, Notes};
+use names_in_sight::Sight;
+use routine_names::bind_statement as bind_in_routine;
+use sql_names::{all_run, bind_ordered};
 use sql_values::NoMemory;
-use sqlite_items::Items;
-use statement_trees::{CreateFunction, Stmt};
+use statement_names::{Place, anchor_of_query, bind_call};
+use statement_trees::{Call, CreateFunction, Delete, Insert, Stmt, Update};
 use std::alloc::Global;
-use syntax_trees::{Anchor, Expr, OrderedQuery};
+use std::mem::drop;
+use syntax_trees::{Anchor, Expr, Ident, OrderedQuery};
 use typed_parts::NameFault;
+
+// A bound query, and whether all functions that it calls have plans.
+#[derive(Drop)]
+struct Asked {
+    query: BoundQuery,
+    runs: bool,
+}
 
 // A query outside of which no name is in sight but those of the catalog.
 fn bind_asked(
@@ -33,29 +42,180 @@ fn bind_asked(
     ordered: &OrderedQuery,
     catalog: &Catalog,
     least: &mut Option<Fault>,
-) -> Result<BoundQuery, NoMemory>
-    ensures value { IfOk result (λ q. q ≡ (judge_ordered ordered.now (at_top catalog.now)).value) }
+) -> Result<Asked, NoMemory>
+    ensures value { IfOk result (λ a. a.query ≡ (judge_ordered ordered.now (at_top catalog.now)).value) }
+    ensures runs { IfOk result (λ a. a.runs ≡ spec.runs_over catalog.now (judge_ordered ordered.now (at_top catalog.now))) }
     ensures faults { OnOk result (least.new ≡ noted least.old (judge_ordered ordered.now (at_top catalog.now)).faults) }
 {
-    let none = no_variables(alloc);
     let sight = Sight {
         levels: &[],
-        variables: &none,
+        scopes: &[],
+        catalog,
+        own: &None,
+        writing: false,
+    };
+    let mut notes = Notes::behind(alloc, *least);
+    let query = bind_ordered(alloc, ordered, &sight, &mut notes)?;
+    *least = notes.least;
+    let runs = all_run(notes.uses.as_slice(), catalog);
+    Ok(Asked { query, runs })
+}
+
+fn is_run(object: &Object) -> bool
+    ensures { result ≡ spec.is_run object.now }
+{
+    match object {
+        Object::Table(_) => true,
+        Object::Function(_) => true,
+        Object::Interpreted(_) => false,
+        Object::Procedure(_) => false,
+    }
+}
+
+fn created(ident: &Ident, object: Object) -> Result<BoundStatement, NoMemory>
+    ensures { IfOk result (λ b. b ≡ spec.created ident.now object) }
+{
+    let runs = is_run(&object);
+    let name = ident.name.copied()?;
+    Ok(BoundStatement {
+        bound: Bound::Create(name, object),
+        runs,
+    })
+}
+
+// An INSERT of the script's.
+fn bind_insert_at_top(
+    alloc: Global,
+    insert: &Insert,
+    catalog: &Catalog,
+    least: &mut Option<Fault>,
+) -> Result<BoundStatement, NoMemory>
+    ensures value { IfOk result (λ b. b ≡ (spec.insert_at_top insert.now catalog.now).value) }
+    ensures faults { OnOk result (least.new ≡ noted least.old (spec.insert_at_top insert.now catalog.now).faults) }
+{
+    let sight = Sight {
+        levels: &[],
+        scopes: &[],
+        catalog,
+        own: &None,
+        writing: false,
+    };
+    let mut notes = Notes::behind(alloc, *least);
+    let change = bind_insert(alloc, insert, &sight, &mut notes)?;
+    *least = notes.least;
+    let runs = all_run(notes.uses.as_slice(), catalog);
+    Ok(BoundStatement {
+        bound: Bound::Insert(change.insert, change.listed),
+        runs,
+    })
+}
+
+// An UPDATE of the script's.
+fn bind_update_at_top(
+    alloc: Global,
+    update: &Update,
+    catalog: &Catalog,
+    least: &mut Option<Fault>,
+) -> Result<BoundStatement, NoMemory>
+    ensures value { IfOk result (λ b. b ≡ (spec.update_at_top update.now catalog.now).value) }
+    ensures faults { OnOk result (least.new ≡ noted least.old (spec.update_at_top update.now catalog.now).faults) }
+{
+    let sight = Sight {
+        levels: &[],
+        scopes: &[],
+        catalog,
+        own: &None,
+        writing: false,
+    };
+    let mut notes = Notes::behind(alloc, *least);
+    let change = bind_update(alloc, update, &sight, &mut notes)?;
+    *least = notes.least;
+    let runs = all_run(notes.uses.as_slice(), catalog);
+    Ok(BoundStatement {
+        bound: Bound::Update(change),
+        runs,
+    })
+}
+
+// A DELETE of the script's.
+fn bind_delete_at_top(
+    alloc: Global,
+    delete: &Delete,
+    catalog: &Catalog,
+    least: &mut Option<Fault>,
+) -> Result<BoundStatement, NoMemory>
+    ensures value { IfOk result (λ b. b ≡ (spec.delete_at_top delete.now catalog.now).value) }
+    ensures faults { OnOk result (least.new ≡ noted least.old (spec.delete_at_top delete.now catalog.now).faults) }
+{
+    let sight = Sight {
+        levels: &[],
+        scopes: &[],
+        catalog,
+        own: &None,
+        writing: false,
+    };
+    let mut notes = Notes::behind(alloc, *least);
+    let change = bind_delete(alloc, delete, &sight, &mut notes)?;
+    *least = notes.least;
+    let runs = all_run(notes.uses.as_slice(), catalog);
+    Ok(BoundStatement {
+        bound: Bound::Delete(change),
+        runs,
+    })
+}
+
+// A CALL of the script's.
+fn bind_call_at_top(
+    alloc: Global,
+    call: &Call,
+    catalog: &Catalog,
+    least: &mut Option<Fault>,
+) -> Result<BoundStatement, NoMemory>
+    ensures value { IfOk result (λ b. b ≡ (spec.call_at_top call.now catalog.now).value) }
+    ensures faults { OnOk result (least.new ≡ noted least.old (spec.call_at_top call.now catalog.now).faults) }
+{
+    let place = Place {
+        scopes: &[],
+        labels: &[],
+        returns: None,
+        own: &None,
+        procedure: &None,
         catalog,
     };
     let mut notes = Notes::behind(alloc, *least);
-    let bound = bind_ordered(alloc, ordered, &sight, &mut notes)?;
+    let call = bind_call(alloc, true, call, &place, &mut notes)?;
     *least = notes.least;
-    Ok(bound)
+    Ok(BoundStatement {
+        bound: Bound::Routine(BoundStmt::Call(call)),
+        runs: false,
+    })
 }
 
-// A statement of a form that is not run, with its fault noted. Nothing is made of it.
-fn refuse(alloc: Global, anchor: Anchor, least: &mut Option<Fault>) -> BoundStmt
-    ensures value { result ≡ (refused anchor).value }
-    ensures faults { least.new ≡ noted least.old (refused anchor).faults }
+// What the script does as a routine would.
+fn bind_routine(
+    alloc: Global,
+    stmt: &Stmt,
+    catalog: &Catalog,
+    least: &mut Option<Fault>,
+) -> Result<BoundStatement, NoMemory>
+    ensures value { IfOk result (λ b. b ≡ (judged_routine stmt.now catalog.now).value) }
+    ensures faults { OnOk result (least.new ≡ noted least.old (judged_routine stmt.now catalog.now).faults) }
 {
-    note_if(true, FaultKind::NotPermitted, anchor, least);
-    BoundStmt::Query(BoundQuery::Values(Items::new(alloc)))
+    let place = Place {
+        scopes: &[],
+        labels: &[],
+        returns: None,
+        own: &None,
+        procedure: &None,
+        catalog,
+    };
+    let mut notes = Notes::behind(alloc, *least);
+    let bound = bind_in_routine(alloc, stmt, &place, &mut notes)?;
+    *least = notes.least;
+    Ok(BoundStatement {
+        bound: Bound::Routine(bound),
+        runs: false,
+    })
 }
 
 // The result of a function of the form that is run: without characteristics, its body RETURN.
@@ -71,23 +231,52 @@ fn result_of(create: &CreateFunction) -> Option<&Expr>
     }
 }
 
-// A CREATE FUNCTION: a new function where it is of the form that is run, and else a fault.
-fn bind_definition(
+// A new function, of the form that is run or of another.
+fn bind_object(
     alloc: Global,
     create: &CreateFunction,
     catalog: &Catalog,
     least: &mut Option<Fault>,
-) -> Result<BoundStmt, NoMemory>
-    ensures value { IfOk result (λ b. b ≡ (judged_definition (out-CreateFunction create.now) catalog.now).value) }
-    ensures faults { OnOk result (least.new ≡ noted least.old (judged_definition (out-CreateFunction create.now) catalog.now).faults) }
+) -> Result<Object, NoMemory>
+    ensures value { IfOk result (λ o. o ≡ (spec.judged_new (out-CreateFunction create.now) catalog.now).value) }
+    ensures faults { OnOk result (least.new ≡ noted least.old (spec.judged_new (out-CreateFunction create.now) catalog.now).faults) }
 {
     match result_of(create) {
-        Some(returned) => {
-            let object = bind_function(alloc, create, returned, catalog, least)?;
-            Ok(BoundStmt::Create(create.name.name.copied()?, object))
-        }
-        None => Ok(refuse(alloc, create.anchor, least)),
+        Some(returned) => bind_returning(alloc, create, returned, catalog, least),
+        None => bind_function(alloc, create, catalog, least),
     }
+}
+
+fn bind_query_at_top(
+    alloc: Global,
+    query: &OrderedQuery,
+    catalog: &Catalog,
+    least: &mut Option<Fault>,
+) -> Result<BoundStatement, NoMemory>
+    ensures value { IfOk result (λ b. b ≡ (spec.query_at_top query.now catalog.now).value) }
+    ensures faults { OnOk result (least.new ≡ noted least.old (spec.query_at_top query.now catalog.now).faults) }
+{
+    let asked = bind_asked(alloc, query, catalog, least)?;
+    Ok(BoundStatement {
+        bound: Bound::Query(asked.query),
+        runs: asked.runs,
+    })
+}
+
+fn bind_explain(
+    alloc: Global,
+    query: &OrderedQuery,
+    catalog: &Catalog,
+    least: &mut Option<Fault>,
+) -> Result<BoundStatement, NoMemory>
+    ensures value { IfOk result (λ b. b ≡ (spec.explained query.now catalog.now).value) }
+    ensures faults { OnOk result (least.new ≡ noted least.old (spec.explained query.now catalog.now).faults) }
+{
+    let asked = bind_asked(alloc, query, catalog, least)?;
+    Ok(BoundStatement {
+        bound: Bound::Explain(asked.query),
+        runs: false,
+    })
 }
 
 fn bind_parts(
@@ -95,67 +284,105 @@ fn bind_parts(
     stmt: &Stmt,
     catalog: &Catalog,
     least: &mut Option<Fault>,
-) -> Result<BoundStmt, NoMemory>
+) -> Result<BoundStatement, NoMemory>
     ensures value { IfOk result (λ b. b ≡ (judged_statement stmt.now catalog.now).value) }
     ensures faults { OnOk result (least.new ≡ noted least.old (judged_statement stmt.now catalog.now).faults) }
 {
     match stmt {
         Stmt::CreateTable(create) => {
             let object = bind_table(alloc, create, catalog, least)?;
-            Ok(BoundStmt::Create(create.name.name.copied()?, object))
+            created(&create.name, object)
         }
-        Stmt::CreateFunction(create) => bind_definition(alloc, create, catalog, least),
+        Stmt::CreateFunction(create) => {
+            let object = bind_object(alloc, create, catalog, least)?;
+            created(&create.name, object)
+        }
+        Stmt::CreateProcedure(create) => {
+            let object = bind_procedure(alloc, create, catalog, least)?;
+            created(&create.name, object)
+        }
         Stmt::Drop(removal) => {
             let name = bind_drop(removal, catalog, least)?;
-            Ok(BoundStmt::Drop(name))
+            Ok(BoundStatement {
+                bound: Bound::Drop(name),
+                runs: true,
+            })
         }
-        Stmt::Insert(insert) => bind_insert(alloc, insert, catalog, least),
-        Stmt::Update(update) => {
-            let bound = bind_update(alloc, update, catalog, least)?;
-            Ok(BoundStmt::Update(bound))
-        }
-        Stmt::Delete(delete) => {
-            let bound = bind_delete(alloc, delete, catalog, least)?;
-            Ok(BoundStmt::Delete(bound))
-        }
-        Stmt::Query(query) => {
-            let bound = bind_asked(alloc, query, catalog, least)?;
-            Ok(BoundStmt::Query(bound))
-        }
-        Stmt::CreateProcedure(create) => Ok(refuse(alloc, create.anchor, least)),
-        Stmt::Call(call) => Ok(refuse(alloc, call.anchor, least)),
-        Stmt::Labelled(labelled) => Ok(refuse(alloc, labelled.anchor, least)),
-        Stmt::If(branching) => Ok(refuse(alloc, branching.anchor, least)),
-        Stmt::Case(branching) => Ok(refuse(alloc, branching.anchor, least)),
-        Stmt::SelectInto(select) => Ok(refuse(alloc, select.anchor, least)),
-        Stmt::Fetch(fetch) => Ok(refuse(alloc, fetch.anchor, least)),
-        Stmt::Signal(signal) => Ok(refuse(alloc, signal.anchor, least)),
-        Stmt::Resignal(signal) => Ok(refuse(alloc, signal.anchor, least)),
-        Stmt::GetDiagnostics(get) => Ok(refuse(alloc, get.anchor, least)),
+        Stmt::Insert(insert) => bind_insert_at_top(alloc, insert, catalog, least),
+        Stmt::Update(update) => bind_update_at_top(alloc, update, catalog, least),
+        Stmt::Delete(delete) => bind_delete_at_top(alloc, delete, catalog, least),
+        Stmt::Query(query) => bind_query_at_top(alloc, query, catalog, least),
+        Stmt::Explain(_, query) => bind_explain(alloc, query, catalog, least),
+        Stmt::Call(call) => bind_call_at_top(alloc, call, catalog, least),
+        Stmt::Labelled(_)
+        | Stmt::If(_)
+        | Stmt::Case(_)
+        | Stmt::Set(_, _)
+        | Stmt::SelectInto(_)
+        | Stmt::Open(_, _)
+        | Stmt::Close(_, _)
+        | Stmt::Fetch(_)
+        | Stmt::Signal(_)
+        | Stmt::Resignal(_)
+        | Stmt::GetDiagnostics(_)
+        | Stmt::Leave(_, _)
+        | Stmt::Iterate(_, _)
+        | Stmt::Return(_, _) => bind_routine(alloc, stmt, catalog, least),
+    }
+}
+
+/// The first token of a statement after a label.
+pub fn anchor_of(stmt: &Stmt) -> Anchor
+    ensures { result ≡ spec.anchor_of stmt.now }
+{
+    match stmt {
+        Stmt::CreateTable(create) => create.anchor,
+        Stmt::CreateFunction(create) => create.anchor,
+        Stmt::CreateProcedure(create) => create.anchor,
+        Stmt::Drop(removal) => removal.anchor,
+        Stmt::Insert(insert) => insert.anchor,
+        Stmt::Update(update) => update.anchor,
+        Stmt::Delete(delete) => delete.anchor,
+        Stmt::Query(query) => anchor_of_query(&query.query),
+        Stmt::Call(call) => call.anchor,
+        Stmt::Labelled(labelled) => labelled.anchor,
+        Stmt::If(branching) => branching.anchor,
+        Stmt::Case(branching) => branching.anchor,
+        Stmt::SelectInto(select) => select.anchor,
+        Stmt::Fetch(fetch) => fetch.anchor,
+        Stmt::Signal(signal) => signal.anchor,
+        Stmt::Resignal(signal) => signal.anchor,
+        Stmt::GetDiagnostics(get) => get.anchor,
         Stmt::Explain(anchor, _)
         | Stmt::Set(anchor, _)
         | Stmt::Open(anchor, _)
         | Stmt::Close(anchor, _)
         | Stmt::Leave(anchor, _)
         | Stmt::Iterate(anchor, _)
-        | Stmt::Return(anchor, _) => Ok(refuse(alloc, *anchor, least)),
+        | Stmt::Return(anchor, _) => *anchor,
     }
 }
 
 /// A statement with its names resolved. Fault: exactly where it has a fault, and then the least, by
-/// place and then kind; one of a form that is not run has one fault, at its anchor. What is made has a
-/// free name, and fits the catalog; what is dropped stands there unused; what is asked or met has a
-/// plan.
+/// place and then kind. What is made has a free name, and fits the catalog; what is dropped stands
+/// there unused; what is asked or met has a plan.
 #[tactic(auto, using(name_faults::proofs::Laws::is_free, crate::proofs::Made::bound_fits))]
-pub fn bind_statement(alloc: Global, stmt: &Stmt, catalog: &Catalog) -> Result<BoundStmt, NameFault>
+pub fn bind_statement(
+    alloc: Global,
+    stmt: &Stmt,
+    catalog: &Catalog,
+) -> Result<BoundStatement, NameFault>
     ensures binds { Binds (judged_statement stmt.now catalog.now) result }
-    ensures fits { IfOk result (StatementFits catalog.now) }
+    ensures fits { IfOk result (λ b. StatementFits catalog.now b.bound) }
 {
     let _entries = catalog.len();
     let mut least = None;
     let bound = bind_parts(alloc, stmt, catalog, &mut least)?;
     match least {
         None => Ok(bound),
-        Some(fault) => Err(NameFault::Fault(fault)),
+        Some(fault) => {
+            drop(bound);
+            Err(NameFault::Fault(fault))
+        }
     }
 }

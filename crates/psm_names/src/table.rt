@@ -3,12 +3,12 @@
 ghost use Rattle.std.specs.Prelude.{◌≡◌, ◌++◌, map, IfOk, OnOk};
 ghost use Rattle.std.specs.List.{list_any, flat_map};
 ghost use Rattle.name_faults.specs.Faults.{noted};
-ghost use Rattle.psm_names.specs.Names.{names_of, place_in};
+ghost use Rattle.change_names.specs.Names.{names_of, place_in};
 ghost use Rattle.psm_names.specs.Tables.{judged_table};
 ghost use Rattle.psm_names.specs.Tables as spec;
 
-use crate::names::{add_place, copied, indexed, note_list, note_repeated, note_taken, places_in};
 use catalog_store::{Catalog, Object};
+use change_names::{add_place, copied, indexed, note_list, note_repeated, note_taken, places_in};
 use name_faults::{Fault, FaultKind, note_if};
 use name_kinds::{note_type, type_of};
 use names_in_sight::NameList;

@@ -1,6 +1,6 @@
 -- The rows that a change takes are those that it asks for: what an UPDATE or a DELETE meets stands in
 -- the table, in its order.
-use Rattle.std.proofs.Common.{◌≡◌, ℕ, List, [], length, Option, Some, None, refl, ap, ◌∙◌, subst}
+use Rattle.std.proofs.Common.{◌≡◌, ℕ, List, [], Option, Some, None, refl, ap, ◌∙◌, subst}
 use Rattle.std.specs.List.{IsDistinct}
 use Rattle.std.specs.Str.{bytes_eq}
 use Rattle.row_types.specs.Rows.{Row}

@@ -7,7 +7,7 @@ use Rattle.std.proofs.lemmas.List.{map-append}
 use Rattle.std.proofs.lemmas.Slice.Eq.{bytes_eq-Decides}
 use Rattle.row_types.specs.declared.RowType.{RowType}
 use Rattle.row_types.specs.Tables.{Stored, Table, Tables, table_named, without_table_named}
-use Rattle.catalog_store.specs.Catalog.{Entry, Object, TableObject, FunctionObject, Catalog, object_named}
+use Rattle.catalog_store.specs.Catalog.{Entry, Object, TableObject, FunctionObject, InterpretedObject, ProcedureObject, Catalog, object_named}
 use Rattle.psm_session.specs.Database.{Plain}
 use Rattle.psm_session.specs.Effects.{with_table_of, created}
 use Rattle.psm_session.specs.Shapes.{Shape, shape_of, shapes_of, shapes_in, with_shape_of, IsWhole}
@@ -17,6 +17,8 @@ use Rattle.psm_session.specs.Shapes.{Shape, shape_of, shapes_of, shapes_in, with
 with_shape_of-append : (name : List ℕ) (o : Object) (xs ys : List Shape) → with_shape_of name o (xs ++ ys) ≡ with_shape_of name o xs ++ ys
 with_shape_of-append name (TableObject row_type) xs ys = refl
 with_shape_of-append name (FunctionObject f) xs ys = refl
+with_shape_of-append name (InterpretedObject f) xs ys = refl
+with_shape_of-append name (ProcedureObject f) xs ys = refl
 
 shapes_in-append : (catalog : Catalog) (e : Entry) → shapes_in (catalog ++ e ∷ []) ≡ shapes_in catalog ++ with_shape_of e.name e.object []
 shapes_in-append [] e = refl
@@ -31,6 +33,8 @@ shapes-with_table_of : (name : List ℕ) (o : Object) (ts : Tables) → shapes_o
 shapes-with_table_of name (TableObject row_type) ts =
     map-append shape_of ts (record { name = name; table = record { columns = row_type.columns; key = row_type.key; rows = [] } } ∷ [])
 shapes-with_table_of name (FunctionObject f) ts = append-none (shapes_of ts)
+shapes-with_table_of name (InterpretedObject f) ts = append-none (shapes_of ts)
+shapes-with_table_of name (ProcedureObject f) ts = append-none (shapes_of ts)
 
 pub created_is_whole : (e : Entry) (db : Plain) → IsWhole db → IsWhole (created e db).after
 created_is_whole e db whole =
@@ -63,6 +67,8 @@ no_shape name (e ∷ es) h = behind e.object (none_first (bytes_eq e.name name) 
     behind : (o : Object) → bytes_eq e.name name ≡ false → shape_named name (shapes_in es) ≡ None → shape_named name (with_shape_of e.name o (shapes_in es)) ≡ None
     behind (TableObject row_type) f more = skipped (bytes_eq e.name name) row_type (shape_named name (shapes_in es)) f more
     behind (FunctionObject r) f more = more
+    behind (InterpretedObject r) f more = more
+    behind (ProcedureObject r) f more = more
 
 no_table : (name : List ℕ) (ts : Tables) → shape_named name (shapes_of ts) ≡ None → table_named name ts ≡ None
 no_table name [] h = refl
@@ -94,6 +100,8 @@ without_last name t (s ∷ ss) h =
 pub taken_back : (name : List ℕ) (o : Object) (ts : Tables) → table_named name ts ≡ None → without_table_named name (with_table_of name o ts) ≡ ts
 taken_back name (TableObject row_type) ts h = without_last name (record { columns = row_type.columns; key = row_type.key; rows = [] }) ts h
 taken_back name (FunctionObject f) ts h = without_free name ts h
+taken_back name (InterpretedObject f) ts h = without_free name ts h
+taken_back name (ProcedureObject f) ts h = without_free name ts h
 
 -- what holds anyway holds where memory was wanting
 pub always_on_err : {A E P : Type 0} (r : Result A E) → P → OnErr r P

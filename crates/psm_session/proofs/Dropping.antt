@@ -6,7 +6,7 @@ use Rattle.std.specs.Str.{bytes_eq}
 use Rattle.std.specs.Cmp.Lexicographic.{nat_list_eq_equiv}
 use Rattle.std.proofs.lemmas.Slice.Eq.{bytes_eq-Decides}
 use Rattle.row_types.specs.Tables.{Tables, without_table_named}
-use Rattle.catalog_store.specs.Catalog.{Object, TableObject, FunctionObject, Catalog, names_of}
+use Rattle.catalog_store.specs.Catalog.{Object, TableObject, FunctionObject, InterpretedObject, ProcedureObject, Catalog, names_of}
 use Rattle.catalog_store.specs.Users.{without}
 use Rattle.psm_session.specs.Database.{Plain}
 use Rattle.psm_session.specs.Effects.{dropped}
@@ -37,6 +37,8 @@ none_goes name (e ∷ es) h = after e.object (none_goes name es h.1)
         ap (λ (b : Bool). if b then shapes_in es else s ∷ without_shape name (shapes_in es)) (nat_list_eq_equiv.symm e.name name ∙ h.0)
         ∙ ap (λ (rest : List Shape). s ∷ rest) more
     after (FunctionObject f) more = more
+    after (InterpretedObject f) more = more
+    after (ProcedureObject f) more = more
 
 of_catalog : (name : List ℕ) (catalog : Catalog) → IsDistinct bytes_eq (names_of catalog) → shapes_in (without name catalog) ≡ without_shape name (shapes_in catalog)
 unfolding IsDistinct
@@ -66,6 +68,8 @@ of_catalog name (e ∷ es) h = outer (bytes_eq e.name name) ∙ step e.object (b
         let s : Shape = record { name = e.name; row_type = row_type } in
         table s b more ∙ sym (ap (λ (c : Bool). if c then shapes_in es else s ∷ without_shape name (shapes_in es)) q)
     step (FunctionObject f) b q more = function b q more
+    step (InterpretedObject f) b q more = function b q more
+    step (ProcedureObject f) b q more = function b q more
 
 pub dropped_is_whole : (name : List ℕ) (db : Plain) → IsDistinct bytes_eq (names_of db.catalog) → IsWhole db → IsWhole (dropped name db).after
 dropped_is_whole name db distinct whole =

@@ -3,15 +3,24 @@
 use Rattle.std.proofs.Common.{◌≡◌, ◌<◌, ◌≤◌, ℕ, List, length}
 use Rattle.sql_lex.specs.Tokens.{Lexing}
 use Rattle.psm_session.specs.Database.{Plain}
-use Rattle.psm_session.specs.Statement.{Statement}
-use Rattle.psm_session.proofs.Each.{Statement-some}
-use Rattle.psm_session.proofs.One.{Statement-one}
+use Rattle.psm_session.specs.Executing.{Executes, Checks}
+use Rattle.psm_session.specs.Statement.{Statement, Checked}
+use Rattle.psm_session.proofs.Each.{some_execution, some_check, Statement-some}
+use Rattle.psm_session.proofs.One.{one_execution, one_check, Statement-one}
 pub use Rattle.psm_session.proofs.Lasting.{query_lasts}
 
 pub some_statement : (t : Lexing) (at : ℕ) (before : Plain) → at < length t.tokens
     → (reply : List ℕ) × (to : ℕ) × (after : Plain) × Statement t at before reply to after × (at < to) × (to ≤ length t.tokens)
-some_statement = Statement-some
+some_statement = Statement-some Executes some_execution
+
+pub some_checked : (t : Lexing) (at : ℕ) (before : Plain) → at < length t.tokens
+    → (reply : List ℕ) × (to : ℕ) × (after : Plain) × Checked t at before reply to after × (at < to) × (to ≤ length t.tokens)
+some_checked = Statement-some Checks some_check
 
 pub one_statement : (t : Lexing) (at : ℕ) (before : Plain) (r r' : List ℕ) (to to' : ℕ) (after after' : Plain)
     → Statement t at before r to after → Statement t at before r' to' after' → (r ≡ r') × (to ≡ to') × (after ≡ after')
-one_statement = Statement-one
+one_statement = Statement-one Executes one_execution
+
+pub one_checked : (t : Lexing) (at : ℕ) (before : Plain) (r r' : List ℕ) (to to' : ℕ) (after after' : Plain)
+    → Checked t at before r to after → Checked t at before r' to' after' → (r ≡ r') × (to ≡ to') × (after ≡ after')
+one_checked = Statement-one Checks one_check

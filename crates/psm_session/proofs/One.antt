@@ -1,7 +1,8 @@
 -- A statement at a token has one outcome.
-use Rattle.std.proofs.Common.{◌≡◌, ◌≤◌, ◌+◌, ◌⊎◌, ℕ, suc, List, [], Some, None, length, ap, ap₂, sym, ◌∙◌, subst, inl, inr, arith}
+use Rattle.std.proofs.Common.{◌≡◌, ◌≤◌, ◌+◌, ℕ, suc, true, false, List, [], Some, None, length, ap, ap₂, sym, ◌∙◌, subst, inl, inr, arith}
 use Rattle.sql_lex.specs.Tokens.{Lexing}
 use Rattle.sql_lex.specs.Openings.{place_at}
+use Rattle.syntax_trees.specs.declared.anchor.Anchor.{Anchor}
 use Rattle.statement_trees.specs.declared.statement.Stmt.{Stmt}
 use Rattle.token_grammar.specs.Statement.{BeginsWithin, IsStuck, IsTooDeep, IsFurthest, most_open}
 use Rattle.token_grammar.proofs.Laws.{one_spelling}
@@ -9,13 +10,13 @@ use Rattle.sql_grammar.specs.Sql.{rules, statement}
 use Rattle.sql_grammar.specs.Decides.{all_decide, statement_decides, statement_ends}
 use Rattle.name_faults.specs.declared.fault.Fault.{Fault}
 use Rattle.name_faults.specs.Faults.{Noted, least}
-use Rattle.psm_names.specs.declared.bound.BoundStmt.{BoundStmt}
-use Rattle.psm_names.specs.Statements.{judged_statement}
+use Rattle.psm_names.specs.declared.bound.BoundStatement.{BoundStatement}
+use Rattle.psm_names.specs.Statements.{judged_statement, anchor_of}
 use Rattle.reply_text.specs.declared.fault.FaultText.{FaultText}
 use Rattle.reply_text.specs.Texts.{fault_text}
 use Rattle.psm_session.specs.Database.{Plain}
-use Rattle.psm_session.specs.Executing.{Executes, reply_to}
-use Rattle.psm_session.specs.Statement.{Reads, Stops, IsUnread, Statement}
+use Rattle.psm_session.specs.Executing.{HasFault, Executes, Checks, reply_to}
+use Rattle.psm_session.specs.Statement.{Reads, Stops, Doing, IsRead, IsUnread, StatementBy}
 
 -- ---- what comes of a statement
 
@@ -25,14 +26,36 @@ no_least faults fault none some = let e : None ≡ Some fault = sym (ap least no
 some_same : {A : Type 0} (a b : A) → Some a ≡ Some b → a ≡ b
 some_same a b e = cc
 
-pub one_execution : (found : Noted BoundStmt) (before : Plain) (r r' : List ℕ) (after after' : Plain) → Executes found before r after → Executes found before r' after'
+both_runs : (found : Noted BoundStatement) → found.value.runs ≡ true → found.value.runs ≡ false → ⊥
+both_runs found p q = let e : true ≡ false = sym p ∙ q in cc
+
+one_fault : (found : Noted BoundStatement) (before : Plain) (r r' : List ℕ) (after after' : Plain) → HasFault found before r after → HasFault found before r' after'
     → (r ≡ r') × (after ≡ after')
-one_execution found before r r' after after' (inl p) (inl q) = (p.replies ∙ sym q.replies, p.leaves ∙ sym q.leaves)
-one_execution found before r r' after after' (inl p) (inr q) = absurd (no_least found.faults q.fault p.valid q.is_least)
-one_execution found before r r' after after' (inr p) (inl q) = absurd (no_least found.faults p.fault q.valid p.is_least)
-one_execution found before r r' after after' (inr p) (inr q) =
+one_fault found before r r' after after' p q =
     let same : p.fault ≡ q.fault = some_same p.fault q.fault (sym p.is_least ∙ q.is_least) in
     (p.replies ∙ ap reply_to same ∙ sym q.replies, p.leaves ∙ sym q.leaves)
+
+-- what is done with a statement has one outcome
+abbrev pub IsOne : Doing → Type 0
+IsOne Does = (found : Noted BoundStatement) (at : Anchor) (before : Plain) (r r' : List ℕ) (after after' : Plain) → Does found at before r after → Does found at before r' after'
+    → (r ≡ r') × (after ≡ after')
+
+pub one_execution : IsOne Executes
+one_execution found at before r r' after after' (inl p) (inl q) = (p.replies ∙ sym q.replies, p.leaves ∙ sym q.leaves)
+one_execution found at before r r' after after' (inl p) (inr (inl q)) = absurd (both_runs found p.runs q.not_run)
+one_execution found at before r r' after after' (inl p) (inr (inr q)) = absurd (no_least found.faults q.fault p.valid q.is_least)
+one_execution found at before r r' after after' (inr (inl p)) (inl q) = absurd (both_runs found q.runs p.not_run)
+one_execution found at before r r' after after' (inr (inl p)) (inr (inl q)) = (p.replies ∙ sym q.replies, p.leaves ∙ sym q.leaves)
+one_execution found at before r r' after after' (inr (inl p)) (inr (inr q)) = absurd (no_least found.faults q.fault p.valid q.is_least)
+one_execution found at before r r' after after' (inr (inr p)) (inl q) = absurd (no_least found.faults p.fault q.valid p.is_least)
+one_execution found at before r r' after after' (inr (inr p)) (inr (inl q)) = absurd (no_least found.faults p.fault q.valid p.is_least)
+one_execution found at before r r' after after' (inr (inr p)) (inr (inr q)) = one_fault found before r r' after after' p q
+
+pub one_check : IsOne Checks
+one_check found at before r r' after after' (inl p) (inl q) = (p.replies ∙ sym q.replies, p.leaves ∙ sym q.leaves)
+one_check found at before r r' after after' (inl p) (inr q) = absurd (no_least found.faults q.fault p.valid q.is_least)
+one_check found at before r r' after after' (inr p) (inl q) = absurd (no_least found.faults p.fault q.valid p.is_least)
+one_check found at before r r' after after' (inr p) (inr q) = one_fault found before r r' after after' p q
 
 -- ---- what is read
 
@@ -68,36 +91,19 @@ one_unread t at before r r' to to' after after' p q =
 
 -- ---- the statement
 
--- a statement that is read, with what comes of it
-record IsRead (t : Lexing) (at : ℕ) (before : Plain) (reply : List ℕ) (to : ℕ) (after : Plain) : Type 0 where
-  tree : Stmt
-  reads : Reads t at tree to
-  executes : Executes (judged_statement tree before.catalog) before reply after
+module _ (Does : Doing) (one : IsOne Does) where
+  one_read : (t : Lexing) (at : ℕ) (before : Plain) (r r' : List ℕ) (to to' : ℕ) (after after' : Plain)
+      → IsRead Does t at before r to after → IsRead Does t at before r' to' after' → (r ≡ r') × (to ≡ to') × (after ≡ after')
+  one_read t at before r r' to to' after after' p q =
+      let same = one_tree t at p.tree q.tree to to' p.reads q.reads in
+      let there : Does (judged_statement q.tree before.catalog) (anchor_of q.tree) before r after =
+      subst (λ (tree : Stmt). Does (judged_statement tree before.catalog) (anchor_of tree) before r after) same.0 p.does in
+      let done = one (judged_statement q.tree before.catalog) (anchor_of q.tree) before r r' after after' there q.does in
+      (done.0, same.1, done.1)
 
-read_or_not : (t : Lexing) (at : ℕ) (before : Plain) (r : List ℕ) (to : ℕ) (after : Plain) → Statement t at before r to after
-    → IsRead t at before r to after ⊎ IsUnread t at before r to after
-read_or_not t at before r to after (inl p) = inl (record { tree = p.tree; reads = p.reads; executes = inl p.does })
-read_or_not t at before r to after (inr (inl p)) = inl (record { tree = p.tree; reads = p.reads; executes = inr p.fails })
-read_or_not t at before r to after (inr (inr p)) = inr p
-
-one_read : (t : Lexing) (at : ℕ) (before : Plain) (r r' : List ℕ) (to to' : ℕ) (after after' : Plain)
-    → IsRead t at before r to after → IsRead t at before r' to' after' → (r ≡ r') × (to ≡ to') × (after ≡ after')
-one_read t at before r r' to to' after after' p q =
-    let same = one_tree t at p.tree q.tree to to' p.reads q.reads in
-    let there : Executes (judged_statement q.tree before.catalog) before r after =
-    subst (λ (tree : Stmt). Executes (judged_statement tree before.catalog) before r after) same.0 p.executes in
-    let one = one_execution (judged_statement q.tree before.catalog) before r r' after after' there q.executes in
-    (one.0, same.1, one.1)
-
-one_of : (t : Lexing) (at : ℕ) (before : Plain) (r r' : List ℕ) (to to' : ℕ) (after after' : Plain)
-    → IsRead t at before r to after ⊎ IsUnread t at before r to after → IsRead t at before r' to' after' ⊎ IsUnread t at before r' to' after'
-    → (r ≡ r') × (to ≡ to') × (after ≡ after')
-one_of t at before r r' to to' after after' (inl p) (inl q) = one_read t at before r r' to to' after after' p q
-one_of t at before r r' to to' after after' (inl p) (inr q) = absurd (q.nothing p.tree to p.reads)
-one_of t at before r r' to to' after after' (inr p) (inl q) = absurd (p.nothing q.tree to' q.reads)
-one_of t at before r r' to to' after after' (inr p) (inr q) = one_unread t at before r r' to to' after after' p q
-
-pub Statement-one : (t : Lexing) (at : ℕ) (before : Plain) (r r' : List ℕ) (to to' : ℕ) (after after' : Plain)
-    → Statement t at before r to after → Statement t at before r' to' after' → (r ≡ r') × (to ≡ to') × (after ≡ after')
-Statement-one t at before r r' to to' after after' p q =
-    one_of t at before r r' to to' after after' (read_or_not t at before r to after p) (read_or_not t at before r' to' after' q)
+  pub Statement-one : (t : Lexing) (at : ℕ) (before : Plain) (r r' : List ℕ) (to to' : ℕ) (after after' : Plain)
+      → StatementBy Does t at before r to after → StatementBy Does t at before r' to' after' → (r ≡ r') × (to ≡ to') × (after ≡ after')
+  Statement-one t at before r r' to to' after after' (inl p) (inl q) = one_read t at before r r' to to' after after' p q
+  Statement-one t at before r r' to to' after after' (inl p) (inr q) = absurd (q.nothing p.tree to p.reads)
+  Statement-one t at before r r' to to' after after' (inr p) (inl q) = absurd (p.nothing q.tree to' q.reads)
+  Statement-one t at before r r' to to' after after' (inr p) (inr q) = one_unread t at before r r' to to' after after' p q

@@ -16,7 +16,7 @@ use Rattle.table_store.specs.Memory.{AllWellKept}
 use Rattle.table_store.proofs.Laws.{kept_fits}
 use Rattle.rel_algebra.specs.Joins.{columns_of, table_width}
 use Rattle.rel_algebra.specs.Theorem.{AllWide, Fits}
-use Rattle.catalog_store.specs.Catalog.{Object, TableObject, FunctionObject, Catalog, names_of, object_named}
+use Rattle.catalog_store.specs.Catalog.{Object, TableObject, FunctionObject, InterpretedObject, ProcedureObject, Catalog, names_of, object_named}
 use Rattle.catalog_store.specs.Widths.{object_width, width_in}
 use Rattle.psm_session.specs.Database.{Plain}
 use Rattle.psm_session.specs.Shapes.{Shape, shapes_of, shapes_in, with_shape_of, IsWhole}
@@ -80,6 +80,8 @@ no_width name (e ∷ es) h = behind e.object (no_width name es h.1)
     behind (TableObject row_type) more =
         ap (λ (b : Bool). if b then length row_type.columns else shape_width name (shapes_in es)) (nat_list_eq_equiv.symm e.name name ∙ h.0) ∙ more
     behind (FunctionObject f) more = more
+    behind (InterpretedObject f) more = more
+    behind (ProcedureObject f) more = more
 
 width_of_catalog : (name : List ℕ) (catalog : Catalog) → IsDistinct bytes_eq (names_of catalog) → width_in catalog name ≡ shape_width name (shapes_in catalog)
 unfolding IsDistinct
@@ -103,6 +105,8 @@ width_of_catalog name (e ∷ es) h = behind e.object (width_of_catalog name es h
         → object_width (if bytes_eq e.name name then Some o else object_named name es) ≡ shape_width name (with_shape_of e.name o (shapes_in es))
     behind (TableObject row_type) more = table row_type (bytes_eq e.name name) more
     behind (FunctionObject f) more = function (bytes_eq e.name name) (FunctionObject f) refl absent more
+    behind (InterpretedObject f) more = function (bytes_eq e.name name) (InterpretedObject f) refl absent more
+    behind (ProcedureObject f) more = function (bytes_eq e.name name) (ProcedureObject f) refl absent more
 
 -- of a table of the database the catalog says how many columns it has
 pub widths_agree : (db : Plain) → IsWhole db → IsDistinct bytes_eq (names_of db.catalog) → (name : List ℕ) → width_in db.catalog name ≡ table_width db.tables name

@@ -6,13 +6,13 @@ use Rattle.std.specs.Prelude.{ℕ, List, [], ◌∷◌, ◌++◌, Some, None}
 use Rattle.row_types.specs.Tables.{Tables, without_table_named}
 use Rattle.rel_algebra.specs.World.{World, Ends, Gives, Raises, RunsOut}
 use Rattle.rel_algebra.specs.Meaning.{ask}
-use Rattle.catalog_store.specs.Catalog.{Entry, Object, TableObject, FunctionObject}
+use Rattle.catalog_store.specs.Catalog.{Entry, Object, TableObject, FunctionObject, InterpretedObject, ProcedureObject}
 use Rattle.catalog_store.specs.Entries.{entry_of}
 use Rattle.catalog_store.specs.Users.{without}
 use Rattle.catalog_store.specs.View.{query_of}
 use Rattle.data_change.specs.Writing.{insert, update, delete}
-use Rattle.psm_names.specs.declared.bound.BoundStmt.{BoundStmt}
-use Rattle.psm_names.specs.declared.bound.BoundStmt.TheVariants.{Create, Drop, Insert, Update, Delete, Query}
+use Rattle.psm_names.specs.declared.bound.Bound.{Bound}
+use Rattle.psm_names.specs.declared.bound.Bound.TheVariants.{Create, Drop, Insert, Update, Delete, Query, Explain, Routine}
 use Rattle.reply_text.specs.Texts.{rows_text, done_text, area_text, spent_text}
 use Rattle.psm_session.specs.declared.budget.TheConstants.{DEFAULT_BUDGET}
 use Rattle.psm_session.specs.Database.{Plain, with_tables}
@@ -29,6 +29,8 @@ world_of tables = record { tables = tables; turns = DEFAULT_BUDGET; active = 0 }
 abbrev pub with_table_of : List ℕ → Object → Tables → Tables
 with_table_of name (TableObject row_type) tables = tables ++ record { name = name; table = record { columns = row_type.columns; key = row_type.key; rows = [] } } ∷ []
 with_table_of name (FunctionObject f) tables = tables
+with_table_of name (InterpretedObject f) tables = tables
+with_table_of name (ProcedureObject p) tables = tables
 
 -- a new entry of the catalog, with its table where it has one
 abbrev pub created : Entry → Plain → Effect
@@ -55,10 +57,23 @@ replied text db (RunsOut w) = record { reply = spent_text; after = db }
 abbrev pub changed_text : ℕ → List ℕ
 changed_text count = done_text [] (Some count)
 
-abbrev pub effect : BoundStmt → Plain → Effect
+-- what is bound alone leaves the database
+abbrev pub bound_alone : Plain → Effect
+bound_alone db = record { reply = done_text [] None; after = db }
+
+-- EXPLAIN, CALL and compound statements are not run yet
+abbrev pub effect : Bound → Plain → Effect
 effect (Create name object) db = created (entry_of db.catalog name object) db
 effect (Drop name) db = dropped name db
 effect (Insert s listed) db = replied changed_text db (insert s.table listed (query_of db.catalog s.source) (world_of db.tables))
 effect (Update s) db = replied changed_text db (update s.table s.targets (query_of db.catalog s.rows) (world_of db.tables))
 effect (Delete s) db = replied changed_text db (delete s.table (query_of db.catalog s.rows) (world_of db.tables))
 effect (Query query) db = replied rows_text db (ask (query_of db.catalog query) (world_of db.tables))
+effect (Explain query) db = bound_alone db
+effect (Routine stmt) db = bound_alone db
+
+-- where statements are checked alone definitions are carried out, and all else is bound
+abbrev pub checked : Bound → Plain → Effect
+checked (Create name object) db = created (entry_of db.catalog name object) db
+checked (Drop name) db = dropped name db
+checked _ db = bound_alone db

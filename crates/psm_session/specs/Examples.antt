@@ -10,6 +10,7 @@ use Rattle.row_types.specs.Tables.{Tables}
 use Rattle.rel_algebra.specs.Tree.{Function, Literal}
 use Rattle.rel_algebra.specs.World.{Gives, Raises, RunsOut}
 use Rattle.catalog_store.specs.Catalog.{Entry, TableObject, FunctionObject}
+use Rattle.catalog_store.specs.declared.entry.DataAccess.TheVariants.{ContainsSql}
 use Rattle.psm_session.specs.Database.{Plain, empty}
 use Rattle.psm_session.specs.Effects.{created, dropped, replied, changed_text, world_of}
 use Rattle.psm_session.specs.Shapes.{IsWhole}
@@ -24,7 +25,7 @@ table_entry = record { name = codes "T"; object = TableObject one_column }
 abbrev function_entry : Entry
 function_entry = record {
   name = codes "F";
-  object = FunctionObject (record { parameters = []; returns = Integer; height = 1; uses = []; routine = Function false [] Integer (Literal Null) });
+  object = FunctionObject (record { parameters = []; returns = Integer; access = ContainsSql; height = 1; uses = []; routine = Function false [] Integer (Literal Null) });
 }
 
 -- the table T, empty

@@ -3,7 +3,7 @@
 use Rattle.std.specs.Prelude.{ℕ, ◌≡◌, List, [], ◌∷◌, map}
 use Rattle.row_types.specs.declared.RowType.{RowType}
 use Rattle.row_types.specs.Tables.{Stored, Table, Tables}
-use Rattle.catalog_store.specs.Catalog.{Object, TableObject, FunctionObject, Catalog}
+use Rattle.catalog_store.specs.Catalog.{Object, TableObject, FunctionObject, InterpretedObject, ProcedureObject, Catalog}
 use Rattle.psm_session.specs.Database.{Plain}
 
 -- a table without its rows: its name, its columns and its key
@@ -25,6 +25,8 @@ shapes_of tables = map shape_of tables
 abbrev pub with_shape_of : List ℕ → Object → List Shape → List Shape
 with_shape_of name (TableObject row_type) shapes = record { name = name; row_type = row_type } ∷ shapes
 with_shape_of name (FunctionObject f) shapes = shapes
+with_shape_of name (InterpretedObject f) shapes = shapes
+with_shape_of name (ProcedureObject p) shapes = shapes
 
 abbrev pub shapes_in : Catalog → List Shape
 shapes_in [] = []

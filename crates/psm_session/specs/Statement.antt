@@ -5,12 +5,15 @@ use Rattle.sql_lex.specs.Openings.{place_at}
 use Rattle.statement_trees.specs.declared.statement.Stmt.{Stmt}
 use Rattle.token_grammar.specs.Statement.{SpellsWithin, ReadsNothing, IsStuck, IsTooDeep, most_open}
 use Rattle.sql_grammar.specs.Sql.{rules, statement}
-use Rattle.psm_names.specs.Statements.{judged_statement}
+use Rattle.syntax_trees.specs.declared.anchor.Anchor.{Anchor}
+use Rattle.name_faults.specs.Faults.{Noted}
+use Rattle.psm_names.specs.declared.bound.BoundStatement.{BoundStatement}
+use Rattle.psm_names.specs.Statements.{judged_statement, anchor_of}
 use Rattle.reply_text.specs.declared.fault.FaultText.{FaultText}
 use Rattle.reply_text.specs.declared.fault.FaultText.TheVariants.{Syntax, TooDeep}
 use Rattle.reply_text.specs.Texts.{fault_text}
 use Rattle.psm_session.specs.Database.{Plain}
-use Rattle.psm_session.specs.Executing.{HasEffect, HasFault}
+use Rattle.psm_session.specs.Executing.{Executes, Checks}
 
 -- the tree is spelled by the tokens from one up to another, with its `;` last
 abbrev pub Reads : Lexing → ℕ → Stmt → ℕ → Type 0
@@ -22,17 +25,15 @@ abbrev pub Stops : Lexing → ℕ → FaultText → ℕ → Type 0
 Stops lexing at why place = ((why ≡ Syntax) × IsStuck rules most_open statement lexing.tokens at place)
     ⊎ ((why ≡ TooDeep) × IsTooDeep rules most_open statement lexing.tokens at place)
 
--- a valid statement stands there, and is done
-pub record IsDone (lexing : Lexing) (at : ℕ) (before : Plain) (reply : List ℕ) (to : ℕ) (after : Plain) : Type 0 where
-  pub tree : Stmt
-  pub reads : Reads lexing at tree to
-  pub does : HasEffect (judged_statement tree before.catalog) before reply after
+-- what is done with a statement that was read, by what was found in it and its anchor
+abbrev pub Doing : Type 1
+Doing = Noted BoundStatement → Anchor → Plain → List ℕ → Plain → Type 0
 
--- a statement with faults stands there: the script goes on after it
-pub record IsFaulty (lexing : Lexing) (at : ℕ) (before : Plain) (reply : List ℕ) (to : ℕ) (after : Plain) : Type 0 where
+-- a statement stands there, and is done: the script goes on after it
+pub record IsRead (Does : Doing) (lexing : Lexing) (at : ℕ) (before : Plain) (reply : List ℕ) (to : ℕ) (after : Plain) : Type 0 where
   pub tree : Stmt
   pub reads : Reads lexing at tree to
-  pub fails : HasFault (judged_statement tree before.catalog) before reply after
+  pub does : Does (judged_statement tree before.catalog) (anchor_of tree) before reply after
 
 -- No statement stands there. The reply says why, with the place up to which one begins; nothing
 -- changes, and the script ends.
@@ -46,6 +47,13 @@ pub record IsUnread (lexing : Lexing) (at : ℕ) (before : Plain) (reply : List 
   pub leaves : after ≡ before
 
 -- the statement at a token
+abbrev pub StatementBy : Doing → Lexing → ℕ → Plain → List ℕ → ℕ → Plain → Type 0
+StatementBy Does lexing at before reply to after = IsRead Does lexing at before reply to after ⊎ IsUnread lexing at before reply to after
+
+-- where statements are run
 abbrev pub Statement : Lexing → ℕ → Plain → List ℕ → ℕ → Plain → Type 0
-Statement lexing at before reply to after = IsDone lexing at before reply to after
-    ⊎ (IsFaulty lexing at before reply to after ⊎ IsUnread lexing at before reply to after)
+Statement = StatementBy Executes
+
+-- where they are checked alone
+abbrev pub Checked : Lexing → ℕ → Plain → List ℕ → ℕ → Plain → Type 0
+Checked = StatementBy Checks

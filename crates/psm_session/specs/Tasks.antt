@@ -11,8 +11,8 @@ use Rattle.catalog_store.specs.View.{query_of}
 use Rattle.data_change.specs.Writing.{stored_in, changed, removed}
 use Rattle.row_changes.specs.Met.{MetInOrder}
 use Rattle.psm_names.specs.Binds.{StatementFits}
-use Rattle.psm_names.specs.declared.bound.BoundStmt.{BoundStmt}
-use Rattle.psm_names.specs.declared.bound.BoundStmt.TheVariants as bound
+use Rattle.psm_names.specs.declared.bound.Bound.{Bound}
+use Rattle.psm_names.specs.declared.bound.Bound.TheVariants as bound
 use Rattle.psm_session.specs.declared.change.Change.{Change}
 use Rattle.psm_session.specs.declared.change.Change.TheVariants.{Insert, Update, Delete}
 use Rattle.psm_session.specs.declared.world.Task.{Task}
@@ -45,7 +45,7 @@ Takes (Update update) tables rows = MetInOrder tables update.now.table rows
 Takes (Delete delete) tables rows = MetInOrder tables delete.now.table rows
 
 -- the statement whose change it is
-abbrev pub change_statement : Change → BoundStmt
+abbrev pub change_statement : Change → Bound
 change_statement (Insert insert listed) = bound.Insert insert.now listed.now
 change_statement (Update update) = bound.Update update.now
 change_statement (Delete delete) = bound.Delete delete.now

@@ -13,11 +13,10 @@ ghost use Rattle.psm_session.specs.Tasks.{rows_query, made, change_of, change_st
 
 use crate::conclude::{conclude, stop_reply};
 use crate::planned::planned_answer;
-use bound_trees::{BoundInsert, BoundQuery};
+use bound_trees::{BoundDelete, BoundInsert, BoundQuery, BoundUpdate};
 use catalog_store::Catalog;
 use expr_interp::{Stop, World};
 use plan_exec::Answer;
-use psm_names::{BoundDelete, BoundUpdate};
 use reply_text::{Reply, done_reply};
 use row_changes::{change_rows, remove_rows, store_rows};
 use row_types::{RowList, Steps};

@@ -34,7 +34,7 @@ fn add_table(
             let row_type = row_type.copied(alloc)?;
             tables.add_table(name.copied()?, Table::new(alloc, row_type))
         }
-        Object::Function(_) => Ok(()),
+        Object::Function(_) | Object::Interpreted(_) | Object::Procedure(_) => Ok(()),
     }
 }
 

@@ -8,27 +8,30 @@ ghost use Rattle.rel_algebra.specs.Joins.{table_width};
 ghost use Rattle.rel_algebra.specs.Lasting.{QueryLasts};
 ghost use Rattle.rel_algebra.specs.Plain.{planned};
 ghost use Rattle.catalog_store.specs.View.{query_of};
-ghost use Rattle.psm_names.specs.Statements.{judged_statement};
+ghost use Rattle.psm_names.specs.Statements.{judged_statement, anchor_of};
 ghost use Rattle.psm_session.specs.Answering.{ends_with, HasValues};
-ghost use Rattle.psm_session.specs.Executing.{Executes};
+ghost use Rattle.psm_session.specs.Executing.{Executes, Checks, reply_to, refusal};
 ghost use Rattle.psm_session.specs.Preparing.{IsPrepared, plan_in, most_steps};
 
-#[cfg(test)]
-mod tests;
+// Databases are tested through the program: the tests of `psm_cli` run scripts with every kind of
+// statement.
 
-use crate::effect::run_bound;
+use crate::effect::{check_bound, run_bound};
 use crate::prepared::{Prepared, prepare_query, run_plan};
 use bound_trees::BoundQuery;
 use catalog_store::Catalog;
+use name_faults::{Fault, FaultKind};
 use plan_exec::Answer;
-use psm_names::{NameFault, bind_statement};
+use psm_names::{NameFault, anchor_of, bind_statement};
 use reply_text::{FaultText, Reply, fault_reply};
 use row_types::Steps;
 use sql_values::NoMemory;
 use statement_trees::Stmt;
 use std::alloc::Global;
 use std::marker::Model;
+use std::mem::drop;
 use std::sync::ledger::Ledger;
+use syntax_trees::Anchor;
 use table_store::Tables;
 
 /// A catalog, and the tables that it names, each with the columns and the key that it says, in its
@@ -54,6 +57,22 @@ impl Model for Database {
     ghost view = { λ d. database d.catalog d.tables };
 
     ghost invariant = { λ d. IsWhole (database d.catalog d.tables) };
+}
+
+// The reply to a fault.
+fn name_fault(alloc: Global, fault: Fault) -> Result<Reply, NoMemory>
+    ensures { IfOk result (λ r. r ≡ reply_to fault) }
+{
+    let text = FaultText::Name(fault.kind);
+    fault_reply(alloc, text, fault.at.line, fault.at.column)
+}
+
+// The reply to a statement of a form that is not run.
+fn refuse(alloc: Global, at: Anchor) -> Result<Reply, NoMemory>
+    ensures { IfOk result (λ r. r ≡ refusal at) }
+{
+    let kind = FaultKind::NotPermitted;
+    name_fault(alloc, Fault { at, kind })
 }
 
 impl Database {
@@ -97,19 +116,38 @@ impl Database {
     }
 
     /// Does a statement, and answers its reply. A statement with faults in this catalog changes
-    /// nothing, and its reply is the least of them. Without memory nothing changes either.
+    /// nothing, and its reply is the least of them; one of a form that is not run changes nothing,
+    /// and its reply says so at its anchor. Without memory nothing changes either.
     pub fn exec_statement(&mut self, stmt: &Stmt) -> Result<Reply, NoMemory>
-        ensures ok { IfOk result (λ reply. Executes (judged_statement stmt.now self.old.catalog) self.old reply self.new) }
+        ensures ok { IfOk result (λ reply. Executes (judged_statement stmt.now self.old.catalog) (anchor_of stmt.now) self.old reply self.new) }
         ensures err { OnErr result (self.new ≡ self.old) }
     {
         match bind_statement(self.alloc, stmt, &self.catalog) {
-            Ok(bound) => run_bound(self.alloc, bound, &mut self.catalog, &mut self.tables),
-            Err(NameFault::Fault(fault)) => fault_reply(
-                self.alloc,
-                FaultText::Name(fault.kind),
-                fault.at.line,
-                fault.at.column,
-            ),
+            Ok(found) => {
+                if found.runs {
+                    run_bound(self.alloc, found.bound, &mut self.catalog, &mut self.tables)
+                } else {
+                    drop(found);
+                    refuse(self.alloc, anchor_of(stmt))
+                }
+            }
+            Err(NameFault::Fault(fault)) => name_fault(self.alloc, fault),
+            Err(NameFault::NoMemory) => Err(NoMemory),
+        }
+    }
+
+    /// Checks a statement, and answers its reply: the least of its faults in this catalog, where it
+    /// has any, and nothing changes. Else a definition is carried out, whatever its form, and any
+    /// other statement is bound alone. Without memory nothing changes.
+    pub fn check_statement(&mut self, stmt: &Stmt) -> Result<Reply, NoMemory>
+        ensures ok { IfOk result (λ reply. Checks (judged_statement stmt.now self.old.catalog) (anchor_of stmt.now) self.old reply self.new) }
+        ensures err { OnErr result (self.new ≡ self.old) }
+    {
+        match bind_statement(self.alloc, stmt, &self.catalog) {
+            Ok(found) => {
+                check_bound(self.alloc, found.bound, &mut self.catalog, &mut self.tables)
+            }
+            Err(NameFault::Fault(fault)) => name_fault(self.alloc, fault),
             Err(NameFault::NoMemory) => Err(NoMemory),
         }
     }

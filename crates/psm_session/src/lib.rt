@@ -15,7 +15,7 @@ mod world;
 
 pub use budget::DEFAULT_BUDGET;
 pub use database::Database;
-pub use next::run_next;
+pub use next::{check_next, run_next};
 pub use plan_exec::Answer;
 pub use prepared::Prepared;
 pub use reply_text::Reply;

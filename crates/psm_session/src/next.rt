@@ -3,7 +3,7 @@
 ghost use Rattle.std.specs.Prelude.{◌≡◌, ◌<◌, ◌≤◌, length, IfOk, OnErr};
 ghost use Rattle.sql_lex.specs.Openings.{place_at};
 ghost use Rattle.reply_text.specs.Texts.{fault_text};
-ghost use Rattle.psm_session.specs.Statement.{Statement};
+ghost use Rattle.psm_session.specs.Statement.{Statement, Checked};
 
 use crate::Database;
 use psm_parse::parse_statement;
@@ -51,6 +51,32 @@ pub fn run_next(
             let reply = db.exec_statement(&stmt);
             drop(stmt);
             Ok((reply?, next))
+        }
+        Err(ParseFault::NoMemory) => Err(NoMemory),
+        Err(ParseFault::NoStatement(stop)) => unread(alloc, tokens, FaultText::Syntax, stop),
+        Err(ParseFault::TooDeep(stop)) => unread(alloc, tokens, FaultText::TooDeep, stop),
+    }
+}
+
+/// Checks the statement at a token alone: its reply, and the token at which the next one begins, as
+/// `run_next` has them. Definitions are carried out, and all other statements are read and bound.
+/// Without memory nothing changes.
+pub fn check_next(
+    alloc: Global,
+    tokens: &Tokens,
+    at: usize,
+    db: &mut Database,
+) -> Result<(Reply, usize), NoMemory>
+    requires { at < length tokens.now.tokens }
+    ensures ok { IfOk result (λ r. Checked tokens.now at db.old r.0 r.1 db.new) }
+    ensures goes { IfOk result (λ r. (at < r.1) × (r.1 ≤ length tokens.now.tokens)) }
+    ensures err { OnErr result (db.new ≡ db.old) }
+{
+    match parse_statement(alloc, tokens, at) {
+        Ok((stmt, next)) => {
+            let checked = db.check_statement(&stmt);
+            drop(stmt);
+            Ok((checked?, next))
         }
         Err(ParseFault::NoMemory) => Err(NoMemory),
         Err(ParseFault::NoStatement(stop)) => unread(alloc, tokens, FaultText::Syntax, stop),

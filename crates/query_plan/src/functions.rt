@@ -39,7 +39,7 @@ pub fn plan_function(
     Ok(FunctionPlan { nodes, scalar })
 }
 
-/// An object as a catalog takes it: a function has its plan.
+/// An object as a catalog takes it: a function that is planned has its plan.
 pub fn with_plan(alloc: Global, object: Object, catalog: &Catalog) -> Result<Object, NoMemory>
     ensures same { IfOk result (λ o. (known : PlainCatalog) → object_of known o ≡ object_of known object) }
     ensures fits { IfOk result (λ o. ObjectFits catalog.now object → ObjectFits catalog.now o) }
@@ -51,6 +51,8 @@ pub fn with_plan(alloc: Global, object: Object, catalog: &Catalog) -> Result<Obj
             let planned = routine_with_plan(alloc, routine, catalog)?;
             Ok(Object::Function(planned))
         }
+        Object::Interpreted(function) => Ok(Object::Interpreted(function)),
+        Object::Procedure(procedure) => Ok(Object::Procedure(procedure)),
     }
 }
 

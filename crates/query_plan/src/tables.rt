@@ -67,6 +67,8 @@ fn table_width(name: &Name, catalog: &Catalog) -> usize
     match catalog.get(name) {
         Some(Object::Table(row_type)) => row_type.columns.len(),
         Some(Object::Function(_)) => 0,
+        Some(Object::Interpreted(_)) => 0,
+        Some(Object::Procedure(_)) => 0,
         None => 0,
     }
 }

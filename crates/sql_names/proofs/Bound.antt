@@ -1,7 +1,6 @@
 -- What each kind of bound tree uses, and when it has a plan, of its parts.
-use Rattle.std.proofs.Common.{◌≡◌, refl, sym, ap, ap₂, ◌∙◌, subst, ℕ, suc, Bool, true, false, not, ◌&&◌, List, [], ◌∷◌, ◌++◌, append_assoc, if◌then◌else◌, map, length, Option, Some, None}
+use Rattle.std.proofs.Common.{◌≡◌, refl, sym, ap, ap₂, ◌∙◌, ℕ, Bool, true, false, List, [], ◌∷◌, ◌++◌, if◌then◌else◌, map, length}
 use Rattle.std.proofs.lemmas.Bool.{and_parts, and_from}
-use Rattle.std.proofs.lemmas.List.{append-nil}
 use Rattle.sql_values.specs.declared.value.Value.{Value}
 use Rattle.sql_values.specs.declared.value.Value.TheVariants.{Null}
 use Rattle.syntax_trees.specs.declared.expr.ChainOperator.{ChainOperator}
@@ -11,21 +10,19 @@ use Rattle.syntax_trees.specs.declared.expr.Operation.TheVariants.{Plus, Minus, 
 use Rattle.bound_trees.specs.Operands.{takes}
 use Rattle.bound_trees.specs.declared.expr.BoundExpr.{BoundExpr}
 use Rattle.bound_trees.specs.declared.expr.BoundExpr.TheVariants as bound
-use Rattle.bound_trees.specs.declared.expr.BoundLink.{BoundLink}
 use Rattle.bound_trees.specs.declared.expr.BoundOperation.{BoundOperation}
 use Rattle.bound_trees.specs.declared.expr.BoundOperation.TheVariants as word
 use Rattle.bound_trees.specs.declared.query.BoundQuery.{BoundQuery}
-use Rattle.rel_algebra.specs.Tree.{Expr, Exprs, Literal, NoExpr, MoreExprs}
+use Rattle.rel_algebra.specs.Tree.{Expr, Literal}
 use Rattle.rel_algebra.specs.Plain.{planned, planned_expr, planned_all, planned_links, planned_routine}
-use Rattle.catalog_store.specs.Catalog.{Function, Catalog, routine_named}
-use Rattle.catalog_store.specs.Planning.{AllPlanned}
+use Rattle.catalog_store.specs.Catalog.{routine_named}
 use Rattle.catalog_store.specs.Uses.{Uses, calls, joined, uses_in, uses_in_link, uses_in_query}
 use Rattle.catalog_store.specs.View.{Link, Standing, over_all, as_and, as_or, as_coalesce, as_case, as_case_of, standing, stood, case_of, operated, exprs, tree_of, link_of, exprs_of, links_of, query_of}
 use Rattle.catalog_store.proofs.Laws.{uses_in-Literal, uses_in-Column, uses_in-Variable, uses_in-Operation, uses_in-Chain, uses_in-Call, uses_in-Single, uses_in-Exists, uses_in-In, link_uses-at, link_of-at, tree_of-Literal, tree_of-Column, tree_of-Variable, tree_of-Operation, tree_of-Chain, tree_of-Call, tree_of-Single, tree_of-Exists, tree_of-In}
 use Rattle.name_kinds.specs.Types.{type_of}
 use Rattle.name_kinds.specs.Words.{word_of_test, tree_of as word_tree, opposite, operator_in, link_of as link_made, links_of as links_made, chain_of}
 use Rattle.typed_parts.specs.Subqueries.{if_negated}
-use Rattle.sql_names.proofs.Marks.{Mark, nothing, ◌⊕◌, mark, marks, Covers, Alike, alike-same, alike-is, alike-then, marks-one, covers-nothing, covers-as}
+use Rattle.sql_names.proofs.Marks.{Known, Mark, nothing, ◌⊕◌, mark, marks, Covers, Alike, alike-same, alike-is, alike-then, marks-one, covers-nothing, covers-as}
 
 -- ---- words
 
@@ -50,7 +47,7 @@ chosen false e p = refl
 operated-planned : (w : BoundOperation) (es : List Expr) → planned_all (exprs es) ≡ true → planned_expr (operated w es) ≡ true
 operated-planned w es p = chosen (takes w (length es)) (stood (standing w) es) (stood-planned (standing w) es p)
 
-module _ (known : Catalog) where
+module _ (known : Known) where
   abbrev M : BoundExpr → Mark
   M = mark known
 
@@ -58,22 +55,22 @@ module _ (known : Catalog) where
   MS = marks known
 
   -- a tree that uses nothing and has a plan
-  plain-covers : (e : BoundExpr) → uses_in e ≡ [] → planned_expr (tree_of known e) ≡ true → Covers known [] (M e)
+  plain-covers : (e : BoundExpr) → uses_in e ≡ [] → planned_expr (tree_of known.catalog e) ≡ true → Covers known [] (M e)
   plain-covers e u p = covers-as known [] nothing (M e) (covers-nothing known) (alike-same known nothing (M e) u (λ q. p))
 
   pub literal-covers : (v : Value) → Covers known [] (M (bound.Literal v))
-  literal-covers v = plain-covers (bound.Literal v) (uses_in-Literal v) (ap planned_expr (tree_of-Literal known v))
+  literal-covers v = plain-covers (bound.Literal v) (uses_in-Literal v) (ap planned_expr (tree_of-Literal known.catalog v))
 
   pub column-covers : (level place : ℕ) → Covers known [] (M (bound.Column level place))
-  column-covers level place = plain-covers (bound.Column level place) (uses_in-Column level place) (ap planned_expr (tree_of-Column known level place))
+  column-covers level place = plain-covers (bound.Column level place) (uses_in-Column level place) (ap planned_expr (tree_of-Column known.catalog level place))
 
   pub variable-covers : (place : ℕ) → Covers known [] (M (bound.Variable place))
-  variable-covers place = plain-covers (bound.Variable place) (uses_in-Variable place) (ap planned_expr (tree_of-Variable known place))
+  variable-covers place = plain-covers (bound.Variable place) (uses_in-Variable place) (ap planned_expr (tree_of-Variable known.catalog place))
 
   alike-word : (w : BoundOperation) (es : List BoundExpr) → Alike known (MS es) (M (bound.Operation w es))
   alike-word w es =
       alike-same known (MS es) (M (bound.Operation w es)) (uses_in-Operation w es)
-      (λ p. ap planned_expr (tree_of-Operation known w es) ∙ operated-planned w (map (tree_of known) es) p)
+      (λ p. ap planned_expr (tree_of-Operation known.catalog w es) ∙ operated-planned w (map (tree_of known.catalog) es) p)
 
   alike-opposite : (e : BoundExpr) → Alike known (M e) (M (opposite e))
   alike-opposite e = alike-then known (M e) (MS (e ∷ [])) (M (opposite e)) (alike-is known (M e) (MS (e ∷ [])) (marks-one known e)) (alike-word word.Opposite (e ∷ []))
@@ -109,14 +106,14 @@ module _ (known : Catalog) where
   links-uses (o ∷ os) (e ∷ es) h =
       ap₂ (λ (x xs : Uses). x ++ xs) (link_uses-at (record { operator = operator_in o; operand = e })) (links-uses os es cc)
 
-  links-planned : (os : List ChainOperator) (es : List BoundExpr) → planned_all (exprs_of known es) ≡ true → planned_links (links_of known (links_made os es)) ≡ true
+  links-planned : (os : List ChainOperator) (es : List BoundExpr) → planned_all (exprs_of known.catalog es) ≡ true → planned_links (links_of known.catalog (links_made os es)) ≡ true
   links-planned [] es p = refl
   links-planned (o ∷ os) [] p = refl
   links-planned (o ∷ os) (e ∷ es) p =
-      let both = and_parts (planned_expr (tree_of known e)) (planned_all (exprs_of known es)) p in
-      let one : planned_expr (link_of known (link_made (operator_in o) e)).operand ≡ true =
-      ap (λ (l : Link). planned_expr l.operand) (link_of-at known (record { operator = operator_in o; operand = e })) ∙ both.0 in
-      and_from (planned_expr (link_of known (link_made (operator_in o) e)).operand) (planned_links (links_of known (links_made os es))) one (links-planned os es both.1)
+      let both = and_parts (planned_expr (tree_of known.catalog e)) (planned_all (exprs_of known.catalog es)) p in
+      let one : planned_expr (link_of known.catalog (link_made (operator_in o) e)).operand ≡ true =
+      ap (λ (l : Link). planned_expr l.operand) (link_of-at known.catalog (record { operator = operator_in o; operand = e })) ∙ both.0 in
+      and_from (planned_expr (link_of known.catalog (link_made (operator_in o) e)).operand) (planned_links (links_of known.catalog (links_made os es))) one (links-planned os es both.1)
 
   pub alike-chain : (first : BoundExpr) (os : List ChainOperator) (es : List BoundExpr) → length os ≡ length es → Alike known (M first ⊕ MS es) (M (chain_of first os es))
   alike-chain first [] [] h = alike-is known (M first ⊕ MS []) (M first) (sym (marks-one known first))
@@ -129,32 +126,32 @@ module _ (known : Catalog) where
       (uses_in-Chain first links ∙ ap (λ z. uses_in first ++ z) (links-uses (chain.Value operator ∷ os) es h))
       (λ p.
       let both = and_parts (M first).planned (MS es).planned p in
-      ap planned_expr (tree_of-Chain known first links)
-      ∙ and_from (M first).planned (planned_links (links_of known links)) both.0 (links-planned (chain.Value operator ∷ os) es both.1))
+      ap planned_expr (tree_of-Chain known.catalog first links)
+      ∙ and_from (M first).planned (planned_links (links_of known.catalog links)) both.0 (links-planned (chain.Value operator ∷ os) es both.1))
 
   -- ---- calls
 
   abbrev pub call-mark : List ℕ → ℕ → Mark
-  call-mark name arguments = record { uses = calls name arguments ∷ []; planned = planned_routine (routine_named name known) }
+  call-mark name arguments = record { uses = calls name arguments ∷ []; planned = planned_routine (routine_named name known.catalog) }
 
   pub alike-call : (name : List ℕ) (es : List BoundExpr) → Alike known (call-mark name (length (map uses_in es)) ⊕ MS es) (M (bound.Call name es))
   alike-call name es =
       alike-same known (call-mark name (length (map uses_in es)) ⊕ MS es) (M (bound.Call name es)) (uses_in-Call name es)
-      (λ p. ap planned_expr (tree_of-Call known name es) ∙ p)
+      (λ p. ap planned_expr (tree_of-Call known.catalog name es) ∙ p)
 
   -- ---- subqueries
 
   abbrev pub query-mark : BoundQuery → Mark
-  query-mark q = record { uses = uses_in_query q; planned = planned (query_of known q) }
+  query-mark q = record { uses = uses_in_query q; planned = planned (query_of known.catalog q) }
 
   pub alike-single : (q : BoundQuery) → Alike known (query-mark q) (M (bound.Single q))
-  alike-single q = alike-same known (query-mark q) (M (bound.Single q)) (uses_in-Single q) (λ p. ap planned_expr (tree_of-Single known q) ∙ p)
+  alike-single q = alike-same known (query-mark q) (M (bound.Single q)) (uses_in-Single q) (λ p. ap planned_expr (tree_of-Single known.catalog q) ∙ p)
 
   pub alike-exists : (q : BoundQuery) → Alike known (query-mark q) (M (bound.Exists q))
-  alike-exists q = alike-same known (query-mark q) (M (bound.Exists q)) (uses_in-Exists q) (λ p. ap planned_expr (tree_of-Exists known q) ∙ p)
+  alike-exists q = alike-same known (query-mark q) (M (bound.Exists q)) (uses_in-Exists q) (λ p. ap planned_expr (tree_of-Exists known.catalog q) ∙ p)
 
   alike-in : (e : BoundExpr) (q : BoundQuery) → Alike known (M e ⊕ query-mark q) (M (bound.In e q))
-  alike-in e q = alike-same known (M e ⊕ query-mark q) (M (bound.In e q)) (uses_in-In e q) (λ p. ap planned_expr (tree_of-In known e q) ∙ p)
+  alike-in e q = alike-same known (M e ⊕ query-mark q) (M (bound.In e q)) (uses_in-In e q) (λ p. ap planned_expr (tree_of-In known.catalog e q) ∙ p)
 
   pub alike-member : (negated : Bool) (e : BoundExpr) (q : BoundQuery) → Alike known (M e ⊕ query-mark q) (M (if_negated negated (bound.In e q)))
   alike-member false e q = alike-in e q

@@ -1,20 +1,14 @@
 -- Clauses of queries without faults: what is noted is what they use, and they have plans.
-use Rattle.std.proofs.Common.{◌≡◌, refl, sym, ap, ap₂, ◌∙◌, subst, ℕ, ◌-◌, Bool, true, false, ◌||◌, List, [], ◌∷◌, ◌++◌, append_assoc, map, length, Option, Some, None}
-use Rattle.std.specs.Prelude.{is_some}
-use Rattle.std.specs.List.{list_any}
-use Rattle.std.proofs.lemmas.Bool.{or_parts}
+use Rattle.std.proofs.Common.{◌≡◌, refl, sym, ap, ap₂, ◌∙◌, ◌-◌, false, List, [], ◌∷◌, ◌++◌, append_assoc, Option, Some, None}
 use Rattle.std.proofs.lemmas.List.{append-nil}
 use Rattle.syntax_trees.specs.Columns.{anchor_of_column}
 use Rattle.syntax_trees.specs.declared.anchor.Anchor.{Anchor}
 use Rattle.syntax_trees.specs.declared.anchor.ColumnName.{ColumnName}
 use Rattle.syntax_trees.specs.declared.anchor.Ident.{Ident}
 use Rattle.bound_trees.specs.declared.expr.BoundExpr.{BoundExpr}
-use Rattle.catalog_store.specs.Catalog.{Catalog}
 use Rattle.catalog_store.specs.Planning.{AllPlanned}
-use Rattle.name_faults.specs.Faults.{Noted}
-use Rattle.name_kinds.specs.declared.kind.Kind.{Kind}
 use Rattle.name_kinds.specs.declared.kind.Kind.TheVariants.{Boolean}
-use Rattle.name_kinds.specs.Kinds.{misfit, in_turn}
+use Rattle.name_kinds.specs.Kinds.{misfit}
 use Rattle.name_kinds.specs.Conjuncts.{conjuncts_of}
 use Rattle.names_in_sight.specs.declared.item.Item.{Item}
 use Rattle.names_in_sight.specs.declared.output.Output.{Output}
@@ -23,17 +17,17 @@ use Rattle.typed_parts.specs.declared.aggregates.Parts.{Parts}
 use Rattle.typed_parts.specs.declared.grouping.Grouping.{Grouping}
 use Rattle.typed_parts.specs.declared.list.Outputs.{Outputs}
 use Rattle.typed_parts.specs.Typed.{no_parts, named}
-use Rattle.typed_parts.specs.Lists.{Placed, placed, next, star, star_items, star_item, star_column, no_outputs}
-use Rattle.typed_parts.specs.Grouping.{one_key, grouping_of, no_grouping}
+use Rattle.typed_parts.specs.Lists.{Placed, placed, star, star_items, star_item, star_column}
+use Rattle.typed_parts.specs.Grouping.{one_key}
 use Rattle.typed_parts.specs.Turns.{each_noted}
 use Rattle.sql_names.specs.Judges.{Expression, JudgedItem, Judge, look}
-use Rattle.sql_names.specs.Lists.{all_item, value_item, judged_items, listed, tested, judged_test, judged_filter, judged_having}
+use Rattle.sql_names.specs.Lists.{all_item, value_item, tested, judged_test, judged_filter, judged_having}
 use Rattle.sql_names.proofs.Sets.{Names, front_nil, back_nil}
-use Rattle.sql_names.proofs.Marks.{Mark, ◌⊕◌, Covers, covers-as, covers-both, covers-nothing, between, Grows, grows-nothing, grows-as, grown-alone, marks-one, marks-append, mark, marks, Alike, alike-is, alike-then, alike-both}
+use Rattle.sql_names.proofs.Marks.{Known, known_in, Mark, ◌⊕◌, Covers, covers-as, covers-both, covers-nothing, between, Grows, grows-nothing, grows-as, grown-alone, marks-one, marks-append, mark, marks, alike-is, alike-then}
 use Rattle.sql_names.proofs.Conjuncts.{alike-conjuncts}
 use Rattle.sql_names.proofs.Forms.{Fitting, named-covers}
 
-module _ (known : Catalog) (planned : AllPlanned known) where
+module _ (known : Known) (planned : AllPlanned known.catalog) where
   -- ---- output columns
 
   -- behind the parts and the output columns there are others, which are covered; where no aggregate may stand there are no other parts
@@ -99,12 +93,12 @@ module _ (known : Catalog) (planned : AllPlanned known) where
   -- ---- select lists
 
   abbrev pub ItemFits : JudgedItem → Type 0
-  ItemFits i = (s : Seen) (so : Outputs) → s.catalog ≡ known → (i.judge s so).faults ≡ [] → Lists s so (i.judge s so).value (i.judge s so).uses
+  ItemFits i = (s : Seen) (so : Outputs) → known_in s ≡ known → (i.judge s so).faults ≡ [] → Lists s so (i.judge s so).value (i.judge s so).uses
 
-  pub all-fits : (at : Anchor) (s : Seen) (so : Outputs) → s.catalog ≡ known → (all_item at s so).faults ≡ [] → Lists s so (all_item at s so).value (all_item at s so).uses
+  pub all-fits : (at : Anchor) (s : Seen) (so : Outputs) → known_in s ≡ known → (all_item at s so).faults ≡ [] → Lists s so (all_item at s so).value (all_item at s so).uses
   all-fits at s so is e = star-lists s at s.levels so e
 
-  pub value-fits : (x : Expression) (alias : Option Ident) (s : Seen) (so : Outputs) → Fitting known planned x.judge → s.catalog ≡ known → (value_item x alias s so).faults ≡ []
+  pub value-fits : (x : Expression) (alias : Option Ident) (s : Seen) (so : Outputs) → Fitting known planned x.judge → known_in s ≡ known → (value_item x alias s so).faults ≡ []
       → Lists s so (value_item x alias s so).value (value_item x alias s so).uses
   value-fits x alias s so f is e =
       let g = f s so.parts is e in
@@ -123,7 +117,7 @@ module _ (known : Catalog) (planned : AllPlanned known) where
   AllItems [] = Unit {0}
   AllItems (i ∷ is) = ItemFits i × AllItems is
 
-  pub items-fit : (is : List JudgedItem) (s : Seen) (so : Outputs) → AllItems is → s.catalog ≡ known → (each_noted (λ o (i : JudgedItem). i.judge s o) so is).faults ≡ []
+  pub items-fit : (is : List JudgedItem) (s : Seen) (so : Outputs) → AllItems is → known_in s ≡ known → (each_noted (λ o (i : JudgedItem). i.judge s o) so is).faults ≡ []
       → Lists s so (each_noted (λ o (i : JudgedItem). i.judge s o) so is).value (each_noted (λ o (i : JudgedItem). i.judge s o) so is).uses
   items-fit [] s so fs c e = lists-nothing s so
   items-fit (i ∷ is) s so fs c e =
@@ -133,7 +127,7 @@ module _ (known : Catalog) (planned : AllPlanned known) where
 
   -- ---- tests
 
-  pub tested-fits : (j : Judge) (s : Seen) (p : Parts) → Fitting known planned j → s.catalog ≡ known → (tested (look j s p)).faults ≡ []
+  pub tested-fits : (j : Judge) (s : Seen) (p : Parts) → Fitting known planned j → known_in s ≡ known → (tested (look j s p)).faults ≡ []
       → Grows known s p (tested (look j s p)).value.parts (tested (look j s p)).uses (marks known (tested (look j s p)).value.value)
   tested-fits j s p f is e =
       let t = j s p in
@@ -142,7 +136,7 @@ module _ (known : Catalog) (planned : AllPlanned known) where
       (f s p is (front_nil t.faults (misfit Boolean (look j s p).value.value.head) e)) (alike-conjuncts known tree)
 
   -- where no aggregate may stand
-  pub test-fits : (j : Judge) (s : Seen) → may_stand s.levels ≡ false → Fitting known planned j → s.catalog ≡ known → (judged_test j s).faults ≡ []
+  pub test-fits : (j : Judge) (s : Seen) → may_stand s.levels ≡ false → Fitting known planned j → known_in s ≡ known → (judged_test j s).faults ≡ []
       → Covers known (judged_test j s).uses (marks known (judged_test j s).value)
   test-fits j s m f is e =
       let t = tested (look j s no_parts) in
@@ -152,12 +146,12 @@ module _ (known : Catalog) (planned : AllPlanned known) where
   MaybeFits None = Unit {0}
   MaybeFits (Some x) = Fitting known planned x.judge
 
-  pub filter-fits : (filter : Option Expression) (s : Seen) → may_stand s.levels ≡ false → MaybeFits filter → s.catalog ≡ known → (judged_filter filter s).faults ≡ []
+  pub filter-fits : (filter : Option Expression) (s : Seen) → may_stand s.levels ≡ false → MaybeFits filter → known_in s ≡ known → (judged_filter filter s).faults ≡ []
       → Covers known (judged_filter filter s).uses (marks known (judged_filter filter s).value)
   filter-fits None s m f is e = covers-nothing known
   filter-fits (Some x) s m f is e = test-fits x.judge s m f is e
 
-  pub having-fits : (having : Option Expression) (s : Seen) (p : Parts) → MaybeFits having → s.catalog ≡ known → (judged_having having s p).faults ≡ []
+  pub having-fits : (having : Option Expression) (s : Seen) (p : Parts) → MaybeFits having → known_in s ≡ known → (judged_having having s p).faults ≡ []
       → Grows known s p (judged_having having s p).value.parts (judged_having having s p).uses (marks known (judged_having having s p).value.value)
   having-fits None s p f is e = grows-nothing known s p [] (marks known []) (covers-nothing known)
   having-fits (Some x) s p f is e = tested-fits x.judge s p f is e

@@ -16,14 +16,13 @@ use Rattle.bound_trees.specs.declared.query.BoundSource.{BoundSource}
 use Rattle.bound_trees.specs.declared.query.BoundGrouping.{BoundGrouping}
 use Rattle.bound_trees.specs.declared.query.BoundSelect.{BoundSelect}
 use Rattle.rel_algebra.specs.Plain.{planned_expr}
-use Rattle.catalog_store.specs.Catalog.{Catalog}
 use Rattle.catalog_store.specs.Uses.{Uses}
 use Rattle.catalog_store.proofs.Laws.{uses_in-Operation, tree_of-Operation}
 use Rattle.name_kinds.specs.Conjuncts.{is_and, conjuncts_of}
-use Rattle.name_kinds.proofs.Parts.{of_literal, of_column, of_variable, of_chain, of_call, of_single, of_exists, of_in, of_other, of_and}
-use Rattle.sql_names.proofs.Marks.{Mark, ◌⊕◌, mark, marks, marks-one, marks-append, Alike, alike-is}
+use Rattle.name_kinds.proofs.Laws.{of_literal, of_column, of_variable, of_chain, of_call, of_single, of_exists, of_in, of_other, of_and}
+use Rattle.sql_names.proofs.Marks.{Known, Mark, ◌⊕◌, mark, marks, marks-one, marks-append, Alike, alike-is}
 
-module _ (known : Catalog) where
+module _ (known : Known) where
   abbrev Same : BoundExpr → Type 0
   Same e = marks known (conjuncts_of e) ≡ mark known e
 
@@ -45,7 +44,7 @@ module _ (known : Catalog) where
   made us b = record { uses = us; planned = b }
 
   and-itself : (w : BoundOperation) (es : List BoundExpr) → is_and w ≡ true → marks known es ≡ mark known (bound.Operation w es)
-  and-itself word.And es p = ap₂ made (sym (uses_in-Operation word.And es)) (sym (ap planned_expr (tree_of-Operation known word.And es)))
+  and-itself word.And es p = ap₂ made (sym (uses_in-Operation word.And es)) (sym (ap planned_expr (tree_of-Operation known.catalog word.And es)))
   and-itself word.Negation es p = absurd cc
   and-itself word.Opposite es p = absurd cc
   and-itself (word.Comparing c) es p = absurd cc
@@ -80,7 +79,7 @@ module _ (known : Catalog) where
   of-layer (BoundExpr-F.Exists q) = subst Same (sym (rolls-Exists q.0)) (one (bound.Exists q.0) (of_exists q.0))
   of-layer (BoundExpr-F.In e q) = subst Same (sym (rolls-In e.0 q.0)) (one (bound.In e.0 q.0) (of_in e.0 q.0))
 
-  same : (e : BoundExpr) → Same e
+  pub same : (e : BoundExpr) → Same e
   same = ind-BoundExpr Same (λ x. Unit {0}) (λ x. Unit {0}) (λ x. Unit {0}) (λ x. Unit {0}) (λ x. Unit {0}) (λ x. Unit {0}) (λ x. Unit {0}) (λ x y is. subst (λ z. Same (roll-BoundExpr z)) is (of-layer y)) (λ x y is. tt) (λ x y is. tt) (λ x y is. tt) (λ x y is. tt) (λ x y is. tt) (λ x y is. tt) (λ x y is. tt)
 
   pub alike-conjuncts : (e : BoundExpr) → Alike known (mark known e) (marks known (conjuncts_of e))

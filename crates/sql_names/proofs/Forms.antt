@@ -1,23 +1,19 @@
 -- Expressions without faults, of each form: what is noted is what the bound tree uses, and it has a plan.
-use Rattle.std.proofs.Common.{◌≡◌, refl, sym, ap, ap₂, ◌∙◌, subst, arith, ℕ, suc, Bool, true, false, not, nat_lt, List, [], ◌∷◌, ◌++◌, map, length, Option, Some, None}
-use Rattle.std.proofs.lemmas.List.{length-map, append-nil}
+use Rattle.std.proofs.Common.{◌≡◌, refl, sym, ap, ◌∙◌, arith, ℕ, suc, Bool, true, false, not, ◌&&◌, ◌==◌, nat_lt, List, [], ◌∷◌, ◌++◌, map, length, Option, Some, None}
+use Rattle.std.proofs.lemmas.List.{length-map}
 use Rattle.std.proofs.lemmas.Bool.Decides.{nat_tests}
 use Rattle.sql_values.specs.declared.fold.FoldKind.{FoldKind}
 use Rattle.sql_values.specs.declared.value.Value.TheVariants.{Null, Bool as Truth}
 use Rattle.syntax_trees.specs.declared.anchor.Anchor.{Anchor}
 use Rattle.syntax_trees.specs.declared.anchor.Ident.{Ident}
-use Rattle.syntax_trees.specs.declared.expr.ChainOperator.{ChainOperator}
 use Rattle.syntax_trees.specs.declared.expr.Operation.{Operation}
 use Rattle.bound_trees.specs.declared.expr.BoundExpr.{BoundExpr}
 use Rattle.bound_trees.specs.declared.expr.BoundExpr.TheVariants as bound
-use Rattle.rel_algebra.specs.Plain.{planned_routine}
-use Rattle.catalog_store.specs.Catalog.{Function, Object, TableObject, FunctionObject, Catalog, object_named, routine_named}
 use Rattle.catalog_store.specs.Planning.{AllPlanned}
 use Rattle.catalog_store.specs.Uses.{uses_in}
 use Rattle.catalog_store.specs.declared.entry.Head.{Head}
-use Rattle.name_faults.specs.declared.fault.Fault.{Fault}
 use Rattle.name_faults.specs.declared.fault.FaultKind.TheVariants.{NotPermitted, WrongCount}
-use Rattle.name_faults.specs.Faults.{Noted, fault_if}
+use Rattle.name_faults.specs.Faults.{fault_if}
 use Rattle.name_kinds.specs.Aggregates.{aggregate_asked, argument_of}
 use Rattle.name_kinds.specs.declared.kind.Kind.{Kind}
 use Rattle.names_in_sight.specs.declared.sight.Found.{Found}
@@ -25,30 +21,28 @@ use Rattle.names_in_sight.specs.declared.sight.Found.TheVariants.{Column, Guesse
 use Rattle.names_in_sight.specs.Sight.{Level, Seen, may_stand, ungrouped, inside_aggregate}
 use Rattle.typed_parts.specs.declared.aggregates.Parts.{Parts}
 use Rattle.typed_parts.specs.declared.typed.Operands.{Operands}
-use Rattle.typed_parts.specs.declared.typed.Typed.{Typed}
-use Rattle.typed_parts.specs.declared.typed.TypedQuery.{TypedQuery}
-use Rattle.typed_parts.specs.Typed.{Beside, no_parts, named, asked_of, asked_by_chain, call_faults, argument_faults, aggregate_faults, head_in, head_named, with_aggregate}
+use Rattle.typed_parts.specs.Typed.{no_parts, named, asked_of, asked_by_chain, argument_faults, function_known, function_in_sight, is_modifying}
 use Rattle.typed_parts.specs.Subqueries.{width_faults, member_faults}
 use Rattle.sql_names.specs.Judges.{Expression, JudgedLink, QueryJudge, Judge, look, all_of, operators, places, operands, called, judge_call, judge_operation, judge_aggregate, judge_chain, judge_single, judge_exists, judge_member}
-use Rattle.sql_names.proofs.Sets.{Names, front_nil, back_nil, no_fault, equal}
-use Rattle.sql_names.proofs.Marks.{Mark, ◌⊕◌, Stands, Covers, covers-as, covers-nothing, Grows, grows-nothing, grows-as, grows-then, grown-alone, right-nothing, marks-one, mark, marks, Alike, alike-is, alike-then, alike-same, alike-both, alike-self}
+use Rattle.sql_names.proofs.Sets.{front_nil, back_nil, no_fault, equal}
+use Rattle.sql_names.proofs.Marks.{Known, known_in, Mark, ◌⊕◌, Covers, covers-as, covers-nothing, Grows, grows-nothing, grows-as, grows-then, grown-alone, right-nothing, marks-one, mark, marks, Alike, alike-is, alike-then, alike-both, alike-self}
 use Rattle.sql_names.proofs.Bound.{literal-covers, column-covers, variable-covers, alike-operation, alike-chain, call-mark, alike-call, query-mark, alike-single, alike-exists, alike-member}
 
-module _ (known : Catalog) (planned : AllPlanned known) where
+module _ (known : Known) (planned : AllPlanned known.catalog) where
   -- what an expression makes of a sight of this catalog, where it makes no fault
   abbrev pub Fitting : Judge → Type 0
-  Fitting j = (s : Seen) (p : Parts) → s.catalog ≡ known → (j s p).faults ≡ [] → Grows known s p (j s p).value.parts (j s p).uses (mark known (j s p).value.value.tree)
+  Fitting j = (s : Seen) (p : Parts) → known_in s ≡ known → (j s p).faults ≡ [] → Grows known s p (j s p).value.parts (j s p).uses (mark known (j s p).value.value.tree)
 
   abbrev pub AllFitting : List Expression → Type 0
   AllFitting [] = Unit {0}
   AllFitting (e ∷ es) = Fitting e.judge × AllFitting es
 
   abbrev pub QueryFits : QueryJudge → Type 0
-  QueryFits j = (targets : List Kind) (s : Seen) → s.catalog ≡ known → (j targets s).faults ≡ [] → Covers known (j targets s).uses (query-mark known (j targets s).value.tree)
+  QueryFits j = (targets : List Kind) (s : Seen) → known_in s ≡ known → (j targets s).faults ≡ [] → Covers known (j targets s).uses (query-mark known (j targets s).value.tree)
 
   -- ---- operands
 
-  pub all-grow : (es : List Expression) (s : Seen) (p : Parts) → AllFitting es → s.catalog ≡ known → (all_of s p es).faults ≡ []
+  pub all-grow : (es : List Expression) (s : Seen) (p : Parts) → AllFitting es → known_in s ≡ known → (all_of s p es).faults ≡ []
       → Grows known s p (all_of s p es).value.parts (all_of s p es).uses (marks known (all_of s p es).value.value.trees)
   all-grow [] s p fs is e = grows-nothing known s p [] (marks known []) (covers-nothing known)
   all-grow (x ∷ es) s p fs is e =
@@ -98,37 +92,30 @@ module _ (known : Catalog) (planned : AllPlanned known) where
 
   -- ---- calls
 
-  stands : (name : List ℕ) (h : Head) (o : Option Object) → object_named name known ≡ o → head_in o ≡ Some h
-      → (f : Function) × (object_named name known ≡ Some (FunctionObject f)) × (length f.parameters ≡ length h.parameters)
-  stands name h None is p = absurd cc
-  stands name h (Some (TableObject t)) is p = absurd cc
-  stands name h (Some (FunctionObject f)) is p = let same : f.parameters ≡ h.parameters = cc in (f, is, ap (λ ps. length ps) same)
+  call-covers : (name : List ℕ) (h : Head) (arguments : ℕ) → function_known name known.own known.catalog ≡ Some h → arguments ≡ length h.parameters → Covers known (name ∷ []) (call-mark known name arguments)
+  call-covers name h arguments p n = (((h, p, sym n), tt), planned name, λ other. refl)
 
-  call-covers : (name : List ℕ) (h : Head) (arguments : ℕ) → head_named name known ≡ Some h → arguments ≡ length h.parameters → Covers known (name ∷ []) (call-mark known name arguments)
-  call-covers name h arguments p n =
-      let f = stands name h (object_named name known) refl p in
-      (((f.0, f.1, f.2 ∙ sym n), tt), planned name, λ other. refl)
-
-  called-fits : (i : Ident) (es : List Expression) (s : Seen) (p : Parts) (f : Option Head) → AllFitting es → s.catalog ≡ known → head_named i.name s.catalog ≡ f
-      → (called i (length es) f (all_of s p es)).faults ≡ []
-      → Grows known s p (called i (length es) f (all_of s p es)).value.parts (called i (length es) f (all_of s p es)).uses (mark known (called i (length es) f (all_of s p es)).value.value.tree)
+  called-fits : (i : Ident) (es : List Expression) (s : Seen) (p : Parts) (f : Option Head) → AllFitting es → known_in s ≡ known → function_in_sight i.name s ≡ f
+      → (called s.writing i (length es) f (all_of s p es)).faults ≡ []
+      → Grows known s p (called s.writing i (length es) f (all_of s p es)).value.parts (called s.writing i (length es) f (all_of s p es)).uses (mark known (called s.writing i (length es) f (all_of s p es)).value.value.tree)
   called-fits i es s p None fs is at e = absurd cc
   called-fits i es s p (Some h) fs is at e =
       let args = all_of s p es in
       let trees = args.value.value.trees in
-      let faults = call_faults i.anchor (length es) (Some h) in
+      let many = fault_if (not (length es == length h.parameters)) WrongCount i.anchor in
+      let barred = fault_if (s.writing && is_modifying h.access) NotPermitted i.anchor in
       let asked = argument_faults (Some h) args.value.value.heads in
-      let same : length es ≡ length h.parameters = equal (length es) (length h.parameters) (no_fault _ _ i.anchor (front_nil faults (args.faults ++ asked) e)) in
+      let same : length es ≡ length h.parameters = equal (length es) (length h.parameters) (no_fault _ _ i.anchor (front_nil many barred (front_nil (many ++ barred) (args.faults ++ asked) e))) in
       let count : length (map uses_in trees) ≡ length h.parameters = length-map trees uses_in ∙ all-length s p es ∙ same in
       let call = call-mark known i.name (length (map uses_in trees)) in
       grows-as known s p args.value.parts (i.name ∷ args.uses) (call ⊕ marks known trees) _
       (grows-then known s p p args.value.parts (i.name ∷ []) args.uses call (marks known trees)
-      (grows-nothing known s p (i.name ∷ []) call (call-covers i.name h (length (map uses_in trees)) (sym (ap (head_named i.name) is) ∙ at) count))
-      (all-grow es s p fs is (front_nil args.faults asked (back_nil faults (args.faults ++ asked) e))))
+      (grows-nothing known s p (i.name ∷ []) call (call-covers i.name h (length (map uses_in trees)) (sym (ap (λ (k : Known). function_known i.name k.own k.catalog) is) ∙ at) count))
+      (all-grow es s p fs is (front_nil args.faults asked (back_nil (many ++ barred) (args.faults ++ asked) e))))
       (alike-call known i.name trees)
 
   pub call-fits : (i : Ident) (es : List Expression) → AllFitting es → Fitting (judge_call i es)
-  call-fits i es fs s p is e = called-fits i es s p (head_named i.name s.catalog) fs is refl e
+  call-fits i es fs s p is e = called-fits i es s p (function_in_sight i.name s) fs is refl e
 
   -- ---- aggregates
 

@@ -1,5 +1,5 @@
 -- The items of FROM without faults: what is noted is what they use, and they have plans.
-use Rattle.std.proofs.Common.{◌≡◌, refl, sym, ap, ap₂, ◌∙◌, subst, ℕ, Bool, true, false, ◌&&◌, List, [], ◌∷◌, ◌++◌, append_assoc, map, Option, Some, None}
+use Rattle.std.proofs.Common.{◌≡◌, refl, sym, ap, ap₂, ◌∙◌, ℕ, Bool, true, ◌&&◌, List, [], ◌∷◌, ◌++◌, append_assoc, map, Option, Some, None}
 use Rattle.std.proofs.lemmas.Bool.{and_parts, and_from}
 use Rattle.std.proofs.lemmas.List.{append-nil}
 use Rattle.syntax_trees.specs.declared.anchor.Ident.{Ident}
@@ -7,26 +7,25 @@ use Rattle.row_types.specs.declared.RowType.{RowType}
 use Rattle.bound_trees.specs.declared.expr.BoundExpr.{BoundExpr}
 use Rattle.bound_trees.specs.declared.query.BoundFromItem.{BoundFromItem}
 use Rattle.bound_trees.specs.declared.query.BoundFromItem.TheVariants as item
-use Rattle.bound_trees.specs.declared.query.BoundQuery.{BoundQuery}
 use Rattle.bound_trees.specs.declared.query.BoundSource.{BoundSource}
 use Rattle.bound_trees.specs.declared.query.BoundSource.TheVariants as source
 use Rattle.rel_algebra.specs.Tree.{From}
 use Rattle.rel_algebra.specs.Plain.{planned_all, planned_from}
-use Rattle.catalog_store.specs.Catalog.{Object, TableObject, FunctionObject, Catalog, object_named}
+use Rattle.catalog_store.specs.Catalog.{Object, TableObject, FunctionObject, InterpretedObject, ProcedureObject, object_named}
 use Rattle.catalog_store.specs.Planning.{AllPlanned}
 use Rattle.catalog_store.specs.Uses.{Uses, reads, joined, uses_in_item, uses_in_source}
-use Rattle.catalog_store.specs.View.{Joining, after_comma, crossing, matching, matching_or_nulls, Joined, closed, grown, all_grown, begun, from_of, exprs_of, item_of, source_of}
+use Rattle.catalog_store.specs.View.{Joining, after_comma, crossing, matching, matching_or_nulls, Joined, closed, grown, all_grown, begun, from_of, item_of, source_of}
 use Rattle.catalog_store.proofs.Laws.{uses_in_item-Comma, uses_in_item-Cross, uses_in_item-Inner, uses_in_item-Left, uses_in_source-Table, uses_in_source-Derived, item_of-Comma, item_of-Cross, item_of-Inner, item_of-Left, source_of-Table, source_of-Derived}
 use Rattle.name_faults.specs.Faults.{Noted, ◌>>=◌}
 use Rattle.names_in_sight.specs.Sight.{Seen, inside}
 use Rattle.typed_parts.specs.declared.from.Opened.{Opened}
 use Rattle.typed_parts.specs.declared.typed.Sourced.{Sourced}
-use Rattle.typed_parts.specs.From.{table_in, table_named, table_source, table_judge, derived_source, list_faults, repeated_item, with_item, begun as begin, on_level, put_comma, put_cross}
+use Rattle.typed_parts.specs.From.{table_in, table_named, table_source, table_judge, derived_source, list_faults, repeated_item, with_item, on_level, put_comma, put_cross}
 use Rattle.typed_parts.specs.Turns.{each_noted}
 use Rattle.sql_names.specs.Judges.{Judge, FromJudge, RefJudge, QueryJudge}
 use Rattle.sql_names.specs.From.{on_test, put_inner, put_left}
 use Rattle.sql_names.proofs.Sets.{Names, front_nil, back_nil}
-use Rattle.sql_names.proofs.Marks.{Mark, nothing, ◌⊕◌, Covers, covers-as, covers-both, covers-nothing, Alike, alike-same, alike-is, right-nothing, and-assoc, marks}
+use Rattle.sql_names.proofs.Marks.{Known, known_in, Mark, nothing, ◌⊕◌, Covers, covers-as, covers-both, covers-nothing, alike-same, alike-is, right-nothing, and-assoc, marks}
 use Rattle.sql_names.proofs.Bound.{query-mark}
 use Rattle.sql_names.proofs.Forms.{Fitting, QueryFits}
 use Rattle.sql_names.proofs.Clauses.{test-fits}
@@ -79,17 +78,17 @@ from-planned (i ∷ is) q =
     let j = all_grown (begun i) is in
     closed-planned j.before j.current (all-planned (begun i) is (begun-planned i both.0) both.1)
 
-module _ (known : Catalog) (planned : AllPlanned known) where
+module _ (known : Known) (planned : AllPlanned known.catalog) where
   -- ---- marks
 
   abbrev pub source-mark : BoundSource → Mark
-  source-mark s = record { uses = uses_in_source s; planned = planned_from (source_of known s) }
+  source-mark s = record { uses = uses_in_source s; planned = planned_from (source_of known.catalog s) }
 
   abbrev pub item-mark : BoundFromItem → Mark
-  item-mark i = record { uses = uses_in_item i; planned = planned_joining (item_of known i) }
+  item-mark i = record { uses = uses_in_item i; planned = planned_joining (item_of known.catalog i) }
 
   abbrev pub item-marks : List BoundFromItem → Mark
-  item-marks is = record { uses = joined (map uses_in_item is); planned = all_planned (map (item_of known) is) }
+  item-marks is = record { uses = joined (map uses_in_item is); planned = all_planned (map (item_of known.catalog) is) }
 
   abbrev made : Uses → Bool → Mark
   made us b = record { uses = us; planned = b }
@@ -106,24 +105,26 @@ module _ (known : Catalog) (planned : AllPlanned known) where
   -- ---- tables and derived tables
 
   abbrev pub RefFits : RefJudge → Type 0
-  RefFits j = (s : Seen) → s.catalog ≡ known → (j s).faults ≡ [] → Covers known (j s).uses (source-mark (j s).value.source)
+  RefFits j = (s : Seen) → known_in s ≡ known → (j s).faults ≡ [] → Covers known (j s).uses (source-mark (j s).value.source)
 
-  stands : (name : List ℕ) (t : RowType) (o : Option Object) → object_named name known ≡ o → table_in o ≡ Some t → object_named name known ≡ Some (TableObject t)
+  stands : (name : List ℕ) (t : RowType) (o : Option Object) → object_named name known.catalog ≡ o → table_in o ≡ Some t → object_named name known.catalog ≡ Some (TableObject t)
   stands name t None is p = absurd cc
   stands name t (Some (FunctionObject f)) is p = absurd cc
+  stands name t (Some (InterpretedObject f)) is p = absurd cc
+  stands name t (Some (ProcedureObject r)) is p = absurd cc
   stands name t (Some (TableObject r)) is p = let same : r ≡ t = cc in is ∙ ap (λ z. Some (TableObject z)) same
 
-  known-table : (i : Ident) (alias : Option Ident) (t : Option RowType) → table_named i.name known ≡ t → (table_source i alias t).faults ≡ []
+  known-table : (i : Ident) (alias : Option Ident) (t : Option RowType) → table_named i.name known.catalog ≡ t → (table_source i alias t).faults ≡ []
       → Covers known (table_source i alias t).uses (source-mark (table_source i alias t).value.source)
   known-table i alias None is e = absurd cc
   known-table i alias (Some t) is e =
       let read = made (reads i.name ∷ []) true in
       covers-as known (i.name ∷ []) read (source-mark (source.Table i.name))
-      ((record { row_type = t; stands = stands i.name t (object_named i.name known) refl is }, tt), refl, λ name. refl)
-      (alike-same known read (source-mark (source.Table i.name)) (uses_in_source-Table i.name) (λ q. ap planned_from (source_of-Table known i.name)))
+      ((record { row_type = t; stands = stands i.name t (object_named i.name known.catalog) refl is }, tt), refl, λ name. refl)
+      (alike-same known read (source-mark (source.Table i.name)) (uses_in_source-Table i.name) (λ q. ap planned_from (source_of-Table known.catalog i.name)))
 
   pub table-fits : (i : Ident) (alias : Option Ident) → RefFits (table_judge i alias)
-  table-fits i alias s is e = known-table i alias (table_named i.name s.catalog) (sym (ap (table_named i.name) is)) e
+  table-fits i alias s is e = known-table i alias (table_named i.name s.catalog) (sym (ap (λ (k : Known). table_named i.name k.catalog) is)) e
 
   pub derived-fits : (query : QueryJudge) (i : Ident) (columns : List Ident) → QueryFits known planned query → RefFits (λ s. query [] s >>= derived_source i columns)
   derived-fits query i columns f s is e =
@@ -133,7 +134,7 @@ module _ (known : Catalog) (planned : AllPlanned known) where
       let whole = source-mark (source.Derived q.value.tree) in
       covers-as known (q.uses ++ []) (query-mark known q.value.tree ⊕ nothing) whole (covers-both known q.uses [] (query-mark known q.value.tree) nothing c (covers-nothing known))
       (alike-same known (query-mark known q.value.tree ⊕ nothing) whole (uses_in_source-Derived q.value.tree ∙ sym (append-nil (query-mark known q.value.tree).uses))
-      (λ p. ap planned_from (source_of-Derived known q.value.tree) ∙ (and_parts (query-mark known q.value.tree).planned true p).0))
+      (λ p. ap planned_from (source_of-Derived known.catalog q.value.tree) ∙ (and_parts (query-mark known q.value.tree).planned true p).0))
 
   -- ---- items
 
@@ -141,13 +142,13 @@ module _ (known : Catalog) (planned : AllPlanned known) where
   Opens so more u = (items : List BoundFromItem) × Covers known u (item-marks items) × (more.from ≡ so.from ++ items)
 
   abbrev pub FromFits : FromJudge → Type 0
-  FromFits j = (s : Seen) (so : Opened) → s.catalog ≡ known → (j s so).faults ≡ [] → Opens so (j s so).value (j s so).uses
+  FromFits j = (s : Seen) (so : Opened) → known_in s ≡ known → (j s so).faults ≡ [] → Opens so (j s so).value (j s so).uses
 
   abbrev plain-item : BoundSource → Mark
   plain-item s = source-mark s ⊕ nothing
 
   put-plain : (table : Noted Sourced) (i : BoundFromItem) → Covers known table.uses (source-mark table.value.source) → uses_in_item i ≡ uses_in_source table.value.source
-      → (planned_from (source_of known table.value.source) ≡ true → planned_joining (item_of known i) ≡ true) → Covers known (table.uses ++ []) (item-marks (i ∷ []))
+      → (planned_from (source_of known.catalog table.value.source) ≡ true → planned_joining (item_of known.catalog i) ≡ true) → Covers known (table.uses ++ []) (item-marks (i ∷ []))
   put-plain table i c us ps =
       let m = source-mark table.value.source in
       one-item (table.uses ++ []) i
@@ -158,16 +159,16 @@ module _ (known : Catalog) (planned : AllPlanned known) where
   comma-fits table f s so is e =
       let t = table s in
       let i = item.Comma t.value.source in
-      (i ∷ [], put-plain t i (f s is (front_nil t.faults (put_comma so t.value).faults e)) (uses_in_item-Comma t.value.source) (λ p. ap planned_joining (item_of-Comma known t.value.source) ∙ p), refl)
+      (i ∷ [], put-plain t i (f s is (front_nil t.faults (put_comma so t.value).faults e)) (uses_in_item-Comma t.value.source) (λ p. ap planned_joining (item_of-Comma known.catalog t.value.source) ∙ p), refl)
 
   pub cross-fits : (table : RefJudge) → RefFits table → FromFits (λ s so. table s >>= put_cross so)
   cross-fits table f s so is e =
       let t = table s in
       let i = item.Cross t.value.source in
-      (i ∷ [], put-plain t i (f s is (front_nil t.faults (put_cross so t.value).faults e)) (uses_in_item-Cross t.value.source) (λ p. ap planned_joining (item_of-Cross known t.value.source) ∙ p), refl)
+      (i ∷ [], put-plain t i (f s is (front_nil t.faults (put_cross so t.value).faults e)) (uses_in_item-Cross t.value.source) (λ p. ap planned_joining (item_of-Cross known.catalog t.value.source) ∙ p), refl)
 
   put-on : (table : Noted Sourced) (on : Noted (List BoundExpr)) (i : BoundFromItem) → Covers known table.uses (source-mark table.value.source) → Covers known on.uses (marks known on.value)
-      → uses_in_item i ≡ (source-mark table.value.source ⊕ marks known on.value).uses → ((source-mark table.value.source ⊕ marks known on.value).planned ≡ true → planned_joining (item_of known i) ≡ true)
+      → uses_in_item i ≡ (source-mark table.value.source ⊕ marks known on.value).uses → ((source-mark table.value.source ⊕ marks known on.value).planned ≡ true → planned_joining (item_of known.catalog i) ≡ true)
       → Covers known (table.uses ++ on.uses) (item-marks (i ∷ []))
   put-on table on i c d us ps =
       let m = source-mark table.value.source in
@@ -184,7 +185,7 @@ module _ (known : Catalog) (planned : AllPlanned known) where
         i ∷ [],
         put-on t on i (f s is (front_nil t.faults (repeated_item t.value so.items ++ on.faults) e))
             (test-fits known planned j (inside (on_level (with_item so t.value)) s) refl g is (back_nil (repeated_item t.value so.items) on.faults asked))
-            (uses_in_item-Inner t.value.source on.value) (λ p. ap planned_joining (item_of-Inner known t.value.source on.value) ∙ p),
+            (uses_in_item-Inner t.value.source on.value) (λ p. ap planned_joining (item_of-Inner known.catalog t.value.source on.value) ∙ p),
         refl,
       )
 
@@ -197,7 +198,7 @@ module _ (known : Catalog) (planned : AllPlanned known) where
         i ∷ [],
         put-on t on i (f s is (front_nil t.faults (repeated_item t.value so.items ++ on.faults) e))
             (test-fits known planned j (inside (on_level (with_item so t.value)) s) refl g is (back_nil (repeated_item t.value so.items) on.faults asked))
-            (uses_in_item-Left t.value.source on.value) (λ p. ap planned_joining (item_of-Left known t.value.source on.value) ∙ p),
+            (uses_in_item-Left t.value.source on.value) (λ p. ap planned_joining (item_of-Left known.catalog t.value.source on.value) ∙ p),
         refl,
       )
 
@@ -205,7 +206,7 @@ module _ (known : Catalog) (planned : AllPlanned known) where
   AllFrom [] = Unit {0}
   AllFrom (j ∷ js) = FromFits j × AllFrom js
 
-  pub opened-fit : (js : List FromJudge) (s : Seen) (so : Opened) → AllFrom js → s.catalog ≡ known → (each_noted (λ o (j : FromJudge). j s o) so js).faults ≡ []
+  pub opened-fit : (js : List FromJudge) (s : Seen) (so : Opened) → AllFrom js → known_in s ≡ known → (each_noted (λ o (j : FromJudge). j s o) so js).faults ≡ []
       → Opens so (each_noted (λ o (j : FromJudge). j s o) so js).value (each_noted (λ o (j : FromJudge). j s o) so js).uses
   opened-fit [] s so fs is e = ([], covers-nothing known, sym (append-nil so.from))
   opened-fit (j ∷ js) s so fs is e =

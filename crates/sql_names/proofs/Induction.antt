@@ -1,5 +1,5 @@
 -- Each expression and each query without faults uses what was noted, and has a plan: by induction over written trees.
-use Rattle.std.proofs.Common.{◌≡◌, refl, sym, ap, ◌∙◌, subst, List, [], ◌∷◌, ◌++◌, map, Option, Some, None}
+use Rattle.std.proofs.Common.{sym, subst, List, [], ◌∷◌, map, Option, Some, None}
 use Rattle.syntax_trees.specs.Columns.{anchor_of_column}
 use Rattle.syntax_trees.specs.declared.anchor.Anchor.{Anchor}
 use Rattle.syntax_trees.specs.declared.anchor.ColumnName.{ColumnName}
@@ -15,11 +15,9 @@ use Rattle.syntax_trees.specs.declared.query.ValueRow.{ValueRow, roll-ValueRow}
 use Rattle.syntax_trees.specs.declared.query.Select.{Select, roll-Select}
 use Rattle.syntax_trees.specs.declared.query.Values.{Values, roll-Values}
 use Rattle.bound_trees.specs.declared.expr.BoundExpr.TheVariants as bound
-use Rattle.catalog_store.specs.Catalog.{Catalog}
 use Rattle.catalog_store.specs.Planning.{AllPlanned}
 use Rattle.name_kinds.specs.Words.{value_of}
 use Rattle.names_in_sight.specs.Sight.{stands_for}
-use Rattle.typed_parts.specs.declared.typed.Typed.{Typed}
 use Rattle.typed_parts.specs.From.{nothing_open}
 use Rattle.typed_parts.specs.Typed.{named}
 use Rattle.typed_parts.specs.Turns.{each_noted}
@@ -27,14 +25,14 @@ use Rattle.sql_names.specs.Judges.{Expression, JudgedItem, JudgedLink, JudgedRow
 use Rattle.sql_names.specs.Queries.{expr_step, from_step, query_step, item_step, ref_step, row_step, link_step, select_step, values_step, expression, from_judge, query_judge, select_item, ref_judge, value_row, judged_link, select_judge, values_judge}
 use Rattle.sql_names.specs.Selects.{selected}
 use Rattle.sql_names.proofs.Sets.{front_nil, back_nil}
-use Rattle.sql_names.proofs.Marks.{Covers, grows-nothing, mark}
+use Rattle.sql_names.proofs.Marks.{Known, Covers, grows-nothing, mark}
 use Rattle.sql_names.proofs.Bound.{literal-covers}
 use Rattle.sql_names.proofs.Forms.{Fitting, AllFitting, QueryFits, named-covers, operation-fits, chain-fits, call-fits, aggregate-fits, single-fits, exists-fits, member-fits}
 use Rattle.sql_names.proofs.Clauses.{ItemFits, AllItems, MaybeFits, all-fits, value-fits}
 use Rattle.sql_names.proofs.Froms.{RefFits, table-fits, derived-fits, FromFits, AllFrom, comma-fits, cross-fits, inner-fits, left-fits, opened-fit, item-marks}
 use Rattle.sql_names.proofs.Wholes.{AllRows, values-fit, selected-fits}
 
-module _ (known : Catalog) (planned : AllPlanned known) where
+module _ (known : Known) (planned : AllPlanned known.catalog) where
   abbrev ShownExpr : Type 0
   ShownExpr = (x : Expr) × Fitting known planned (expression x).judge
 

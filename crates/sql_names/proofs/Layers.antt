@@ -1,18 +1,18 @@
 -- Each form of a query is judged by its parts.
-use Rattle.std.proofs.Common.{◌≡◌, refl, sym, ap, ap₂, ◌∙◌, map, List, [], Option, Some, None}
+use Rattle.std.proofs.Common.{◌≡◌, sym, ap, ◌∙◌, map, List, [], Option, Some, None}
 use Rattle.syntax_trees.specs.declared.anchor.Anchor.{Anchor}
 use Rattle.syntax_trees.specs.declared.anchor.ColumnName.{ColumnName}
 use Rattle.syntax_trees.specs.declared.anchor.Ident.{Ident}
 use Rattle.syntax_trees.specs.declared.expr.Expr.{Expr}
-use Rattle.syntax_trees.specs.declared.expr.Expr.TheFolds.{map-FromItem, map-Select, fold-roll-FromItem, fold-roll-TableRef}
-use Rattle.syntax_trees.specs.declared.expr.Expr.TheOpen.{FromItem-F, TableRef-F}
+use Rattle.syntax_trees.specs.declared.expr.Expr.TheFolds.{map-FromItem, map-Select, fold-roll-FromItem, fold-roll-Query, fold-roll-Select, fold-roll-TableRef}
+use Rattle.syntax_trees.specs.declared.expr.Expr.TheOpen.{FromItem-F, Query-F, TableRef-F}
 use Rattle.syntax_trees.specs.declared.expr.Expr.TheViews as tree
 use Rattle.syntax_trees.specs.declared.expr.Link.{Link}
 use Rattle.syntax_trees.specs.declared.query.FromItem.{FromItem, roll-FromItem}
 use Rattle.syntax_trees.specs.declared.query.FromItem.TheVariants.{rolls-Comma, rolls-Cross, rolls-Inner, rolls-Left}
 use Rattle.syntax_trees.specs.declared.query.FromItem.TheVariants as item
-use Rattle.syntax_trees.specs.declared.query.Query.{Query}
-use Rattle.syntax_trees.specs.declared.query.Select.{Select, out-Select, fold_out-Select}
+use Rattle.syntax_trees.specs.declared.query.Query.{Query, roll-Query}
+use Rattle.syntax_trees.specs.declared.query.Select.{Select, out-Select, roll-Select, fold_out-Select}
 use Rattle.syntax_trees.specs.declared.query.SelectItem.{SelectItem}
 use Rattle.syntax_trees.specs.declared.query.TableRef.{TableRef}
 use Rattle.syntax_trees.specs.declared.query.TableRef.TheVariants.{rolls-Derived}
@@ -29,7 +29,7 @@ use Rattle.typed_parts.specs.From.{nothing_open, derived_source, put_comma, put_
 use Rattle.sql_names.specs.From.{put_inner, put_left}
 use Rattle.sql_names.specs.Judges.{Expression, JudgedItem, JudgedLink, JudgedRow, QueryJudge, FromJudge, RefJudge}
 use Rattle.sql_names.specs.Names.{inner}
-use Rattle.sql_names.specs.Queries.{expr_step, from_step, query_step, item_step, ref_step, row_step, link_step, select_step, values_step, expression, from_judge, query_judge, select_item, ref_judge, value_row, judged_link, select_judge, values_judge, judge_query, opened_of, maybe, anchor_of, items_of, items_in_from, filter_of, grouping_columns, having_of, anchor_of_values, rows_of}
+use Rattle.sql_names.specs.Queries.{expr_step, from_step, query_step, item_step, ref_step, row_step, link_step, select_step, values_step, expression, from_judge, query_judge, select_item, ref_judge, value_row, judged_link, select_judge, values_judge, judge_parts, judge_query, opened_of, maybe, anchor_of, items_of, items_in_from, filter_of, grouping_columns, having_of, anchor_of_values, rows_of}
 use Rattle.sql_names.specs.Selects.{selected}
 use Rattle.sql_names.specs.ValueRows.{judged_values}
 use Rattle.typed_parts.specs.Turns.{each_noted}
@@ -51,6 +51,15 @@ at-select at items from None group_by (Some h) ts outer = ap (λ z. z >>= select
 at-select at items from (Some f) group_by None ts outer = ap (λ z. z >>= selected at (map select_item items) (Some (expression f)) group_by None ts outer) (in-turn from outer)
 at-select at items from (Some f) group_by (Some h) ts outer =
     ap (λ z. z >>= selected at (map select_item items) (Some (expression f)) group_by (Some (expression h)) ts outer) (in-turn from outer)
+
+-- a query of these parts
+pub made-select : (at : Anchor) (items : List SelectItem) (from : List FromItem) (filter : Option Expr) (group_by : List ColumnName) (having : Option Expr) (ts : List Kind) (outer : Seen)
+    → judge_query ts (roll-Query (Query-F.Select (roll-Select (record { anchor = at; items = items; from = from; filter = filter; group_by = group_by; having = having })))) outer
+    ≡ judge_parts at (map select_item items) from (maybe filter) group_by (maybe having) ts outer
+made-select at items from filter group_by having ts outer =
+    ap (λ (j : QueryJudge). j ts outer) (fold-roll-Query Expression FromJudge QueryJudge JudgedItem RefJudge JudgedRow JudgedLink QueryJudge QueryJudge expr_step from_step query_step item_step ref_step row_step link_step select_step values_step (Query-F.Select (roll-Select (record { anchor = at; items = items; from = from; filter = filter; group_by = group_by; having = having })))
+    ∙ fold-roll-Select Expression FromJudge QueryJudge JudgedItem RefJudge JudgedRow JudgedLink QueryJudge QueryJudge expr_step from_step query_step item_step ref_step row_step link_step select_step values_step (record { anchor = at; items = items; from = from; filter = filter; group_by = group_by; having = having }))
+    ∙ at-select at items from filter group_by having ts outer
 
 pub select-layer : (s : Select) (ts : List Kind) (outer : Seen) → select_judge s ts outer ≡ (opened_of (items_in_from s) outer >>= over s ts outer)
 select-layer s ts outer =

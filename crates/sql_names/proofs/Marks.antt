@@ -1,14 +1,17 @@
 -- What bound trees use, and whether they have plans, added up over the parts of a statement, and beside it the names that were noted.
-use Rattle.std.proofs.Common.{◌≡◌, refl, sym, ap, ap₂, ◌∙◌, subst, ℕ, ◌<◌, Bool, true, ◌&&◌, false, List, [], ◌∷◌, ◌++◌, append_assoc, map, length, Option, Some, None}
+use Rattle.std.proofs.Common.{◌≡◌, refl, sym, ap, ap₂, ◌∙◌, subst, Bool, true, ◌&&◌, false, List, [], ◌∷◌, ◌++◌, append_assoc, map, length, Option, Some}
 use Rattle.std.proofs.lemmas.Bool.{and_parts, and_from}
 use Rattle.std.proofs.lemmas.List.{map-append, append-nil}
 use Rattle.bound_trees.specs.declared.expr.BoundExpr.{BoundExpr}
 use Rattle.rel_algebra.specs.Plain.{planned_expr, planned_all}
-use Rattle.catalog_store.specs.Catalog.{Function, FunctionObject, Catalog, object_named}
+use Rattle.catalog_store.specs.Catalog.{Catalog}
+use Rattle.catalog_store.specs.declared.entry.Head.{Head}
 use Rattle.catalog_store.specs.Uses.{Use, calls, reads, Uses, joined, uses_in, name_used, names_used, SameNames, TableFits}
 use Rattle.catalog_store.specs.View.{tree_of, exprs_of}
+use Rattle.names_in_sight.specs.declared.scope.Own.{Own}
 use Rattle.names_in_sight.specs.Sight.{Seen, may_stand}
 use Rattle.typed_parts.specs.declared.aggregates.Parts.{Parts}
+use Rattle.typed_parts.specs.Typed.{function_known}
 use Rattle.sql_names.proofs.Sets.{Names, same-names, same-then, same-append, same-swap, same-between}
 
 -- what is used, and whether all of it has a plan
@@ -26,11 +29,19 @@ nothing = record { uses = []; planned = true }
 abbrev pub names : Mark → Names
 names m = names_used m.uses
 
-module _ (known : Catalog) where
-  -- a use that stands for something in the catalog, of whatever height
+-- where tables and functions are sought: the catalog, and the routine in whose body their names stand
+pub record Known : Type 0 where
+  pub catalog : Catalog
+  pub own : Option Own
+
+abbrev pub known_in : Seen → Known
+known_in s = record { catalog = s.catalog; own = s.own }
+
+module _ (known : Known) where
+  -- a use that stands for a function in sight, of whatever height and with or without a plan, or for a table
   abbrev pub Stands : Use → Type 0
-  Stands (calls name arguments) = (f : Function) × (object_named name known ≡ Some (FunctionObject f)) × (length f.parameters ≡ arguments)
-  Stands (reads name) = TableFits known name
+  Stands (calls name arguments) = (h : Head) × (function_known name known.own known.catalog ≡ Some h) × (length h.parameters ≡ arguments)
+  Stands (reads name) = TableFits known.catalog name
 
   abbrev pub AllStand : Uses → Type 0
   AllStand [] = Unit {0}
@@ -116,10 +127,10 @@ module _ (known : Catalog) where
   -- ---- expressions
 
   abbrev pub mark : BoundExpr → Mark
-  mark e = record { uses = uses_in e; planned = planned_expr (tree_of known e) }
+  mark e = record { uses = uses_in e; planned = planned_expr (tree_of known.catalog e) }
 
   abbrev pub marks : List BoundExpr → Mark
-  marks es = record { uses = joined (map uses_in es); planned = planned_all (exprs_of known es) }
+  marks es = record { uses = joined (map uses_in es); planned = planned_all (exprs_of known.catalog es) }
 
   abbrev made : Uses → Bool → Mark
   made us b = record { uses = us; planned = b }

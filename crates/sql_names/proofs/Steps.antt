@@ -25,7 +25,7 @@ use Rattle.typed_parts.specs.declared.typed.TypedQuery.{TypedQuery}
 use Rattle.typed_parts.specs.declared.values.TypedRows.{TypedRows}
 use Rattle.names_in_sight.specs.Sight.{Seen}
 use Rattle.typed_parts.specs.declared.aggregates.Parts.{Parts}
-use Rattle.typed_parts.specs.Typed.{Beside, in_front, with_last, operated_typed, asked_of, chained_typed, asked_by_chain, call_head, call_typed, argument_faults, head_named}
+use Rattle.typed_parts.specs.Typed.{Beside, in_front, with_last, operated_typed, asked_of, chained_typed, asked_by_chain, call_head, call_typed, argument_faults, function_in_sight}
 use Rattle.typed_parts.specs.Subqueries.{single, member, width_faults, member_faults}
 use Rattle.typed_parts.specs.Turns.{each_noted}
 use Rattle.typed_parts.specs.ValueRows.{row_faults}
@@ -140,13 +140,13 @@ made_notes n m l so os value faults p q r =
     ap₂ notes_of least uses
 
 pub call_notes : (s : Seen) (parts : Parts) (i : Ident) (es : List Expr) (f : Option Head) (n n1 n2 : Notes) (l : Option Fault) (args : Operands)
-    → f ≡ head_named i.name s.catalog → n1 ≡ taken n (call_head i (length es) f) → n2 ≡ taken n1 (all_behind es s parts) → args ≡ (all_behind es s parts).value.value
+    → f ≡ function_in_sight i.name s → n1 ≡ taken n (call_head s.writing i (length es) f) → n2 ≡ taken n1 (all_behind es s parts) → args ≡ (all_behind es s parts).value.value
     → l ≡ noted n2.least (argument_faults f args.heads) → record { least = l; uses = n2.uses } ≡ taken n (judge_call i (map expression es) s parts)
 call_notes s parts i es f n n1 n2 l args is p q v r =
-    next n n1 _ (call_head i (length es) f) (made (call_typed i f) (λ o. argument_faults f o.heads) (all_behind es s parts)) p
+    next n n1 _ (call_head s.writing i (length es) f) (made (call_typed i f) (λ o. argument_faults f o.heads) (all_behind es s parts)) p
     (made_notes n1 n2 l (all_behind es s parts) args (call_typed i f) (λ o. argument_faults f o.heads) q v r)
-    ∙ ap (λ g. taken n (called i (length es) g (all_behind es s parts))) is
-    ∙ ap (λ k. taken n (called i k (head_named i.name s.catalog) (all_behind es s parts))) (sym (length-map es expression))
+    ∙ ap (λ g. taken n (called s.writing i (length es) g (all_behind es s parts))) is
+    ∙ ap (λ k. taken n (called s.writing i k (function_in_sight i.name s) (all_behind es s parts))) (sym (length-map es expression))
 
 pub chain_notes : (s : Seen) (parts q : Parts) (e first : Expr) (ls : List Link) (n n1 n2 : Notes) (l : Option Fault) (t : Typed) (others : Operands) → e ≡ tree.Chain first ls
     → q ≡ (judge_behind first s parts).value.parts → n1 ≡ taken n (judge_behind first s parts) → t ≡ (judge_behind first s parts).value.value

@@ -7,7 +7,6 @@ use Rattle.std.proofs.lemmas.Bool.Decides.{nat_tests}
 use Rattle.std.proofs.lemmas.List.{append-nil}
 use Rattle.syntax_trees.specs.declared.anchor.Anchor.{Anchor}
 use Rattle.syntax_trees.specs.declared.anchor.ColumnName.{ColumnName}
-use Rattle.sql_values.specs.declared.fold.FoldKind.{FoldKind}
 use Rattle.bound_trees.specs.declared.expr.BoundExpr.{BoundExpr}
 use Rattle.bound_trees.specs.declared.expr.BoundExpr.TheOpen.{BoundGrouping-F}
 use Rattle.bound_trees.specs.declared.expr.BoundLink.{BoundLink}
@@ -22,12 +21,11 @@ use Rattle.bound_trees.specs.declared.query.BoundSource.{BoundSource}
 use Rattle.rel_algebra.specs.Tree.{count, Rows, NoRow, MoreRows}
 use Rattle.rel_algebra.specs.Joins.{rows_width}
 use Rattle.rel_algebra.specs.Plain.{all_even, planned, planned_all, planned_from, planned_rows}
-use Rattle.catalog_store.specs.Catalog.{Catalog}
 use Rattle.catalog_store.specs.Planning.{AllPlanned}
-use Rattle.catalog_store.specs.Uses.{Uses, joined, uses_in, uses_in_row, uses_in_item, uses_in_grouping}
-use Rattle.catalog_store.specs.View.{Grouping as GroupingTree, exprs_of, rows_of, row_of, from_of, item_of, grouping_of as grouping_tree, selected as view}
+use Rattle.catalog_store.specs.Uses.{Uses, joined, uses_in, uses_in_row, uses_in_item}
+use Rattle.catalog_store.specs.View.{exprs_of, rows_of, row_of, from_of, item_of, selected as view}
 use Rattle.catalog_store.proofs.Laws.{uses_in_query-Select, uses_in_query-Values, uses_in_select-made, uses_in_row-Row, row_of-Row, query_of-Select, query_of-Values, select_of-made, grouping_uses-at, grouping_of-at}
-use Rattle.name_faults.specs.Faults.{Noted, fault_if, ◌>>=◌}
+use Rattle.name_faults.specs.Faults.{fault_if}
 use Rattle.name_faults.specs.declared.fault.FaultKind.TheVariants.{WrongCount}
 use Rattle.name_kinds.specs.declared.kind.Kind.{Kind}
 use Rattle.name_kinds.specs.declared.kind.Head.{Head}
@@ -35,26 +33,24 @@ use Rattle.name_kinds.specs.Kinds.{in_turn, joined_row}
 use Rattle.names_in_sight.specs.Sight.{Level, Seen, may_stand, inside, without_aggregates, inside_values}
 use Rattle.typed_parts.specs.declared.aggregates.Parts.{Parts}
 use Rattle.typed_parts.specs.declared.from.Opened.{Opened}
-use Rattle.typed_parts.specs.declared.list.Outputs.{Outputs}
-use Rattle.typed_parts.specs.declared.select.Rowed.{Rowed}
 use Rattle.typed_parts.specs.declared.values.TypedRows.{TypedRows}
-use Rattle.typed_parts.specs.From.{nothing_open, row_level, list_level}
-use Rattle.typed_parts.specs.Grouping.{is_written, is_grouped, grouping_of, no_grouping}
+use Rattle.typed_parts.specs.From.{row_level, list_level}
+use Rattle.typed_parts.specs.Grouping.{is_written, grouping_of, no_grouping}
 use Rattle.typed_parts.specs.Lists.{no_outputs}
 use Rattle.typed_parts.specs.Selects.{grouping_bound}
 use Rattle.typed_parts.specs.Typed.{no_parts, first_parts}
 use Rattle.typed_parts.specs.Turns.{each_noted}
-use Rattle.typed_parts.specs.ValueRows.{anchor_of_row, row_faults, row_of as made_row, with_row, no_rows}
-use Rattle.sql_names.specs.Judges.{Expression, JudgedItem, JudgedRow, FromJudge, QueryJudge, all_of}
-use Rattle.sql_names.specs.Lists.{judged_items, listed, judged_filter, judged_having}
-use Rattle.sql_names.specs.Selects.{rowed, list_and_having, list_typed, grouped, selected}
+use Rattle.typed_parts.specs.ValueRows.{anchor_of_row, row_faults, with_row, no_rows}
+use Rattle.sql_names.specs.Judges.{Expression, JudgedItem, JudgedRow, all_of}
+use Rattle.sql_names.specs.Lists.{judged_items, judged_filter, judged_having}
+use Rattle.sql_names.specs.Selects.{grouped, selected}
 use Rattle.sql_names.specs.ValueRows.{judged_row, one_row, width_of, judged_rows, judged_values}
 use Rattle.sql_names.proofs.Sets.{Names, front_nil, back_nil, no_fault, equal}
-use Rattle.sql_names.proofs.Marks.{Mark, nothing, ◌⊕◌, Covers, covers-as, covers-both, covers-nothing, between, grown-alone, right-nothing, and-assoc, marks, marks-append, Alike, alike-same, alike-is, alike-then, alike-both, alike-self, alike-swap, alike-outwards, alike-inwards}
+use Rattle.sql_names.proofs.Marks.{Known, known_in, Mark, ◌⊕◌, Covers, covers-as, covers-both, covers-nothing, between, grown-alone, right-nothing, and-assoc, marks, marks-append, Alike, alike-same, alike-is, alike-then, alike-both, alike-self, alike-swap, alike-outwards, alike-inwards}
 use Rattle.sql_names.proofs.Bound.{query-mark}
-use Rattle.sql_names.proofs.Forms.{Fitting, AllFitting, QueryFits, all-grow, as-many}
+use Rattle.sql_names.proofs.Forms.{AllFitting, QueryFits, all-grow, as-many}
 use Rattle.sql_names.proofs.Clauses.{AllItems, items-fit, MaybeFits, filter-fits, having-fits, keys-fit}
-use Rattle.sql_names.proofs.Froms.{item-marks, from-planned, all_planned, AllFrom, opened-fit}
+use Rattle.sql_names.proofs.Froms.{item-marks, from-planned}
 
 -- ---- lengths
 
@@ -63,7 +59,7 @@ joined-length [] hs = refl
 joined-length (k ∷ ks) [] = refl
 joined-length (k ∷ ks) (h ∷ hs) = ap (λ n. suc n) (joined-length ks hs)
 
-counted : (known : Catalog) (es : List BoundExpr) → count (exprs_of known es) ≡ length es
+counted : (known : Known) (es : List BoundExpr) → count (exprs_of known.catalog es) ≡ length es
 counted known [] = refl
 counted known (e ∷ es) = ap (λ n. suc n) (counted known es)
 
@@ -83,22 +79,22 @@ none-in-values : (ls : List Level) → may_stand (without_aggregates ls) ≡ fal
 none-in-values [] = refl
 none-in-values (l ∷ ls) = refl
 
-module _ (known : Catalog) (planned_all_names : AllPlanned known) where
+module _ (known : Known) (planned_all_names : AllPlanned known.catalog) where
   abbrev made : Uses → Bool → Mark
   made us b = record { uses = us; planned = b }
 
   -- ---- VALUES
 
   abbrev row-mark : BoundRow → Mark
-  row-mark r = made (uses_in_row r) (planned_all (row_of known r))
+  row-mark r = made (uses_in_row r) (planned_all (row_of known.catalog r))
 
   abbrev row-marks : List BoundRow → Mark
-  row-marks rs = made (joined (map uses_in_row rs)) (planned_rows (rows_of known rs))
+  row-marks rs = made (joined (map uses_in_row rs)) (planned_rows (rows_of known.catalog rs))
 
   alike-row : (es : List BoundExpr) → Alike known (marks known es) (row-marks (Row es ∷ []))
   alike-row es =
       alike-then known (marks known es) (row-mark (Row es)) (row-marks (Row es ∷ []))
-      (alike-same known (marks known es) (row-mark (Row es)) (uses_in_row-Row es) (λ p. ap planned_all (row_of-Row known es) ∙ p))
+      (alike-same known (marks known es) (row-mark (Row es)) (uses_in_row-Row es) (λ p. ap planned_all (row_of-Row known.catalog es) ∙ p))
       (alike-is known (row-mark (Row es)) (row-marks (Row es ∷ [])) (right-nothing known (row-mark (Row es))))
 
   rows-append : (xs ys : List BoundRow) → row-marks (xs ++ ys) ≡ (row-marks xs ⊕ row-marks ys)
@@ -107,17 +103,17 @@ module _ (known : Catalog) (planned_all_names : AllPlanned known) where
       ap (λ m. row-mark x ⊕ m) (rows-append xs ys)
       ∙ ap₂ made (sym (append_assoc (uses_in_row x) (row-marks xs).uses (row-marks ys).uses)) (and-assoc known (row-mark x).planned (row-marks xs).planned (row-marks ys).planned)
 
-  even-append : (n : ℕ) (rs : List BoundRow) (es : List BoundExpr) → all_even n (rows_of known rs) ≡ true → length es ≡ n → all_even n (rows_of known (rs ++ Row es ∷ [])) ≡ true
-  even-append n [] es p q = and_from (nat_eq (count (row_of known (Row es))) n) true (same_number (count (row_of known (Row es))) n (ap count (row_of-Row known es) ∙ counted known es ∙ q)) refl
+  even-append : (n : ℕ) (rs : List BoundRow) (es : List BoundExpr) → all_even n (rows_of known.catalog rs) ≡ true → length es ≡ n → all_even n (rows_of known.catalog (rs ++ Row es ∷ [])) ≡ true
+  even-append n [] es p q = and_from (nat_eq (count (row_of known.catalog (Row es))) n) true (same_number (count (row_of known.catalog (Row es))) n (ap count (row_of-Row known.catalog es) ∙ counted known es ∙ q)) refl
   even-append n (x ∷ rs) es p q =
-      let both = and_parts (nat_eq (count (row_of known x)) n) (all_even n (rows_of known rs)) p in
-      and_from (nat_eq (count (row_of known x)) n) (all_even n (rows_of known (rs ++ Row es ∷ []))) both.0 (even-append n rs es both.1 q)
+      let both = and_parts (nat_eq (count (row_of known.catalog x)) n) (all_even n (rows_of known.catalog rs)) p in
+      and_from (nat_eq (count (row_of known.catalog x)) n) (all_even n (rows_of known.catalog (rs ++ Row es ∷ []))) both.0 (even-append n rs es both.1 q)
 
   abbrev pub AllRows : List JudgedRow → Type 0
   AllRows [] = Unit {0}
   AllRows (r ∷ rs) = AllFitting known planned_all_names r × AllRows rs
 
-  module _ (at : Anchor) (targets : List Kind) (s : Seen) (m : may_stand s.levels ≡ false) (is : s.catalog ≡ known) where
+  module _ (at : Anchor) (targets : List Kind) (s : Seen) (m : may_stand s.levels ≡ false) (is : known_in s ≡ known) where
     row-even : (ks : List Kind) (r : JudgedRow) → (judged_row at targets s ks r).faults ≡ [] → length (judged_row at targets s ks r).value.trees ≡ length ks
     row-even ks es p =
         let so = all_of s no_parts es in
@@ -127,9 +123,9 @@ module _ (known : Catalog) (planned_all_names : AllPlanned known) where
         let many = front_nil (fault_if (not (length heads == length ks)) WrongCount (anchor_of_row at heads)) kinds asked in
         as-many known planned_all_names s no_parts es ∙ equal (length heads) (length ks) (no_fault _ _ (anchor_of_row at heads) many)
 
-    rows-fit : (rs : List JudgedRow) (so : TypedRows) (n : ℕ) (u : Names) → AllRows rs → length so.kinds ≡ n → all_even n (rows_of known so.rows) ≡ true → Covers known u (row-marks so.rows)
+    rows-fit : (rs : List JudgedRow) (so : TypedRows) (n : ℕ) (u : Names) → AllRows rs → length so.kinds ≡ n → all_even n (rows_of known.catalog so.rows) ≡ true → Covers known u (row-marks so.rows)
         → (each_noted (one_row at targets s) so rs).faults ≡ []
-        → (all_even n (rows_of known (each_noted (one_row at targets s) so rs).value.rows) ≡ true)
+        → (all_even n (rows_of known.catalog (each_noted (one_row at targets s) so rs).value.rows) ≡ true)
         × Covers known (u ++ (each_noted (one_row at targets s) so rs).uses) (row-marks (each_noted (one_row at targets s) so rs).value.rows)
     rows-fit [] so n u fs k q c p = (q, subst (λ v. Covers known v (row-marks so.rows)) (sym (append-nil u)) c)
     rows-fit (r ∷ rs) so n u fs k q c p =
@@ -158,7 +154,7 @@ module _ (known : Catalog) (planned_all_names : AllPlanned known) where
       let ok = rows-fit at targets seen (none-in-values s.levels) is rs (no_rows width) (length (no_rows width).kinds) [] fs refl refl (covers-nothing known) e in
       covers-as known so.uses (row-marks rows) (query-mark known (bound.Values rows)) ok.1
       (alike-same known (row-marks rows) (query-mark known (bound.Values rows)) (uses_in_query-Values rows)
-      (λ p. ap planned (query_of-Values known rows) ∙ and_from (all_even (rows_width (rows_of known rows)) (rows_of known rows)) (planned_rows (rows_of known rows)) (even _ (rows_of known rows) ok.0) p))
+      (λ p. ap planned (query_of-Values known.catalog rows) ∙ and_from (all_even (rows_width (rows_of known.catalog rows)) (rows_of known.catalog rows)) (planned_rows (rows_of known.catalog rows)) (even _ (rows_of known.catalog rows) ok.0) p))
 
   -- ---- SELECT
 
@@ -199,9 +195,9 @@ module _ (known : Catalog) (planned_all_names : AllPlanned known) where
       let behind = and_parts cj ((ps && hs) && is) all.1 in
       let lists = and_parts (ps && hs) is behind.1 in
       let groups = and_parts ps hs lists.0 in
-      ap planned (query_of-Select known select ∙ select_of-made known items from conjuncts (Some (roll-BoundGrouping g))
-      ∙ ap (λ z. view (Some z) (exprs_of known items) (from_of (map (item_of known) from)) (exprs_of known conjuncts)) (grouping_of-at known g))
-      ∙ and_from (planned_from (from_of (map (item_of known) from))) (cj && (ps && (hs && is))) (from-planned (map (item_of known) from) all.0)
+      ap planned (query_of-Select known.catalog select ∙ select_of-made known.catalog items from conjuncts (Some (roll-BoundGrouping g))
+      ∙ ap (λ z. view (Some z) (exprs_of known.catalog items) (from_of (map (item_of known.catalog) from)) (exprs_of known.catalog conjuncts)) (grouping_of-at known.catalog g))
+      ∙ and_from (planned_from (from_of (map (item_of known.catalog) from))) (cj && (ps && (hs && is))) (from-planned (map (item_of known.catalog) from) all.0)
       (and_from cj (ps && (hs && is)) behind.0 (and_from ps (hs && is) groups.0 (and_from hs is groups.1 lists.1))))
   select-alike false keys parts from conjuncts having items n =
       let select = roll-BoundSelect (record { items = items; from = from; conjuncts = conjuncts; grouping = grouping_bound false keys parts having }) in
@@ -218,9 +214,9 @@ module _ (known : Catalog) (planned_all_names : AllPlanned known) where
       let all = and_parts f (cj && ((ps && hs) && is)) p in
       let behind = and_parts cj ((ps && hs) && is) all.1 in
       let lists = and_parts (ps && hs) is behind.1 in
-      ap planned (query_of-Select known select ∙ select_of-made known items from conjuncts None)
-      ∙ and_from is (planned_from (from_of (map (item_of known) from)) && cj) lists.1
-      (and_from (planned_from (from_of (map (item_of known) from))) cj (from-planned (map (item_of known) from) all.0) behind.0))
+      ap planned (query_of-Select known.catalog select ∙ select_of-made known.catalog items from conjuncts None)
+      ∙ and_from is (planned_from (from_of (map (item_of known.catalog) from)) && cj) lists.1
+      (and_from (planned_from (from_of (map (item_of known.catalog) from))) cj (from-planned (map (item_of known.catalog) from) all.0) behind.0))
 
   -- ---- whole
 
@@ -233,7 +229,7 @@ module _ (known : Catalog) (planned_all_names : AllPlanned known) where
   none-there (Some x) p = absurd cc
 
   pub selected-fits : (at : Anchor) (items : List JudgedItem) (filter : Option Expression) (group_by : List ColumnName) (having : Option Expression) (targets : List Kind) (s : Seen) (so : Opened) (u : Names)
-      → AllItems known planned_all_names items → MaybeFits known planned_all_names filter → MaybeFits known planned_all_names having → s.catalog ≡ known
+      → AllItems known planned_all_names items → MaybeFits known planned_all_names filter → MaybeFits known planned_all_names having → known_in s ≡ known
       → Covers known u (item-marks known planned_all_names so.from) → (selected at items filter group_by having targets s so).faults ≡ []
       → Covers known (u ++ (selected at items filter group_by having targets s so).uses) (query-mark known (selected at items filter group_by having targets s so).value.tree)
   selected-fits at items filter group_by having targets s so u fi ff fh is c e =

@@ -30,7 +30,10 @@ use Rattle.bound_trees.specs.declared.query.BoundRow.TheVariants as row
 use Rattle.bound_trees.specs.declared.query.BoundSelect.{roll-BoundSelect}
 use Rattle.bound_trees.specs.declared.query.BoundSource.{BoundSource}
 use Rattle.bound_trees.specs.declared.query.BoundSource.TheVariants as source
-use Rattle.catalog_store.specs.Catalog.{Catalog, TableObject, FunctionObject, missing}
+use Rattle.bound_trees.specs.declared.statement.BoundStmt.TheVariants.{Leave}
+use Rattle.catalog_store.specs.Catalog.{Catalog, TableObject, FunctionObject, InterpretedObject, ProcedureObject, missing}
+use Rattle.catalog_store.specs.declared.entry.DataAccess.TheVariants.{ContainsSql, ReadsSqlData, ModifiesSqlData}
+use Rattle.catalog_store.specs.declared.entry.ParameterMode.TheVariants.{In}
 use Rattle.name_faults.specs.declared.fault.Fault.{Fault}
 use Rattle.name_faults.specs.declared.fault.FaultKind.{FaultKind}
 use Rattle.name_faults.specs.declared.fault.FaultKind.TheVariants.{UnknownName, DuplicateName, TypeMismatch, WrongCount, NotPermitted}
@@ -39,11 +42,12 @@ use Rattle.name_kinds.specs.Conjuncts.{conjuncts_of}
 use Rattle.name_kinds.specs.declared.kind.Kind.{Kind}
 use Rattle.name_kinds.specs.declared.kind.Kind.TheVariants.{Integer, Text}
 use Rattle.names_in_sight.specs.declared.output.Output.{Output}
-use Rattle.names_in_sight.specs.Sight.{at_top}
+use Rattle.names_in_sight.specs.Sight.{Seen, at_top, in_routine, inside_writing}
 use Rattle.typed_parts.specs.declared.typed.TypedQuery.{TypedQuery}
+use Rattle.sql_names.specs.Names.{judge}
 use Rattle.sql_names.specs.Order.{judge_ordered}
 use Rattle.sql_names.specs.Queries.{judge_query}
-use Rattle.sql_names.specs.Written.{Expr, Literal, Name, Call, Operation, Aggregate, Chain, Subquery, Exists, InQuery, NoLink, MoreLinks, exprs, Item, All, Value, Query, Grouped, Select, Values, From, Comma, Cross, Inner, Left, Ref, Table, Derived, froms, query_of}
+use Rattle.sql_names.specs.Written.{Expr, Literal, Name, Call, Operation, Aggregate, Chain, Subquery, Exists, InQuery, NoLink, MoreLinks, exprs, Item, All, Value, Query, Grouped, Select, Values, From, Comma, Cross, Inner, Left, Ref, Table, Derived, froms, query_of, expr_of}
 
 abbrev pub at : ℕ → Anchor
 at token = record { token = token; line = 1; column = token }
@@ -97,8 +101,8 @@ column n data_type = record { name = n; data_type = data_type; not_null = false 
 abbrev pub catalog : Catalog
 catalog = record { name = codes "T"; object = TableObject (record { columns = column (codes "K") type.Integer ∷ column (codes "A") type.Integer ∷ []; key = 0 ∷ [] }) }
     ∷ record { name = codes "S"; object = TableObject (record { columns = column (codes "A") type.Integer ∷ column (codes "B") (type.Varchar 9) ∷ []; key = 0 ∷ [] }) }
-    ∷ record { name = codes "F"; object = FunctionObject (record { parameters = type.Integer ∷ []; returns = type.Integer; height = 8; uses = []; routine = missing }) }
-    ∷ record { name = codes "E"; object = FunctionObject (record { parameters = type.Integer ∷ []; returns = type.Integer; height = 1; uses = []; routine = missing }) } ∷ []
+    ∷ record { name = codes "F"; object = FunctionObject (record { parameters = type.Integer ∷ []; returns = type.Integer; access = ContainsSql; height = 8; uses = []; routine = missing }) }
+    ∷ record { name = codes "E"; object = FunctionObject (record { parameters = type.Integer ∷ []; returns = type.Integer; access = ContainsSql; height = 1; uses = []; routine = missing }) } ∷ []
 
 -- ---- queries
 
@@ -397,3 +401,38 @@ pub record BindsByLevel : Type 0 where
       (conjuncts_of (bound.Operation word_of.Opposite (bound.In (bound.Column 0 1) (bound_select (codes "S") (bound.Column 0 0) (conjuncts_of (bound.Exists (query.Values (row.Row (bound.Column 1 0 ∷ []) ∷ []))))) ∷ [])))
   -- the tables in the order in which they are judged
   pub uses : (judged members).uses ≡ codes "T" ∷ codes "S" ∷ []
+
+-- ---- calls in sight
+
+-- the catalog with a function W that modifies SQL data, a function I without a plan, and a procedure P, each of an INTEGER
+abbrev pub with_routines : Catalog
+with_routines = record { name = codes "W"; object = InterpretedObject (record { parameters = type.Integer ∷ []; returns = type.Integer; access = ModifiesSqlData; height = 1; uses = []; null_call = false; self_calling = false; body = Leave 0 }) }
+    ∷ record { name = codes "I"; object = InterpretedObject (record { parameters = type.Integer ∷ []; returns = type.Integer; access = ReadsSqlData; height = 1; uses = []; null_call = false; self_calling = false; body = Leave 0 }) }
+    ∷ record { name = codes "P"; object = ProcedureObject (record { modes = In ∷ []; parameters = type.Integer ∷ []; access = ContainsSql; height = 1; uses = []; self_calling = false; body = Leave 0 }) }
+    ∷ catalog
+
+-- in the body of a function of one VARCHAR, and in that of a procedure
+abbrev pub in_function : List ℕ → Seen
+in_function n =
+    in_routine (record { name = n; head = Some (record { parameters = type.Varchar 9 ∷ []; returns = type.Varchar 9; access = ModifiesSqlData; height = 2; uses = [] }) })
+    (at_top with_routines)
+
+abbrev pub in_procedure : List ℕ → Seen
+in_procedure n = in_routine (record { name = n; head = None }) (at_top with_routines)
+
+-- the faults of a call of this name, of a number at token 3
+abbrev pub call_of : List ℕ → Seen → List Fault
+call_of n seen = (judge (expr_of (call n 1 (number 3 ∷ []))) seen).faults
+
+pub record CallsInSight : Type 0 where
+  pub with_a_plan : call_of (codes "F") (at_top with_routines) ≡ []
+  pub without_a_plan : call_of (codes "I") (at_top with_routines) ≡ []
+  pub of_a_procedure : call_of (codes "P") (at_top with_routines) ≡ fault UnknownName 1 ∷ []
+  pub of_itself : (judge (expr_of (call (codes "G") 1 (text 3 ∷ []))) (in_function (codes "G"))).faults ≡ []
+  pub of_itself_before_the_catalog : call_of (codes "F") (in_function (codes "F")) ≡ fault TypeMismatch 3 ∷ []
+  pub of_its_procedure : call_of (codes "F") (in_procedure (codes "F")) ≡ fault UnknownName 1 ∷ []
+  pub writing : call_of (codes "W") (at_top with_routines) ≡ []
+  pub writing_in_insert : call_of (codes "W") (inside_writing (at_top with_routines)) ≡ fault NotPermitted 1 ∷ []
+  pub reading_in_insert : call_of (codes "I") (inside_writing (at_top with_routines)) ≡ []
+  pub of_itself_in_insert : (judge (expr_of (call (codes "G") 1 (text 3 ∷ []))) (inside_writing (in_function (codes "G")))).faults ≡ fault NotPermitted 1 ∷ []
+  pub arguments_in_insert : (judge (expr_of (call (codes "W") 1 [])) (inside_writing (at_top with_routines))).faults ≡ fault WrongCount 1 ∷ fault NotPermitted 1 ∷ []

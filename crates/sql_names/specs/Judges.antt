@@ -1,7 +1,7 @@
 -- What judges of expressions, lists and queries make of those of their parts. A judge is a function of the sight; one of an expression
 -- also of the parts of the group so far. ISO/IEC 9075-2, 6.6 (identifier chain), 6.26 (value expression), 7.19 (subquery), 10.4 (routine
 -- invocation) and 10.9 (aggregate function).
-use Rattle.std.specs.Prelude.{ℕ, Bool, false, true, not, List, [], ◌∷◌, ◌++◌, map, length, Option, None, Some}
+use Rattle.std.specs.Prelude.{ℕ, Bool, not, List, [], ◌∷◌, ◌++◌, map, length, Option, None}
 use Rattle.std.specs.List.{list_any}
 use Rattle.sql_values.specs.declared.fold.FoldKind.{FoldKind}
 use Rattle.syntax_trees.specs.declared.anchor.Anchor.{Anchor}
@@ -24,7 +24,7 @@ use Rattle.typed_parts.specs.declared.typed.Typed.{Typed}
 use Rattle.typed_parts.specs.declared.typed.Operands.{Operands}
 use Rattle.typed_parts.specs.declared.typed.Sourced.{Sourced}
 use Rattle.typed_parts.specs.declared.typed.TypedQuery.{TypedQuery}
-use Rattle.typed_parts.specs.Typed.{Beside, keeping, no_parts, settle, literal, named, no_operands, in_front, operated_typed, asked_of, chained_typed, asked_by_chain, aggregate_typed, aggregate_faults, with_aggregate, head_named, call_head, argument_faults, call_typed}
+use Rattle.typed_parts.specs.Typed.{Beside, keeping, no_parts, settle, literal, named, no_operands, in_front, operated_typed, asked_of, chained_typed, asked_by_chain, aggregate_typed, aggregate_faults, with_aggregate, function_in_sight, call_head, argument_faults, call_typed}
 use Rattle.typed_parts.specs.Subqueries.{single, exists, member, width_faults, member_faults}
 
 -- ---- judges
@@ -122,8 +122,8 @@ aggregate_in at kind seen parts es = aggregated at kind (may_stand seen.levels) 
 -- ---- calls
 
 -- what stands in the arguments is judged in any case
-abbrev pub called : Ident → ℕ → Option FunctionHead → Noted (Beside Operands) → Noted (Beside Typed)
-called i arguments f so = behind (call_head i arguments f) (made (call_typed i f) (λ o. argument_faults f o.heads) so)
+abbrev pub called : Bool → Ident → ℕ → Option FunctionHead → Noted (Beside Operands) → Noted (Beside Typed)
+called writing i arguments f so = behind (call_head writing i arguments f) (made (call_typed i f) (λ o. argument_faults f o.heads) so)
 
 -- ---- subqueries
 
@@ -165,7 +165,7 @@ abbrev pub judge_name : ColumnName → Judge
 judge_name c seen parts = keeping parts (named (anchor_of_column c) (stands_for c seen))
 
 abbrev pub judge_call : Ident → List Expression → Judge
-judge_call i args seen parts = called i (length args) (head_named i.name seen.catalog) (all_of seen parts args)
+judge_call i args seen parts = called seen.writing i (length args) (function_in_sight i.name seen) (all_of seen parts args)
 
 abbrev pub judge_operation : Anchor → Operation → List Expression → Judge
 judge_operation at operation es seen parts = operated at operation (all_of seen parts es)

@@ -7,6 +7,7 @@ pub mod Queries
 pub mod Names
 pub mod Order
 pub mod Heights
+pub mod Runs
 pub mod Binds
 pub mod Written
 pub mod Examples

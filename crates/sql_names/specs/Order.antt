@@ -2,10 +2,15 @@
 use Rattle.std.specs.Prelude.{[]}
 use Rattle.syntax_trees.specs.declared.query.OrderedQuery.{OrderedQuery}
 use Rattle.bound_trees.specs.declared.query.BoundQuery.{BoundQuery}
-use Rattle.name_faults.specs.Faults.{Noted, ◌>>=◌}
+use Rattle.name_faults.specs.Faults.{Noted, as_value, ◌>>=◌}
 use Rattle.names_in_sight.specs.Sight.{Seen}
+use Rattle.typed_parts.specs.declared.typed.TypedQuery.{TypedQuery}
 use Rattle.typed_parts.specs.Order.{ordered_by}
 use Rattle.sql_names.specs.Queries.{judge_query}
 
+-- with its columns
+abbrev pub judge_ordered_typed : OrderedQuery → Seen → Noted TypedQuery
+judge_ordered_typed q seen = judge_query [] q.query seen >>= ordered_by q.order
+
 abbrev pub judge_ordered : OrderedQuery → Seen → Noted BoundQuery
-judge_ordered q seen = judge_query [] q.query seen >>= ordered_by q.order
+judge_ordered q seen = as_value (λ t. t.tree) (judge_ordered_typed q seen)

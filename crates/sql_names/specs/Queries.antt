@@ -1,7 +1,7 @@
 -- Expressions and queries: the bound tree that each stands for, with its kind or its columns, the name faults in it, and the names that it uses,
 -- in one fold whose values are judges. ISO/IEC 9075-2, 6.26 (value expression), 7.5 (from clause), 7.6 (table reference), 7.16 (query specification)
 -- and 7.17 (query expression).
-use Rattle.std.specs.Prelude.{Bool, true, false, ◌||◌, List, [], map, Option, None, Some}
+use Rattle.std.specs.Prelude.{true, false, ◌||◌, List, [], map, Option, None, Some}
 use Rattle.syntax_trees.specs.declared.anchor.Anchor.{Anchor}
 use Rattle.syntax_trees.specs.declared.anchor.ColumnName.{ColumnName}
 use Rattle.syntax_trees.specs.declared.expr.Expr.{Expr, fold-Expr}
@@ -21,6 +21,7 @@ use Rattle.typed_parts.specs.declared.from.Opened.{Opened}
 use Rattle.typed_parts.specs.declared.typed.TypedQuery.{TypedQuery}
 use Rattle.typed_parts.specs.From.{table_judge, derived_source, nothing_open, put_comma, put_cross}
 use Rattle.typed_parts.specs.Turns.{each_noted}
+use Rattle.sql_names.specs.declared.select_parts.SelectParts.{SelectParts}
 use Rattle.sql_names.specs.Judges.{Expression, JudgedItem, JudgedLink, JudgedRow, QueryJudge, FromJudge, RefJudge, unnamed, any_aggregate, any_in_links, judge_literal, judge_name, judge_call, judge_operation, judge_aggregate, judge_chain, judge_single, judge_exists, judge_member}
 use Rattle.sql_names.specs.From.{put_inner, put_left}
 use Rattle.sql_names.specs.Lists.{all_item, value_item}
@@ -113,7 +114,13 @@ abbrev pub maybe : Option Expr → Option Expression
 maybe None = None
 maybe (Some e) = Some (expression e)
 
--- ---- the parts of a SELECT and of VALUES
+-- ---- the parts of a SELECT, which may stand by themselves, and of VALUES
+
+abbrev pub judge_parts : Anchor → List JudgedItem → List FromItem → Option Expression → List ColumnName → Option Expression → QueryJudge
+judge_parts at items from filter group_by having targets outer = opened_of from outer >>= selected at items filter group_by having targets outer
+
+abbrev pub parts_judge : SelectParts → QueryJudge
+parts_judge p = judge_parts p.anchor (map select_item p.items.now) p.from.now (maybe p.filter.now) p.group_by.now (maybe p.having.now)
 
 abbrev pub anchor_of : Select → Anchor
 anchor_of s = (out-Select s).anchor

@@ -1,5 +1,5 @@
 -- SELECT over what FROM brings in sight. ISO/IEC 9075-2, 7.13 (group by clause), 7.14 (having clause) and 7.16 (query specification).
-use Rattle.std.specs.Prelude.{Bool, List, [], length, Option, is_some}
+use Rattle.std.specs.Prelude.{Bool, List, length, Option, is_some}
 use Rattle.std.specs.List.{list_any}
 use Rattle.syntax_trees.specs.declared.anchor.Anchor.{Anchor}
 use Rattle.syntax_trees.specs.declared.anchor.ColumnName.{ColumnName}

@@ -28,7 +28,7 @@ use syntax_trees::{
 use typed_parts::{
     Grouping, Listed, Opened, Operands, Outputs, Parts, Rowed, Sourced, Typed, TypedQuery,
     TypedRows, add_from, add_item, add_operand, add_output, add_row, aggregated, ask_row,
-    bind_row_grouping, bind_table, called, chained, derived_source, exists, function_named,
+    bind_row_grouping, bind_table, called, chained, derived_source, exists, function_in_sight,
     list_level, literal, member, no_operands, no_outputs, no_parts, no_rows, note_call,
     note_repeated, nothing_open, on_level, operated, parts_of_keys, put_comma, put_cross,
     row_level, select_typed, settle, single, star, values_typed,
@@ -171,8 +171,8 @@ fn bind_call(
     ensures parts { OnOk result (parts.new ≡ (judges.judge_call ident.now (map expression args.now) (seen_by sight.now) parts.old).value.parts) }
     ensures notes { OnOk result (notes.new ≡ taken notes.old (judges.judge_call ident.now (map expression args.now) (seen_by sight.now) parts.old)) }
 {
-    let function = function_named(&ident.name, sight.catalog);
-    note_call(ident, args.len(), function, notes)?;
+    let function = function_in_sight(&ident.name, sight);
+    note_call(sight.writing, ident, args.len(), function, notes)?;
     let args = bind_all(alloc, args, sight, parts, notes)?;
     let call = called(ident, function, args, &mut notes.least)?;
     Ok(call)
@@ -198,8 +198,10 @@ fn bind_aggregate(
     let levels = ungrouped(alloc, sight.levels)?;
     let inner = Sight {
         levels: levels.as_slice(),
-        variables: sight.variables,
+        scopes: sight.scopes,
         catalog: sight.catalog,
+        own: sight.own,
+        writing: sight.writing,
     };
     let args = bind_all(alloc, args, &inner, &mut no_parts(alloc), notes)?;
     aggregated(at, kind, args, parts, &mut notes.least)
@@ -246,7 +248,7 @@ fn bind_items(
 
 // The list, each of the kind of what it is stored into.
 #[cycle(bind)]
-fn bind_list(
+pub(crate) fn bind_list(
     alloc: Global,
     items: &[SelectItem],
     targets: &[Kind],
@@ -295,15 +297,17 @@ fn bind_condition(
     let levels = entered(alloc, level, outside.levels)?;
     let sight = Sight {
         levels: levels.as_slice(),
-        variables: outside.variables,
+        scopes: outside.scopes,
         catalog: outside.catalog,
+        own: outside.own,
+        writing: outside.writing,
     };
     bind_test(alloc, condition, &sight, &mut no_parts(alloc), notes)
 }
 
 // The conjuncts of WHERE.
 #[cycle(bind)]
-fn bind_filter(
+pub(crate) fn bind_filter(
     alloc: Global,
     filter: &Option<Expr>,
     level: Level<'_>,
@@ -321,7 +325,7 @@ fn bind_filter(
 
 // The conjuncts of HAVING, behind the parts of the list.
 #[cycle(bind)]
-fn bind_having(
+pub(crate) fn bind_having(
     alloc: Global,
     having: &Option<Expr>,
     sight: &Sight<'_>,
@@ -394,8 +398,10 @@ fn bind_level(
     let levels = entered(alloc, level, outside.levels)?;
     let sight = Sight {
         levels: levels.as_slice(),
-        variables: outside.variables,
+        scopes: outside.scopes,
         catalog: outside.catalog,
+        own: outside.own,
+        writing: outside.writing,
     };
     bind_listed(alloc, select, targets, parts, &sight, notes)
 }
@@ -541,8 +547,10 @@ fn bind_values(
     let levels = without_aggregates(alloc, outside.levels)?;
     let sight = Sight {
         levels: levels.as_slice(),
-        variables: outside.variables,
+        scopes: outside.scopes,
         catalog: outside.catalog,
+        own: outside.own,
+        writing: outside.writing,
     };
     let rows = bind_rows(alloc, values, targets, &sight, notes)?;
     values_typed(alloc, values.anchor, rows)
@@ -568,7 +576,7 @@ pub fn bind_typed(
 }
 
 #[cycle(bind)]
-fn bind_from(
+pub(crate) fn bind_from(
     alloc: Global,
     items: &[FromItem],
     outside: &Sight<'_>,

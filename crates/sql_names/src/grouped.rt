@@ -3,10 +3,10 @@
 ghost use Rattle.std.specs.Prelude.{◌≡◌, map};
 ghost use Rattle.std.specs.List.{list_any};
 ghost use Rattle.sql_names.specs.Judges as spec;
-ghost use Rattle.sql_names.specs.Queries.{expression, judged_link, select_item, items_of, grouping_columns, having_of};
+ghost use Rattle.sql_names.specs.Queries.{expression, judged_link, select_item, maybe, items_of, grouping_columns, having_of};
 ghost use Rattle.sql_names.specs.Selects.{grouped};
 
-use syntax_trees::{Expr, Link, Select, SelectItem};
+use syntax_trees::{ColumnName, Expr, Link, Select, SelectItem};
 use typed_parts::is_grouped;
 
 // Whether an aggregate stands directly in an expression.
@@ -71,14 +71,24 @@ fn any_item_has(items: &[SelectItem]) -> bool
     false
 }
 
-/// Whether a query is grouped: by GROUP BY, by HAVING, or by an aggregate in its list.
+/// Whether a query of these parts is grouped: by GROUP BY, by HAVING, or by an aggregate in its list.
+pub(crate) fn is_grouped_by(
+    items: &[SelectItem],
+    group_by: &[ColumnName],
+    having: &Option<Expr>,
+) -> bool
+    ensures { result ≡ grouped (map select_item items.now) group_by.now (maybe having.now) }
+{
+    is_grouped(any_item_has(items), group_by, having.is_some())
+}
+
+/// Whether a query is grouped.
 pub(crate) fn is_grouped_select(select: &Select) -> bool
     ensures { result ≡ grouped (items_of select.now) (grouping_columns select.now) (having_of select.now) }
 {
-    let aggregates = any_item_has(select.items.as_slice());
-    is_grouped(
-        aggregates,
+    is_grouped_by(
+        select.items.as_slice(),
         select.group_by.as_slice(),
-        select.having.is_some(),
+        &select.having,
     )
 }

@@ -2,15 +2,19 @@
 //! with its names resolved.
 #![tactic(auto, using(name_faults::proofs::Laws::noted_append))]
 
-ghost use Rattle.sql_names.specs.Examples.{NamesInJoins, NamesOfDerivedTables, OrderByOutputColumns, BindsByPlaceInFrom, GroupedQueries, BindsByPlaceInGroup, SubqueriesInExpressions, BindsByLevel};
+ghost use Rattle.sql_names.specs.Examples.{NamesInJoins, NamesOfDerivedTables, OrderByOutputColumns, BindsByPlaceInFrom, GroupedQueries, BindsByPlaceInGroup, SubqueriesInExpressions, BindsByLevel, CallsInSight};
 
 mod bind;
 mod grouped;
 mod order;
 mod parts;
+mod runs;
+mod select_parts;
 
 pub use bind::{bind_expr, bind_typed};
-pub use order::{bind_ordered, bind_query};
+pub use order::{bind_ordered, bind_ordered_typed, bind_query};
+pub use runs::all_run;
+pub use select_parts::{SelectParts, bind_select_parts};
 
 /// Names over several items of FROM, in the list, in WHERE and in ON: each fault at its place.
 pub fn names_in_joins()
@@ -52,4 +56,10 @@ pub fn subqueries_in_expressions()
 /// A column of a query outside is bound by how many queries outwards it stands.
 pub fn binds_by_level()
     ensures { BindsByLevel }
+{}
+
+/// Which functions are in sight of a call, inside INSERT, UPDATE and DELETE and elsewhere: each fault
+/// at its place.
+pub fn calls_in_sight()
+    ensures { CallsInSight }
 {}

@@ -15,7 +15,22 @@ use names_in_sight::Sight;
 use sql_values::NoMemory;
 use std::alloc::Global;
 use syntax_trees::{OrderedQuery, Query};
-use typed_parts::{NameFault, ordered_by};
+use typed_parts::{NameFault, TypedQuery, ordered_by};
+
+/// A query with its ORDER BY, its columns and its names resolved, and what is noted on the way.
+pub fn bind_ordered_typed(
+    alloc: Global,
+    ordered: &OrderedQuery,
+    outside: &Sight<'_>,
+    notes: &mut Notes,
+) -> Result<TypedQuery, NoMemory>
+    ensures value { IfOk result (λ q. q ≡ (spec.judge_ordered_typed ordered.now (seen_by outside.now)).value) }
+    ensures notes { OnOk result (notes.new ≡ taken notes.old (spec.judge_ordered_typed ordered.now (seen_by outside.now))) }
+{
+    let query = bind_typed(alloc, &ordered.query, &[], outside, notes)?;
+    let query = ordered_by(alloc, ordered.order.as_slice(), query, notes)?;
+    Ok(query)
+}
 
 /// A query with its ORDER BY, its names resolved, and what is noted on the way.
 pub fn bind_ordered(
@@ -27,9 +42,8 @@ pub fn bind_ordered(
     ensures value { IfOk result (λ q. q ≡ (spec.judge_ordered ordered.now (seen_by outside.now)).value) }
     ensures notes { OnOk result (notes.new ≡ taken notes.old (spec.judge_ordered ordered.now (seen_by outside.now))) }
 {
-    let query = bind_typed(alloc, &ordered.query, &[], outside, notes)?;
-    let query = ordered_by(alloc, ordered.order.as_slice(), query, notes)?;
-    Ok(query)
+    let query = bind_ordered_typed(alloc, ordered, outside, notes)?;
+    Ok(query.tree)
 }
 
 // A query, and the least fault in it.
@@ -45,8 +59,10 @@ fn bind_top(
 {
     let sight = Sight {
         levels: sight.levels,
-        variables: sight.variables,
+        scopes: sight.scopes,
         catalog,
+        own: sight.own,
+        writing: sight.writing,
     };
     let mut notes = Notes::behind(alloc, *least);
     let bound = bind_typed(alloc, query, &[], &sight, &mut notes)?;

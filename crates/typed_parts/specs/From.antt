@@ -9,7 +9,7 @@ use Rattle.bound_trees.specs.declared.query.BoundFromItem.{BoundFromItem}
 use Rattle.bound_trees.specs.declared.query.BoundFromItem.TheVariants as item
 use Rattle.bound_trees.specs.declared.query.BoundSource.{BoundSource}
 use Rattle.bound_trees.specs.declared.query.BoundSource.TheVariants as source
-use Rattle.catalog_store.specs.Catalog.{Object, TableObject, FunctionObject, Catalog, object_named}
+use Rattle.catalog_store.specs.Catalog.{Object, TableObject, FunctionObject, InterpretedObject, ProcedureObject, Catalog, object_named}
 use Rattle.name_faults.specs.declared.fault.Fault.{Fault}
 use Rattle.name_faults.specs.declared.fault.FaultKind.TheVariants.{UnknownName, DuplicateName, WrongCount}
 use Rattle.name_faults.specs.Faults.{Noted, give, ◌>>◌, fault_if}
@@ -30,6 +30,8 @@ abbrev pub table_in : Option Object → Option RowType
 table_in None = None
 table_in (Some (TableObject t)) = Some t
 table_in (Some (FunctionObject f)) = None
+table_in (Some (InterpretedObject f)) = None
+table_in (Some (ProcedureObject p)) = None
 
 -- the table of a name
 abbrev pub table_named : List ℕ → Catalog → Option RowType

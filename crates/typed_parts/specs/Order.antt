@@ -34,5 +34,9 @@ abbrev pub in_order_of : BoundQuery → List SortKey → BoundQuery
 in_order_of query [] = query
 in_order_of query (k ∷ ks) = bound.Ordered query (k ∷ ks)
 
-abbrev pub ordered_by : List SortSpecification → TypedQuery → Noted BoundQuery
-ordered_by order q = as_value (in_order_of q.tree) (keys_of q.columns order)
+-- it has the same columns
+abbrev pub in_order : TypedQuery → List SortKey → TypedQuery
+in_order q keys = record { at = q.at; columns = q.columns; tree = in_order_of q.tree keys }
+
+abbrev pub ordered_by : List SortSpecification → TypedQuery → Noted TypedQuery
+ordered_by order q = as_value (in_order q) (keys_of q.columns order)

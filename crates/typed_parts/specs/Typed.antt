@@ -1,6 +1,7 @@
 -- Expressions whose names are resolved, with their kinds: what is made of operands, and what is asked of them. ISO/IEC 9075-2, 6.6 (identifier
 -- chain), 6.26 (value expression), 10.4 (routine invocation) and 10.9 (aggregate function).
-use Rattle.std.specs.Prelude.{ℕ, ◌==◌, Bool, true, not, List, [], ◌∷◌, ◌++◌, map, length, nat_lt, Option, Some, None}
+use Rattle.std.specs.Prelude.{ℕ, ◌==◌, Bool, true, false, not, ◌&&◌, if◌then◌else◌, List, [], ◌∷◌, ◌++◌, map, length, nat_lt, Option, Some, None}
+use Rattle.std.specs.Str.{bytes_eq}
 use Rattle.sql_values.specs.declared.fold.FoldKind.{FoldKind}
 use Rattle.syntax_trees.specs.declared.anchor.Anchor.{Anchor}
 use Rattle.syntax_trees.specs.declared.anchor.Ident.{Ident}
@@ -9,7 +10,9 @@ use Rattle.syntax_trees.specs.declared.expr.Literal.{Literal}
 use Rattle.syntax_trees.specs.declared.expr.Operation.{Operation}
 use Rattle.bound_trees.specs.declared.expr.BoundExpr.{BoundExpr}
 use Rattle.bound_trees.specs.declared.expr.BoundExpr.TheVariants as bound
-use Rattle.catalog_store.specs.Catalog.{Object, TableObject, FunctionObject, Catalog, object_named}
+use Rattle.catalog_store.specs.Catalog.{Object, TableObject, FunctionObject, InterpretedObject, ProcedureObject, Catalog, object_named}
+use Rattle.catalog_store.specs.declared.entry.DataAccess.{DataAccess}
+use Rattle.catalog_store.specs.declared.entry.DataAccess.TheVariants.{ContainsSql, ReadsSqlData, ModifiesSqlData}
 use Rattle.catalog_store.specs.declared.entry.Head.{Head as FunctionHead}
 use Rattle.name_faults.specs.declared.fault.Fault.{Fault}
 use Rattle.name_faults.specs.declared.fault.FaultKind.TheVariants.{UnknownName, DuplicateName, WrongCount, NotPermitted}
@@ -22,6 +25,8 @@ use Rattle.name_kinds.specs.Operations.{asked, given}
 use Rattle.name_kinds.specs.Aggregates.{aggregate_asked, aggregate_given, argument_of}
 use Rattle.name_kinds.specs.Chains.{links_faults, kind_of_chain, chain_place}
 use Rattle.name_kinds.specs.Words.{value_of, missing, tree_of, chain_of}
+use Rattle.names_in_sight.specs.declared.scope.Own.{Own}
+use Rattle.names_in_sight.specs.Sight.{Seen}
 use Rattle.names_in_sight.specs.declared.sight.Found.{Found}
 use Rattle.names_in_sight.specs.declared.sight.Found.TheVariants.{Column, Guessed, Variable, Barred, Several, Unknown}
 use Rattle.typed_parts.specs.declared.aggregates.Parts.{Parts}
@@ -112,27 +117,51 @@ with_aggregate kind parts so = record { trees = parts.trees ++ argument_of so.tr
 
 -- ---- calls
 
--- what is known of a function
+-- what is known of a function, with a plan or without one
 abbrev pub head_in : Option Object → Option FunctionHead
 head_in None = None
 head_in (Some (TableObject t)) = None
-head_in (Some (FunctionObject f)) = Some (record { parameters = f.parameters; returns = f.returns; height = f.height; uses = f.uses })
+head_in (Some (FunctionObject f)) = Some (record { parameters = f.parameters; returns = f.returns; access = f.access; height = f.height; uses = f.uses })
+head_in (Some (InterpretedObject f)) = Some (record { parameters = f.parameters; returns = f.returns; access = f.access; height = f.height; uses = f.uses })
+head_in (Some (ProcedureObject p)) = None
 
 abbrev pub head_named : List ℕ → Catalog → Option FunctionHead
 head_named name catalog = head_in (object_named name catalog)
 
--- a function of the name stands in the catalog, and has so many parameters as there are arguments
-abbrev pub call_faults : Anchor → ℕ → Option FunctionHead → List Fault
-call_faults at arguments None = fault_if true UnknownName at
-call_faults at arguments (Some f) = fault_if (not (arguments == length f.parameters)) WrongCount at
+abbrev pub is_own : List ℕ → Option Own → Bool
+is_own name None = false
+is_own name (Some o) = bytes_eq o.name name
+
+-- a procedure has none
+abbrev pub own_head : Option Own → Option FunctionHead
+own_head None = None
+own_head (Some o) = o.head
+
+-- the function of a name: the routine in whose body it stands, which hides one of the catalog, or one of the catalog
+abbrev pub function_known : List ℕ → Option Own → Catalog → Option FunctionHead
+function_known name own catalog = if is_own name own then own_head own else head_named name catalog
+
+abbrev pub function_in_sight : List ℕ → Seen → Option FunctionHead
+function_in_sight name seen = function_known name seen.own seen.catalog
+
+abbrev pub is_modifying : DataAccess → Bool
+is_modifying ContainsSql = false
+is_modifying ReadsSqlData = false
+is_modifying ModifiesSqlData = true
+
+-- A function of the name is in sight, and has so many parameters as there are arguments. Inside INSERT, UPDATE and DELETE it modifies no SQL data.
+abbrev pub call_faults : Bool → Anchor → ℕ → Option FunctionHead → List Fault
+call_faults writing at arguments None = fault_if true UnknownName at
+call_faults writing at arguments (Some f) =
+    fault_if (not (arguments == length f.parameters)) WrongCount at ++ fault_if (writing && is_modifying f.access) NotPermitted at
 
 abbrev pub call_uses : List ℕ → Option FunctionHead → List (List ℕ)
 call_uses name None = []
 call_uses name (Some f) = name ∷ []
 
 -- what a call asks by itself
-abbrev pub call_head : Ident → ℕ → Option FunctionHead → Noted (Unit {0})
-call_head i arguments f = record { value = tt; faults = call_faults i.anchor arguments f; uses = call_uses i.name f }
+abbrev pub call_head : Bool → Ident → ℕ → Option FunctionHead → Noted (Unit {0})
+call_head writing i arguments f = record { value = tt; faults = call_faults writing i.anchor arguments f; uses = call_uses i.name f }
 
 -- each argument is of its parameter's kind
 abbrev pub argument_faults : Option FunctionHead → List Head → List Fault

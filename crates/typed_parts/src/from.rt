@@ -36,6 +36,8 @@ pub fn table_named<'a>(name: &Name, catalog: &'a Catalog) -> Option<&'a RowType>
     match catalog.get(name) {
         Some(Object::Table(row_type)) => Some(row_type),
         Some(Object::Function(_)) => None,
+        Some(Object::Interpreted(_)) => None,
+        Some(Object::Procedure(_)) => None,
         None => None,
     }
 }

@@ -103,8 +103,10 @@ pub fn bind_row_grouping(
     let levels = entered(alloc, crate::from::row_level(opened), outside.levels)?;
     let sight = Sight {
         levels: levels.as_slice(),
-        variables: outside.variables,
+        scopes: outside.scopes,
         catalog: outside.catalog,
+        own: outside.own,
+        writing: outside.writing,
     };
     bind_grouping(alloc, columns, &sight, notes)
 }

@@ -23,7 +23,9 @@ pub use from::{
 pub use grouping::{Grouping, bind_row_grouping, is_grouped};
 pub use list::{Outputs, add_output, no_outputs, star};
 pub use order::ordered_by;
-pub use parts::{bind_found, called, chained, function_named, literal, note_call, operated};
+pub use parts::{
+    bind_found, called, chained, function_in_sight, function_named, literal, note_call, operated,
+};
 pub use select::{Listed, Rowed, select_typed};
 pub use subquery::{exists, member, single};
 pub use typed::{Operands, Sourced, Typed, TypedQuery, add_operand, no_operands, settle};

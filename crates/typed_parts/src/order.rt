@@ -7,7 +7,7 @@ ghost use Rattle.typed_parts.specs.Order as spec;
 use crate::typed::TypedQuery;
 use bound_trees::BoundQuery;
 use name_faults::{Fault, FaultKind, Notes, note_if};
-use names_in_sight::{ColumnList, Hit, Output};
+use names_in_sight::{ColumnList, Hit};
 use row_types::SortKey;
 use sql_values::NoMemory;
 use sqlite_items::{Boxed, Items};
@@ -66,19 +66,6 @@ fn keys_by(
     Ok(so)
 }
 
-fn keys_of(
-    alloc: Global,
-    columns: Items<Output>,
-    order: &[SortSpecification],
-    notes: &mut Notes,
-) -> Result<Items<SortKey>, NoMemory>
-    ensures value { IfOk result (λ ks. ks ≡ (spec.keys_of columns order.now).value) }
-    ensures notes { OnOk result (notes.new ≡ taken notes.old (spec.keys_of columns order.now)) }
-{
-    let columns = ColumnList::of(alloc, columns)?;
-    keys_by(alloc, &columns, order, notes)
-}
-
 fn in_order_of(
     alloc: Global,
     query: BoundQuery,
@@ -92,21 +79,36 @@ fn in_order_of(
     }
 }
 
+// A query in an order, by the names of its columns.
+fn sorted(
+    alloc: Global,
+    order: &[SortSpecification],
+    query: TypedQuery,
+    notes: &mut Notes,
+) -> Result<TypedQuery, NoMemory>
+    ensures value { IfOk result (λ q. q ≡ (spec.ordered_by order.now query).value) }
+    ensures notes { OnOk result (notes.new ≡ taken notes.old (spec.ordered_by order.now query)) }
+{
+    let TypedQuery { at, columns, tree } = query;
+    let columns = ColumnList::of(alloc, columns)?;
+    let keys = keys_by(alloc, &columns, order, notes)?;
+    let tree = in_order_of(alloc, tree, keys)?;
+    let columns = columns.into_items();
+    Ok(TypedQuery { at, columns, tree })
+}
+
 /// A query in the order that is written. Each name is that of one of its columns.
 pub fn ordered_by(
     alloc: Global,
     order: &[SortSpecification],
     query: TypedQuery,
     notes: &mut Notes,
-) -> Result<BoundQuery, NoMemory>
+) -> Result<TypedQuery, NoMemory>
     ensures value { IfOk result (λ q. q ≡ (spec.ordered_by order.now query).value) }
     ensures notes { OnOk result (notes.new ≡ taken notes.old (spec.ordered_by order.now query)) }
 {
     match order {
-        [] => Ok(query.tree),
-        [_, ..] => {
-            let keys = keys_of(alloc, query.columns, order, notes)?;
-            in_order_of(alloc, query.tree, keys)
-        }
+        [] => Ok(query),
+        [_, ..] => sorted(alloc, order, query, notes),
     }
 }

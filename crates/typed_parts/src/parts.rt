@@ -3,17 +3,18 @@
 ghost use Rattle.std.specs.Prelude.{◌≡◌, IfOk, OnOk, map};
 ghost use Rattle.std.specs.Option.{option_copied};
 ghost use Rattle.name_faults.specs.Faults.{noted, taken};
+ghost use Rattle.names_in_sight.specs.Sight.{seen_by};
 ghost use Rattle.typed_parts.specs.Typed as spec;
 
 use crate::typed::{Operands, Typed, with_kind};
 use bound_trees::BoundExpr;
-use catalog_store::{Catalog, Head, Object};
+use catalog_store::{Catalog, DataAccess, Head, Object};
 use name_faults::{Fault, FaultKind, Notes, note_if};
 use name_kinds::{
     Kind, arguments, ask, ask_chain, chain_kind, chain_of, chain_place, kind_given,
     kind_of_literal, kind_of_type, missing, tree_of, value_of,
 };
-use names_in_sight::Found;
+use names_in_sight::{Found, Own, Sight};
 use sql_values::{Name, NoMemory};
 use std::alloc::Global;
 use syntax_trees::{Anchor, Ident, Link, Literal, Operation};
@@ -93,25 +94,66 @@ pub fn chained(
     Ok(with_kind(kind, at, tree))
 }
 
-/// The function of a name.
+/// The function of a name in the catalog, with a plan or without one.
 pub fn function_named<'a>(name: &Name, catalog: &'a Catalog) -> Option<&'a Head>
     ensures { option_copied result ≡ spec.head_named name.now catalog.now }
 {
     match catalog.get(name) {
         Some(Object::Function(function)) => Some(&function.head),
+        Some(Object::Interpreted(function)) => Some(&function.head),
         Some(Object::Table(_)) => None,
+        Some(Object::Procedure(_)) => None,
         None => None,
     }
 }
 
-/// What a call asks by itself.
+fn is_own(name: &Name, own: &Option<Own>) -> bool
+    ensures { result ≡ spec.is_own name.now own.now }
+{
+    match own {
+        Some(routine) => routine.name == *name,
+        None => false,
+    }
+}
+
+fn own_head(own: &Option<Own>) -> Option<&Head>
+    ensures { option_copied result ≡ spec.own_head own.now }
+{
+    match own {
+        Some(routine) => routine.head.as_ref(),
+        None => None,
+    }
+}
+
+/// The function of a name: the one in whose body the name stands, or one in the catalog.
+pub fn function_in_sight<'a>(name: &Name, sight: &Sight<'a>) -> Option<&'a Head>
+    ensures { option_copied result ≡ spec.function_in_sight name.now (seen_by sight.now) }
+{
+    if is_own(name, sight.own) {
+        own_head(sight.own)
+    } else {
+        function_named(name, sight.catalog)
+    }
+}
+
+fn is_modifying(access: DataAccess) -> bool
+    ensures { result ≡ spec.is_modifying access }
+{
+    match access {
+        DataAccess::ModifiesSqlData => true,
+        DataAccess::ContainsSql | DataAccess::ReadsSqlData => false,
+    }
+}
+
+/// What a call asks by itself, perhaps inside INSERT, UPDATE or DELETE.
 pub fn note_call(
+    writing: bool,
     ident: &Ident,
     arguments: usize,
     function: Option<&Head>,
     notes: &mut Notes,
 ) -> Result<(), NoMemory>
-    ensures { OnOk result (notes.new ≡ taken notes.old (spec.call_head ident.now arguments (option_copied function.entry))) }
+    ensures { OnOk result (notes.new ≡ taken notes.old (spec.call_head writing ident.now arguments (option_copied function.entry))) }
 {
     match function {
         None => {
@@ -121,6 +163,13 @@ pub fn note_call(
         Some(head) => {
             let wrong = arguments != head.parameters.len();
             note_if(wrong, FaultKind::WrongCount, ident.anchor, &mut notes.least);
+            let barred = writing && is_modifying(head.access);
+            note_if(
+                barred,
+                FaultKind::NotPermitted,
+                ident.anchor,
+                &mut notes.least,
+            );
             notes.add_use(&ident.name)
         }
     }

@@ -3,12 +3,12 @@ use Rattle.std.specs.Prelude.{codes}
 use Rattle.syntax_trees.specs.declared.expr.Operation.TheVariants.{Plus, IsNot}
 use Rattle.syntax_trees.specs.declared.expr.TruthTest.TheVariants as test
 use Rattle.name_faults.specs.Faults.{Noted}
-use Rattle.psm_names.specs.declared.bound.BoundStmt.{BoundStmt}
+use Rattle.psm_names.specs.declared.bound.BoundStatement.{BoundStatement}
 use Rattle.sql_names.specs.Examples.{name, call, word}
 use Rattle.psm_names.proofs.Rows.{select-row}
 use Rattle.psm_names.proofs.binds_by_place_and_name.Goals as goal
 
 pub returns : goal.returns
 returns c = record {
-  whole = ap (λ (x : Noted BoundStmt). x.value) (select-row (codes "T") (name (codes "A") 1 ∷ call (codes "E") 3 (name (codes "K") 5 ∷ []) ∷ word (IsNot test.Null) 8 (name (codes "K") 7 ∷ []) ∷ word Plus 11 (name (codes "A") 12 ∷ []) ∷ []) None);
+  whole = ap (λ (x : Noted BoundStatement). x.value) (select-row (codes "T") (name (codes "A") 1 ∷ call (codes "E") 3 (name (codes "K") 5 ∷ []) ∷ word (IsNot test.Null) 8 (name (codes "K") 7 ∷ []) ∷ word Plus 11 (name (codes "A") 12 ∷ []) ∷ []) None);
 }

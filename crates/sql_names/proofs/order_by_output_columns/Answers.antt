@@ -12,6 +12,6 @@ pub returns : goal.returns
 returns c = record {
   unknown = ap (λ (x : Noted TypedQuery). (x >>= ordered_by (by_name (codes "A") 70 ∷ [])).faults) (query_plain two_names [] (at_top catalog));
   found_twice = ap (λ (x : Noted TypedQuery). (x >>= ordered_by (by_name (codes "B") 70 ∷ [])).faults) (query_plain two_of_one_name [] (at_top catalog));
-  by_the_last_part = ap (λ (x : Noted TypedQuery). (x >>= ordered_by (by_name (codes "B") 70 ∷ by_name (codes "C") 72 ∷ [])).value) (query_plain two_names [] (at_top catalog));
-  without_order = ap (λ (x : Noted TypedQuery). (x >>= ordered_by []).value) (query_plain two_names [] (at_top catalog));
+  by_the_last_part = ap (λ (x : Noted TypedQuery). (x >>= ordered_by (by_name (codes "B") 70 ∷ by_name (codes "C") 72 ∷ [])).value.tree) (query_plain two_names [] (at_top catalog));
+  without_order = ap (λ (x : Noted TypedQuery). (x >>= ordered_by []).value.tree) (query_plain two_names [] (at_top catalog));
 }

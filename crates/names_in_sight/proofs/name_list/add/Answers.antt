@@ -6,8 +6,8 @@ use Rattle.indexmap.specs.IndexMap.{insert_entry}
 use Rattle.indexmap.proofs.CallerLemmas.{insert_entry-new}
 use Rattle.names_in_sight.proofs.name_list.add.Goals as goal
 
-pub returns-in_ok-insert-in-None : goal.returns-in_ok-insert-in-None
-returns-in_ok-insert-in-None c =
+pub returns-in_ok-insert-in-None-clause-ok : goal.returns-in_ok-insert-in-None-clause-ok
+returns-in_ok-insert-in-None-clause-ok c =
     let es = c.args.index.now.entries in
     let name = c.args.name.now in
     let none : lookup (bytes_eq name) es ≡ None = sym c.get.ensures.value ∙ ap option_copied c.in-None.is in

@@ -1,6 +1,6 @@
 use Rattle.std.proofs.Common.{◌∙◌, arith}
 use Rattle.psm_names.specs.Tables.{key_list_faults}
-use Rattle.psm_names.proofs.Repeated.{faults-more}
+use Rattle.psm_names.proofs.Elements.{faults-more}
 use Rattle.psm_names.proofs.table.note_key_lists.Goals as goal
 
 pub loop-element-preserved : goal.loop-element-preserved

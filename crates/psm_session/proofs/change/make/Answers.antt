@@ -1,6 +1,6 @@
 -- A change ends as it is made of its plan's rows, or as its plan raises; the rows are those that it
 -- asks for.
-use Rattle.std.proofs.Common.{◌≡◌, List, [], ap, sym, ◌∙◌, subst}
+use Rattle.std.proofs.Common.{List, [], ap, sym, ◌∙◌, subst}
 use Rattle.row_types.specs.Cells.{value_rows}
 use Rattle.row_types.specs.Rows.{Row}
 use Rattle.table_store.specs.Memory.{Memory, AllWellKept}

@@ -1,4 +1,4 @@
-use Rattle.std.proofs.Common.{rules, ◌∙◌, arith, map, []}
+use Rattle.std.proofs.Common.{rules, ◌∙◌, arith}
 use Rattle.std.specs.Option.{option_copied}
 use Rattle.names_in_sight.specs.Sight.{seen_by, inside}
 use Rattle.typed_parts.specs.From.{row_level}
@@ -51,7 +51,7 @@ bind_rows-loop-row-preserved t c = record {
 
 pub bind_call-returns-clause-notes : goal.bind_call-returns-clause-notes
 bind_call-returns-clause-notes t c =
-    call_notes (seen_by c.args.sight.now) c.args.parts.now c.args.ident.now c.args.args.now (option_copied c.function_named-function.result) c.args.notes.now c.note_call.new.notes c.bind_all.new.notes c.called.new.least c.in_ok-args.args
+    call_notes (seen_by c.args.sight.now) c.args.parts.now c.args.ident.now c.args.args.now (option_copied c.function_in_sight-function.result) c.args.notes.now c.note_call.new.notes c.bind_all.new.notes c.called.new.least c.in_ok-args.args
     (search rules) (search rules) (search rules) (search rules) (search rules)
 
 pub bind_inside-returns-in_ok-chain-in-Chain-clause-value : goal.bind_inside-returns-in_ok-chain-in-Chain-clause-value

@@ -1,0 +1,13 @@
+//! Names of INSERT, UPDATE and DELETE: whether each stands for something, and the change with its
+//! names resolved. A change is judged by what is in sight outside of it, at the top as in a routine.
+#![tactic(auto, using(name_faults::proofs::Laws::noted_append))]
+
+mod change;
+mod insert;
+mod names;
+mod sight;
+mod target;
+
+pub use change::{bind_delete, bind_update};
+pub use insert::{ListedInsert, bind_insert};
+pub use names::{add_place, copied, indexed, note_list, note_repeated, note_taken, places_in};

@@ -1,0 +1,11 @@
+use Rattle.std.proofs.Common.{◌≡◌, take, drop, map, []}
+use Rattle.name_faults.specs.Faults.{noted}
+use Rattle.statement_names.specs.Places.{place_by}
+use Rattle.declaration_names.specs.Declarations.{value_of, values_behind}
+use Rattle.declaration_names.proofs.handlers.bind_values.Given as goal
+
+abbrev pub invariant-loop-value : goal.invariant-loop-value
+invariant-loop-value l = record {
+  value : l.bound ≡ map (value_of (place_by l.place)) (take l.value-index l.values);
+  faults : noted l.least (values_behind (place_by l.place) l.handlers l.bound (drop l.value-index l.values)) ≡ noted l.initial.least (values_behind (place_by l.place) l.handlers [] l.values);
+}

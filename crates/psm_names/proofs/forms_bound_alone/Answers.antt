@@ -1,0 +1,23 @@
+use Rattle.std.proofs.Common.{ap, [], ◌∷◌, None, Some}
+use Rattle.std.specs.Prelude.{codes}
+use Rattle.name_faults.specs.Faults.{Noted}
+use Rattle.psm_names.specs.declared.bound.BoundStatement.{BoundStatement}
+use Rattle.sql_names.specs.Examples.{called, name, call}
+use Rattle.psm_names.specs.Examples.{integer, new_parameter, delete, deterministic, returning}
+use Rattle.psm_names.proofs.Rows.{function-row, call-row, explain-row, block-row, procedure-row, body-block-row, characteristic-row}
+use Rattle.psm_names.proofs.forms_bound_alone.Goals as goal
+
+pub returns : goal.returns
+returns c = record {
+  form_that_is_run = ap (λ (x : Noted BoundStatement). x.value.runs) (function-row (codes "G") (new_parameter (codes "X") 4 (integer 5) ∷ []) (integer 8) (name (codes "X") 10));
+  self_call = ap (λ (x : Noted BoundStatement). x.value.runs) (function-row (codes "G") (new_parameter (codes "X") 4 (integer 5) ∷ []) (integer 8) (call (codes "G") 10 (name (codes "X") 12 ∷ [])));
+  body_that_is_a_block = ap (λ (x : Noted BoundStatement). x.value.runs) (body-block-row (returning (codes "X") ∷ []));
+  with_a_characteristic = ap (λ (x : Noted BoundStatement). x.value.runs) (characteristic-row deterministic [] (returning (codes "X")));
+  of_a_procedure = procedure-row (delete (codes "T") None);
+  of_call = ap (λ (x : Noted BoundStatement). x.value.runs) (call-row 0);
+  of_a_block = ap (λ (x : Noted BoundStatement). x.value.runs) (block-row (Some (called (codes "L") 0)) 2 (delete (codes "T") None ∷ []));
+  of_explain = ap (λ (x : Noted BoundStatement). x.value.runs) (explain-row (codes "T"));
+  explain_without_faults = ap (λ (x : Noted BoundStatement). x.faults) (explain-row (codes "T"));
+  unknown_table_in_explain = ap (λ (x : Noted BoundStatement). x.faults) (explain-row (codes "U"));
+  unknown_procedure = ap (λ (x : Noted BoundStatement). x.faults) (call-row 0);
+}

@@ -1,0 +1,75 @@
+-- Worked rows: which words are which command.
+use Rattle.std.specs.Prelude.{◌≡◌, Some, None, [], ◌∷◌, codes, refl}
+use Rattle.clap.proofs.OnLiterals.{clap_on_literals}
+use Rattle.clap.specs.Words.{fault_of}
+use Rattle.clap.specs.declared.error.kind.ErrorKind.TheVariants.{MissingSubcommand}
+use Rattle.psm_words.specs.Words.{IsTaken, command_of, psm}
+use Rattle.psm_words.specs.declared.command.Command.TheVariants.{Run, Check}
+
+pub run_alone : command_of (codes "psm" ∷ codes "run" ∷ []) ≡ Some Run
+unfolding clap_on_literals
+run_alone = refl
+
+pub check_alone : command_of (codes "psm" ∷ codes "check" ∷ []) ≡ Some Check
+unfolding clap_on_literals
+check_alone = refl
+
+pub any_name : command_of (codes "./a" ∷ codes "run" ∷ []) ≡ Some Run
+unfolding clap_on_literals
+any_name = refl
+
+pub name_alone : command_of (codes "psm" ∷ []) ≡ None
+unfolding clap_on_literals
+name_alone = refl
+
+pub no_words : command_of [] ≡ None
+unfolding clap_on_literals
+no_words = refl
+
+pub other_word : command_of (codes "psm" ∷ codes "foo" ∷ []) ≡ None
+unfolding clap_on_literals
+other_word = refl
+
+pub a_word_more : command_of (codes "psm" ∷ codes "run" ∷ codes "x" ∷ []) ≡ None
+unfolding clap_on_literals
+a_word_more = refl
+
+pub both : command_of (codes "psm" ∷ codes "run" ∷ codes "check" ∷ []) ≡ None
+unfolding clap_on_literals
+both = refl
+
+pub both_turned : command_of (codes "psm" ∷ codes "check" ∷ codes "run" ∷ []) ≡ None
+unfolding clap_on_literals
+both_turned = refl
+
+pub help_flag : command_of (codes "psm" ∷ codes "--help" ∷ []) ≡ None
+unfolding clap_on_literals
+help_flag = refl
+
+pub help_flag_below : command_of (codes "psm" ∷ codes "run" ∷ codes "--help" ∷ []) ≡ None
+unfolding clap_on_literals
+help_flag_below = refl
+
+pub help_word : command_of (codes "psm" ∷ codes "help" ∷ []) ≡ None
+unfolding clap_on_literals
+help_word = refl
+
+-- clap lets `--` stand before arguments, of which neither has one
+
+pub dashes_below : command_of (codes "psm" ∷ codes "run" ∷ codes "--" ∷ []) ≡ Some Run
+unfolding clap_on_literals
+dashes_below = refl
+
+pub dashes_above : command_of (codes "psm" ∷ codes "--" ∷ codes "run" ∷ []) ≡ None
+unfolding clap_on_literals
+dashes_above = refl
+
+-- the same rows, as clap has them
+
+pub taken : IsTaken (codes "psm" ∷ codes "run" ∷ [])
+unfolding clap_on_literals
+taken = refl
+
+pub missing : fault_of psm (codes "psm" ∷ []) ≡ MissingSubcommand ∷ []
+unfolding clap_on_literals
+missing = refl

@@ -1,0 +1,11 @@
+use Rattle.std.proofs.Common.{◌≡◌, take, drop}
+use Rattle.name_faults.specs.Faults.{noted}
+use Rattle.statement_names.specs.Places.{place_by}
+use Rattle.statement_names.specs.Values.{targets_at, targets_faults}
+use Rattle.statement_names.proofs.target.bind_targets.Given as goal
+
+abbrev pub invariant-loop-ident : goal.invariant-loop-ident
+invariant-loop-ident l = record {
+  value : l.targets ≡ targets_at (take l.ident-index l.idents) (place_by l.place);
+  faults : noted l.least (targets_faults (drop l.ident-index l.idents) (place_by l.place)) ≡ noted l.initial.least (targets_faults l.idents (place_by l.place));
+}
