@@ -11,8 +11,6 @@ mod passes;
 mod rekey;
 mod sorted;
 mod statement;
-#[cfg(test)]
-mod tests;
 mod undo;
 mod update;
 

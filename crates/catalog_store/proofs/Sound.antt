@@ -80,7 +80,7 @@ SameUses known more (ProcedureRecord p) = SameStand known more p.head.uses
 pub same_object : (known more : Catalog) (o : HeldObject) → SameUses known more o → object_of more o ≡ object_of known o
 same_object known more (Table row_type) s = refl
 same_object known more (FunctionRecord r) s =
-    ap (λ (tree : Expr). FunctionObject (record { parameters = r.head.parameters; returns = r.head.returns; access = r.head.access; height = r.head.height; uses = r.head.uses; routine = FunctionTree false r.head.parameters r.head.returns tree }))
+    ap (λ (tree : Expr). FunctionObject (record { parameters = r.head.parameters; returns = r.head.returns; access = r.head.access; height = r.head.height; weight = r.head.weight; uses = r.head.uses; routine = FunctionTree false r.head.parameters r.head.returns tree }))
     (same_tree known more r.body s)
 same_object known more (InterpretedRecord f) s = refl
 same_object known more (ProcedureRecord p) s = refl

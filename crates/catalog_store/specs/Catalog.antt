@@ -12,12 +12,13 @@ use Rattle.catalog_store.specs.declared.entry.DataAccess.{DataAccess}
 use Rattle.catalog_store.specs.declared.entry.ParameterMode.{ParameterMode}
 
 -- a function with a plan: the types of its parameters, that of its result, what it does with SQL
--- data, its height, the names that it uses, and its tree
+-- data, its height, its weight, the names that it uses, and its tree
 pub record Function : Type 0 where
   pub parameters : List SqlType
   pub returns : SqlType
   pub access : DataAccess
   pub height : ℕ
+  pub weight : ℕ
   pub uses : List (List ℕ)
   pub routine : Routine
 
@@ -28,18 +29,20 @@ pub record Interpreted : Type 0 where
   pub returns : SqlType
   pub access : DataAccess
   pub height : ℕ
+  pub weight : ℕ
   pub uses : List (List ℕ)
   pub null_call : Bool
   pub self_calling : Bool
   pub body : BoundStmt
 
 -- a procedure: the modes and the types of its parameters, what it does with SQL data, its height,
--- the names that it uses, whether it calls itself, and its body
+-- its weight, the names that it uses, whether it calls itself, and its body
 pub record Procedure : Type 0 where
   pub modes : List ParameterMode
   pub parameters : List SqlType
   pub access : DataAccess
   pub height : ℕ
+  pub weight : ℕ
   pub uses : List (List ℕ)
   pub self_calling : Bool
   pub body : BoundStmt

@@ -71,19 +71,19 @@ mode_back Inout = refl
 abbrev pub coded_mode : Coded ParameterMode
 coded_mode = code_by Third coded_third mode_parts mode_from mode_back
 
--- what every routine has: the types of its parameters, what it does with SQL data, its height and
--- what it uses
+-- what every routine has: the types of its parameters, what it does with SQL data, its height, its
+-- weight and what it uses
 abbrev pub Shared : Type 0
-Shared = (List SqlType × DataAccess) × (ℕ × List (List ℕ))
+Shared = (List SqlType × DataAccess) × ((ℕ × ℕ) × List (List ℕ))
 
 abbrev pub coded_shared : Coded Shared
-coded_shared = coded× (coded× (coded_list coded_type) coded_access) (coded× coded_ℕ (coded_list coded_name))
+coded_shared = coded× (coded× (coded_list coded_type) coded_access) (coded× (coded× coded_ℕ coded_ℕ) (coded_list coded_name))
 
 abbrev pub coded_function : Coded Function
 coded_function =
     code_by (Shared × (SqlType × Routine)) (coded× coded_shared (coded× coded_type coded_routine))
-    (λ f. (((f.parameters, f.access), (f.height, f.uses)), (f.returns, f.routine)))
-    (λ p. record { parameters = p.0.0.0; returns = p.1.0; access = p.0.0.1; height = p.0.1.0; uses = p.0.1.1; routine = p.1.1 }) (λ _. refl)
+    (λ f. (((f.parameters, f.access), ((f.height, f.weight), f.uses)), (f.returns, f.routine)))
+    (λ p. record { parameters = p.0.0.0; returns = p.1.0; access = p.0.0.1; height = p.0.1.0.0; weight = p.0.1.0.1; uses = p.0.1.1; routine = p.1.1 }) (λ _. refl)
 
 abbrev pub coded_body : Coded BoundStmt
 coded_body = statement.the_row.coded
@@ -91,14 +91,14 @@ coded_body = statement.the_row.coded
 abbrev pub coded_interpreted : Coded Interpreted
 coded_interpreted =
     code_by (Shared × ((SqlType × (Bool × Bool)) × BoundStmt)) (coded× coded_shared (coded× (coded× coded_type (coded× coded_bool coded_bool)) coded_body))
-    (λ f. (((f.parameters, f.access), (f.height, f.uses)), ((f.returns, (f.null_call, f.self_calling)), f.body)))
-    (λ p. record { parameters = p.0.0.0; returns = p.1.0.0; access = p.0.0.1; height = p.0.1.0; uses = p.0.1.1; null_call = p.1.0.1.0; self_calling = p.1.0.1.1; body = p.1.1 }) (λ _. refl)
+    (λ f. (((f.parameters, f.access), ((f.height, f.weight), f.uses)), ((f.returns, (f.null_call, f.self_calling)), f.body)))
+    (λ p. record { parameters = p.0.0.0; returns = p.1.0.0; access = p.0.0.1; height = p.0.1.0.0; weight = p.0.1.0.1; uses = p.0.1.1; null_call = p.1.0.1.0; self_calling = p.1.0.1.1; body = p.1.1 }) (λ _. refl)
 
 abbrev pub coded_procedure : Coded Procedure
 coded_procedure =
     code_by (Shared × ((List ParameterMode × Bool) × BoundStmt)) (coded× coded_shared (coded× (coded× (coded_list coded_mode) coded_bool) coded_body))
-    (λ f. (((f.parameters, f.access), (f.height, f.uses)), ((f.modes, f.self_calling), f.body)))
-    (λ p. record { modes = p.1.0.0; parameters = p.0.0.0; access = p.0.0.1; height = p.0.1.0; uses = p.0.1.1; self_calling = p.1.0.1; body = p.1.1 }) (λ _. refl)
+    (λ f. (((f.parameters, f.access), ((f.height, f.weight), f.uses)), ((f.modes, f.self_calling), f.body)))
+    (λ p. record { modes = p.1.0.0; parameters = p.0.0.0; access = p.0.0.1; height = p.0.1.0.0; weight = p.0.1.0.1; uses = p.0.1.1; self_calling = p.1.0.1; body = p.1.1 }) (λ _. refl)
 
 abbrev pub Parts : Type 0
 Parts = (RowType ⊎ Function) ⊎ (Interpreted ⊎ Procedure)

@@ -34,7 +34,7 @@ table = record { name = codes "T"; object = TableObject (record { columns = reco
 -- a function without parameters, by its name, its height, what it uses and what it returns
 abbrev pub entry : List ℕ → ℕ → List (List ℕ) → Expr → Entry
 entry name height uses e =
-    record { name = name; object = FunctionObject (record { parameters = []; returns = Integer; access = ContainsSql; height = height; uses = uses; routine = FunctionTree false [] Integer e }) }
+    record { name = name; object = FunctionObject (record { parameters = []; returns = Integer; access = ContainsSql; height = height; weight = 1; uses = uses; routine = FunctionTree false [] Integer e }) }
 
 abbrev pub number : ℕ → Expr
 number n = Literal (Int (pos n))
@@ -110,7 +110,7 @@ abbrev pub how_many_body : BoundExpr
 how_many_body = bound.Single (query.Select count_of_rows)
 
 abbrev pub how_many : RoutineRecord
-how_many = record { head = record { parameters = []; returns = Integer; access = ReadsSqlData; height = 1; uses = codes "T" ∷ [] }; body = how_many_body; plan = None }
+how_many = record { head = record { parameters = []; returns = Integer; access = ReadsSqlData; height = 1; weight = 1; uses = codes "T" ∷ [] }; body = how_many_body; plan = None }
 
 -- A body that reads a table uses it.
 pub record TablesInBodies : Type 0 where
@@ -127,7 +127,7 @@ pub record TablesInBodies : Type 0 where
 abbrev pub fill : HeldProcedure
 fill =
     record {
-      head = record { modes = []; parameters = []; access = ModifiesSqlData; height = 1; uses = codes "T" ∷ [] };
+      head = record { modes = []; parameters = []; access = ModifiesSqlData; height = 1; weight = 1; uses = codes "T" ∷ [] };
       self_calling = false;
       body = statement.Insert (record { table = codes "T"; source = query.Values (row.Row (bound.Literal (Int (pos 1)) ∷ []) ∷ []) }) None;
     }
@@ -136,7 +136,7 @@ fill =
 abbrev pub again : InterpretedFunction
 again =
     record {
-      head = record { parameters = []; returns = Integer; access = ContainsSql; height = 1; uses = [] };
+      head = record { parameters = []; returns = Integer; access = ContainsSql; height = 1; weight = 1; uses = [] };
       null_call = false;
       self_calling = true;
       body = statement.Return (bound.Chain (bound.Call (codes "AGAIN") []) (record { operator = Add; operand = bound.Literal (Int (pos 1)) } ∷ []));

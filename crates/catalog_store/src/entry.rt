@@ -28,15 +28,18 @@ pub enum ParameterMode {
 
 /// What is known of a function beside its body: the types of its parameters, that of its result,
 /// what it does with SQL data (11.60), its height (one more than that of the highest routine that it
-/// calls, itself aside, and one for a function that calls none), and the names that its body uses:
-/// the routines that it calls, itself aside, and the tables that it reads or writes, in whatever
-/// order and however often.
+/// calls, itself aside, and one for a function that calls none), the weight of its body (how many
+/// statements run in its place at most; 4,097 and no more where it is too heavy, or has a statement
+/// of another kind than those that a plan takes), and the names that its body uses: the routines that
+/// it calls, itself aside, and the tables that it reads or writes, in whatever order and however
+/// often.
 #[derive(Drop)]
 pub struct Head {
     pub parameters: Items<SqlType>,
     pub returns: SqlType,
     pub access: DataAccess,
     pub height: u32,
+    pub weight: u32,
     pub uses: Items<Name>,
 }
 
@@ -47,6 +50,7 @@ pub struct ProcedureHead {
     pub parameters: Items<SqlType>,
     pub access: DataAccess,
     pub height: u32,
+    pub weight: u32,
     pub uses: Items<Name>,
 }
 

@@ -394,6 +394,7 @@ fn function(alloc: Global) -> Option<Object>
         returns: SqlType::Integer,
         access: DataAccess::ContainsSql,
         height: 1,
+        weight: 1,
         uses: Items::new(alloc),
     };
     let body = Body::shown(BoundExpr::Variable(0));

@@ -13,8 +13,6 @@ mod outer;
 mod pairs;
 mod pass;
 mod received;
-#[cfg(test)]
-mod run_tests;
 mod running;
 mod scratch;
 mod sides;

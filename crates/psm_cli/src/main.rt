@@ -16,6 +16,8 @@ mod fault_tests;
 #[cfg(test)]
 mod group_tests;
 mod law;
+#[cfg(test)]
+mod pair_tests;
 mod program;
 #[cfg(test)]
 mod query_tests;

@@ -255,8 +255,8 @@ const MIXED_REPLIES: &[u8] = b"00000
 ! 42000 nesting too deep at line 19 column 50
 ";
 
-// What is read and not run is refused at its first token after a label, whatever stands in it, and
-// the script goes on.
+// What is read and not run is refused at its first token after a label, where its names have no
+// fault, and the script goes on.
 const NOT_RUN: &[u8] = b"CREATE TABLE t (k INTEGER PRIMARY KEY, a INTEGER);
 EXPLAIN SELECT a FROM t WHERE k = 1 ORDER BY a;
 INSERT INTO t VALUES (1, 10);

@@ -16,7 +16,7 @@ use Rattle.statement_trees.specs.declared.statement.CreateFunction.{CreateFuncti
 use Rattle.statement_trees.specs.declared.statement.CreateProcedure.{CreateProcedure, roll-CreateProcedure}
 use Rattle.statement_trees.specs.declared.statement.Declaration.{Declaration}
 use Rattle.statement_trees.specs.declared.statement.Declaration.TheOpen.{Stmt-F, Labelled-F}
-use Rattle.statement_trees.specs.declared.statement.Declaration.TheViews.{out-roll-CreateFunction, outs-CreateTable, outs-CreateFunction, outs-CreateProcedure, outs-Drop, outs-Insert, outs-Update, outs-Delete, outs-Query, outs-Explain, outs-Call, outs-Labelled, outs-Return}
+use Rattle.statement_trees.specs.declared.statement.Declaration.TheViews.{out-roll-CreateFunction, out-roll-CreateProcedure, out-roll-Labelled, outs-CreateTable, outs-CreateFunction, outs-CreateProcedure, outs-Drop, outs-Insert, outs-Update, outs-Delete, outs-Query, outs-Explain, outs-Call, outs-Labelled, outs-Return}
 use Rattle.statement_trees.specs.declared.statement.Handler.{Handler}
 use Rattle.statement_trees.specs.declared.statement.If.{If}
 use Rattle.statement_trees.specs.declared.statement.Labelled.{Labelled, roll-Labelled}
@@ -48,7 +48,7 @@ use Rattle.psm_names.specs.Examples.{unordered, asked, values_of, values, insert
 use Rattle.psm_names.specs.Functions.{Definition, ProcedureDefinition, in_function, signature_faults, returning_with, judged_function}
 use Rattle.psm_names.specs.Routines.{parameters_of}
 use Rattle.statement_names.specs.Places.{seen_from}
-use Rattle.psm_names.specs.Statements.{judged_drop, Form, run, not_run, run_over, created, call_at_top, judged_routine, value_returned, if_bare, judged_object, judged_definition, judged_form, judged_statement}
+use Rattle.psm_names.specs.Statements.{judged_drop, Form, run, not_run, run_over, created, call_at_top, judged_routine, value_returned, if_bare, judged_object, judged_definition, judged_form, judged_statement, anchor_of_form, anchor_of}
 use Rattle.psm_names.specs.Tables.{judged_table}
 use Rattle.change_names.specs.Writing.{asked as with_faults, uses_of, wrong_width, target_named, kind_named, target_faults, into_faults, kinds_into, rows_into, opened, in_row, met_query, judged_where, of_kind, one_value, assigned, with_targets, of_rows}
 
@@ -163,6 +163,28 @@ body-block-row statements =
 pub characteristic-row : (c : Characteristic) (cs : List Characteristic) (body : Stmt)
     → judged_statement (function_g (c ∷ cs) body) catalog ≡ as_value (created (called (codes "G") 2)) (judged_function (g_of (c ∷ cs) body) catalog)
 characteristic-row c cs body = definition-row (g_of (c ∷ cs) body) (out-Stmt body) refl
+
+-- ---- anchors
+
+pub anchor-of-call : (token : ℕ) → anchor_of (stmt.Call (call_of token)) ≡ at token
+anchor-of-call token = ap anchor_of_form (outs-Call (call_of token))
+
+pub anchor-of-explain : (n : List ℕ) → anchor_of (explained n) ≡ at 0
+anchor-of-explain n = ap anchor_of_form (outs-Explain (at 0) (unordered (select_of n (null 2 ∷ []) None)))
+
+pub anchor-of-block : (label : Option Ident) (token : ℕ) (statements : List Stmt) → anchor_of (block label token statements) ≡ at token
+anchor-of-block label token statements =
+    let s : LabelledForm = record { label = label; anchor = at token; structure = begin_end statements; end_label = None } in
+    ap anchor_of_form (outs-Labelled (roll-Labelled s)) ∙ ap (λ (x : LabelledForm). x.anchor) (out-roll-Labelled s)
+
+pub anchor-of-function : (cs : List Characteristic) (body : Stmt) → anchor_of (function_g cs body) ≡ at 0
+anchor-of-function cs body =
+    ap anchor_of_form (outs-CreateFunction (roll-CreateFunction (g_of cs body))) ∙ ap (λ (x : Definition). x.anchor) (out-roll-CreateFunction (g_of cs body))
+
+pub anchor-of-procedure : (body : Stmt) → anchor_of (procedure body) ≡ at 0
+anchor-of-procedure body =
+    let s : ProcedureDefinition = record { anchor = at 0; name = called (codes "P") 2; parameters = []; characteristics = []; body = body } in
+    ap anchor_of_form (outs-CreateProcedure (roll-CreateProcedure s)) ∙ ap (λ (x : ProcedureDefinition). x.anchor) (out-roll-CreateProcedure s)
 
 -- ---- UPDATE and DELETE
 

@@ -21,8 +21,8 @@ MeetsRows catalog name q = HasPlan catalog q × Meets name (width_in catalog nam
 
 -- What is made has a name that stands for nothing, and fits the catalog; what is dropped stands there,
 -- and nothing else uses it. A query has a plan: so have the functions that it calls, and the rows of
--- VALUES are of one length. Of EXPLAIN, of CALL and of a compound statement nothing is said: they are
--- bound alone.
+-- VALUES are of one length; so has that of EXPLAIN. Of CALL and of a compound statement nothing is
+-- said: they are bound alone.
 abbrev pub StatementFits : Catalog → Bound → Type 0
 StatementFits catalog (bound.Create name object) = (object_named name catalog ≡ None) × ObjectFits catalog object
 StatementFits catalog (bound.Drop name) = IsSome (object_named name catalog) × (users_of name catalog ≡ 0)
@@ -30,7 +30,7 @@ StatementFits catalog (bound.Insert b listed) = HasPlan catalog b.source
 StatementFits catalog (bound.Update b) = MeetsRows catalog b.table b.rows
 StatementFits catalog (bound.Delete b) = MeetsRows catalog b.table b.rows
 StatementFits catalog (bound.Query q) = HasPlan catalog q
-StatementFits catalog (bound.Explain q) = Unit {0}
+StatementFits catalog (bound.Explain q) = HasPlan catalog q
 StatementFits catalog (bound.Routine s) = Unit {0}
 
 -- a statement without faults fits a catalog whose functions have plans

@@ -62,7 +62,7 @@ use Rattle.sql_names.specs.Examples.{at, fault, called, null, number, text, trut
 use Rattle.sql_names.specs.Written.{Expr, Subquery, Query, Select, Values, Comma, exprs, froms, expr_of, query_of}
 use Rattle.psm_names.specs.declared.bound.Bound.TheVariants as bound_as
 use Rattle.psm_names.specs.Functions.{Definition}
-use Rattle.psm_names.specs.Statements.{with_runs, judged_statement}
+use Rattle.psm_names.specs.Statements.{with_runs, judged_statement, anchor_of}
 
 -- ---- statements
 
@@ -244,7 +244,7 @@ pub record KeysOfTables : Type 0 where
 
 -- the catalog with a function G that reads T and calls E
 abbrev pub with_user : Catalog
-with_user = catalog ++ record { name = codes "G"; object = FunctionObject (record { parameters = []; returns = type.Integer; access = ReadsSqlData; height = 2; uses = codes "T" ∷ codes "E" ∷ []; routine = missing }) } ∷ []
+with_user = catalog ++ record { name = codes "G"; object = FunctionObject (record { parameters = []; returns = type.Integer; access = ReadsSqlData; height = 2; weight = 2; uses = codes "T" ∷ codes "E" ∷ []; routine = missing }) } ∷ []
 
 abbrev pub LeastOver : Stmt → Catalog → FaultKind → ℕ → Type 0
 LeastOver s known kind token = least (judged_statement s known).faults ≡ Some (fault kind token)
@@ -303,6 +303,7 @@ IsRun s runs = (judged_statement s catalog).value.runs ≡ runs
 
 pub record FormsBoundAlone : Type 0 where
   pub form_that_is_run : IsRun (function (codes "G") (new_parameter (codes "X") 4 (integer 5) ∷ []) (integer 8) (name (codes "X") 10)) true
+  pub form_that_is_run_is_valid : All (function (codes "G") (new_parameter (codes "X") 4 (integer 5) ∷ []) (integer 8) (name (codes "X") 10)) []
   pub self_call : IsRun (function (codes "G") (new_parameter (codes "X") 4 (integer 5) ∷ []) (integer 8) (call (codes "G") 10 (name (codes "X") 12 ∷ []))) false
   pub body_that_is_a_block : IsRun (function_g [] (block None 9 (returning (codes "X") ∷ []))) false
   pub with_a_characteristic : IsRun (function_g (deterministic ∷ []) (returning (codes "X"))) false
@@ -313,6 +314,13 @@ pub record FormsBoundAlone : Type 0 where
   pub explain_without_faults : (judged_statement (explained (codes "T")) catalog).faults ≡ []
   pub unknown_table_in_explain : Only (explained (codes "U")) UnknownName 90
   pub unknown_procedure : Only (stmt.Call (call_of 0)) UnknownName 1
+  -- where it is said that one is not run: at its first token, after a label
+  pub at_create : anchor_of (function_g [] (block None 9 [])) ≡ at 0
+  pub at_create_procedure : anchor_of (procedure (delete (codes "T") None)) ≡ at 0
+  pub at_call : anchor_of (stmt.Call (call_of 0)) ≡ at 0
+  pub at_explain : anchor_of (explained (codes "T")) ≡ at 0
+  pub at_begin : anchor_of (block None 0 []) ≡ at 0
+  pub at_begin_after_a_label : anchor_of (block (Some (called (codes "L") 0)) 2 []) ≡ at 2
 
 -- ---- writing
 

@@ -40,6 +40,8 @@ use Rattle.names_in_sight.specs.declared.scope.Scope.{Scope}
 use Rattle.sql_names.specs.Heights.{greatest_height}
 use Rattle.sql_names.specs.Runs.{all_run}
 use Rattle.change_names.specs.Names.{taken_name}
+use Rattle.routine_form.specs.declared.sum.TheConstants.{HEAVIEST}
+use Rattle.routine_form.specs.Weight.{weight}
 use Rattle.routine_names.specs.Access.{writes}
 use Rattle.statement_names.specs.Places.{Place}
 use Rattle.routine_names.specs.Statements.{judge_stmt}
@@ -57,11 +59,11 @@ ProcedureDefinition = CreateProcedure-F Declaration Stmt Structure Block Branch 
 -- ---- what a body sees
 
 -- The function itself, in its own body. Where the body calls it inside INSERT, UPDATE or DELETE, it
--- writes: so it is seen as one that does.
+-- writes: so it is seen as one that does. A call of itself is heaviest.
 abbrev pub own_function : Definition → Own
 own_function s = record {
   name = s.name.name;
-  head = Some (record { parameters = parameter_types s.parameters; returns = type_of s.returns; access = ModifiesSqlData; height = 0; uses = [] });
+  head = Some (record { parameters = parameter_types s.parameters; returns = type_of s.returns; access = ModifiesSqlData; height = 0; weight = HEAVIEST; uses = [] });
 }
 
 -- with its parameters in sight
@@ -83,8 +85,9 @@ mode_of written.Inout = mode.Inout
 abbrev pub modes_of : List Parameter → List ParameterMode
 modes_of ps = map (λ p. mode_of p.mode) ps
 
-abbrev pub procedure_head : List Parameter → DataAccess → ℕ → List (List ℕ) → ProcedureHead
-procedure_head ps access height uses = record { modes = modes_of ps; parameters = parameter_types ps; access = access; height = height; uses = uses }
+abbrev pub procedure_head : List Parameter → DataAccess → ℕ → ℕ → List (List ℕ) → ProcedureHead
+procedure_head ps access height weight uses =
+    record { modes = modes_of ps; parameters = parameter_types ps; access = access; height = height; weight = weight; uses = uses }
 
 abbrev pub own_procedure : ProcedureDefinition → Own
 own_procedure s = record { name = s.name.name; head = None }
@@ -95,14 +98,15 @@ in_procedure s parameters catalog = record {
   labels = [];
   returns = None;
   own = Some (own_procedure s);
-  procedure = Some (procedure_head s.parameters ModifiesSqlData 0 []);
+  procedure = Some (procedure_head s.parameters ModifiesSqlData 0 HEAVIEST []);
   catalog = catalog;
 }
 
 -- ---- a function of the form that is run: its body is RETURN, and it has no characteristics
 
-abbrev pub head_with : Definition → DataAccess → ℕ → List (List ℕ) → Head
-head_with s access height uses = record { parameters = parameter_types s.parameters; returns = type_of s.returns; access = access; height = height; uses = uses }
+abbrev pub head_with : Definition → DataAccess → ℕ → ℕ → List (List ℕ) → Head
+head_with s access height weight uses =
+    record { parameters = parameter_types s.parameters; returns = type_of s.returns; access = access; height = height; weight = weight; uses = uses }
 
 abbrev pub parameters_of_function : Definition → Scope
 parameters_of_function s = parameters_of s.parameters
@@ -113,13 +117,14 @@ signature_faults s catalog = taken_name s.name catalog ++ (parameter_faults s.pa
 -- it has a plan where all that it uses has one
 abbrev pub planned_function : Definition → Catalog → List (List ℕ) → BoundExpr → NewObject
 planned_function s catalog uses result = new.Function (record {
-  head = head_with s (need_of catalog uses false) (height_above (greatest_height catalog uses)) uses;
+  head = head_with s (need_of catalog uses false) (height_above (greatest_height catalog uses)) (weight catalog (Return result)) uses;
   body = result;
   plan = None;
 })
 
-abbrev pub interpreted_head : Definition → Catalog → DataAccess → List (List ℕ) → Head
-interpreted_head s catalog access uses = head_with s access (height_above (greatest_height catalog uses)) (used_in catalog uses)
+abbrev pub interpreted_head : Definition → Catalog → DataAccess → List (List ℕ) → BoundStmt → Head
+interpreted_head s catalog access uses body =
+    head_with s access (height_above (greatest_height catalog uses)) (weight catalog body) (used_in catalog uses)
 
 abbrev pub with_body : Definition → Head → List (List ℕ) → BoundStmt → NewObject
 with_body s head uses body = new.Interpreted (record {
@@ -130,7 +135,7 @@ with_body s head uses body = new.Interpreted (record {
 })
 
 abbrev pub interpreted : Definition → Catalog → DataAccess → List (List ℕ) → BoundStmt → NewObject
-interpreted s catalog access uses body = with_body s (interpreted_head s catalog access uses) uses body
+interpreted s catalog access uses body = with_body s (interpreted_head s catalog access uses body) uses body
 
 abbrev pub returning : Definition → Catalog → List (List ℕ) → BoundExpr → NewObject
 returning s catalog uses result =
@@ -188,14 +193,15 @@ judged_function s catalog =
 
 -- ---- procedures
 
-abbrev pub head_of_procedure : ProcedureDefinition → Catalog → DataAccess → List (List ℕ) → ProcedureHead
-head_of_procedure s catalog access uses = procedure_head s.parameters access (height_above (greatest_height catalog uses)) (used_in catalog uses)
+abbrev pub head_of_procedure : ProcedureDefinition → Catalog → DataAccess → List (List ℕ) → BoundStmt → ProcedureHead
+head_of_procedure s catalog access uses body =
+    procedure_head s.parameters access (height_above (greatest_height catalog uses)) (weight catalog body) (used_in catalog uses)
 
 abbrev pub procedure_with_body : ProcedureDefinition → ProcedureHead → List (List ℕ) → BoundStmt → NewObject
 procedure_with_body s head uses body = new.Procedure (record { head = head; self_calling = calls s.name.name uses; body = body })
 
 abbrev pub procedure_of : ProcedureDefinition → Catalog → DataAccess → List (List ℕ) → BoundStmt → NewObject
-procedure_of s catalog access uses body = procedure_with_body s (head_of_procedure s catalog access uses) uses body
+procedure_of s catalog access uses body = procedure_with_body s (head_of_procedure s catalog access uses body) uses body
 
 abbrev pub procedure_with : ProcedureDefinition → Catalog → Noted BoundStmt → Noted NewObject
 procedure_with s catalog body = record {

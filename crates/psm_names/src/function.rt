@@ -23,6 +23,7 @@ use change_names::note_taken;
 use name_faults::{Fault, Notes};
 use name_kinds::{kind_of_type, note_type, type_of};
 use names_in_sight::{Own, Scope, ScopeRef};
+use routine_form::{HEAVIEST, weight, weight_of_return};
 use routine_names::{bind_statement, writes};
 use sql_names::all_run;
 use sql_values::{Name, NoMemory};
@@ -56,9 +57,10 @@ fn head_with(
     create: &CreateFunction,
     access: DataAccess,
     height: u32,
+    weight: u32,
     uses: Items<Name>,
 ) -> Result<Head, NoMemory>
-    ensures { IfOk result (λ h. h ≡ spec.head_with (out-CreateFunction create.now) access height uses) }
+    ensures { IfOk result (λ h. h ≡ spec.head_with (out-CreateFunction create.now) access height weight uses) }
 {
     let parameters = parameter_types(alloc, create.parameters.as_slice())?;
     Ok(Head {
@@ -66,6 +68,7 @@ fn head_with(
         returns: type_of(create.returns),
         access,
         height,
+        weight,
         uses,
     })
 }
@@ -95,9 +98,10 @@ fn procedure_head(
     parameters: &[Parameter],
     access: DataAccess,
     height: u32,
+    weight: u32,
     uses: Items<Name>,
 ) -> Result<ProcedureHead, NoMemory>
-    ensures { IfOk result (λ h. h ≡ spec.procedure_head parameters.now access height uses) }
+    ensures { IfOk result (λ h. h ≡ spec.procedure_head parameters.now access height weight uses) }
 {
     let modes = modes_of(alloc, parameters)?;
     let parameters = parameter_types(alloc, parameters)?;
@@ -106,6 +110,7 @@ fn procedure_head(
         parameters,
         access,
         height,
+        weight,
         uses,
     })
 }
@@ -120,6 +125,7 @@ fn own_function(alloc: Global, create: &CreateFunction) -> Result<Own, NoMemory>
         create,
         DataAccess::ModifiesSqlData,
         0,
+        HEAVIEST,
         Items::new(alloc),
     )?;
     Ok(Own {
@@ -183,7 +189,8 @@ fn planned_function(
 {
     let access = need_of(catalog, bound.uses.as_slice(), false);
     let height = height_above(greatest_height(catalog, bound.uses.as_slice()));
-    let head = head_with(alloc, create, access, height, bound.uses)?;
+    let weight = weight_of_return(&bound.tree, catalog);
+    let head = head_with(alloc, create, access, height, weight, bound.uses)?;
     Ok(Object::Function(RoutineRecord {
         head,
         body: Body::shown(bound.tree),
@@ -191,19 +198,20 @@ fn planned_function(
     }))
 }
 
-// The head of a function without a plan, by what its body uses.
+// The head of a function without a plan, by its body and what it uses.
 fn interpreted_head(
     alloc: Global,
     create: &CreateFunction,
     catalog: &Catalog,
     access: DataAccess,
-    uses: &[Name],
+    body: &BoundBody,
 ) -> Result<Head, NoMemory>
-    ensures { IfOk result (λ h. h ≡ spec.interpreted_head (out-CreateFunction create.now) catalog.now access uses.now) }
+    ensures { IfOk result (λ h. h ≡ spec.interpreted_head (out-CreateFunction create.now) catalog.now access body.now.uses body.now.stmt) }
 {
-    let height = height_above(greatest_height(catalog, uses));
-    let used = used_in(alloc, catalog, uses)?;
-    let head = head_with(alloc, create, access, height, used)?;
+    let height = height_above(greatest_height(catalog, body.uses.as_slice()));
+    let weight = weight(&body.stmt, catalog);
+    let used = used_in(alloc, catalog, body.uses.as_slice())?;
+    let head = head_with(alloc, create, access, height, weight, used)?;
     Ok(head)
 }
 
@@ -229,7 +237,7 @@ fn interpreted(
 ) -> Result<Object, NoMemory>
     ensures { IfOk result (λ o. o ≡ spec.interpreted (out-CreateFunction create.now) catalog.now access body.uses body.stmt) }
 {
-    match interpreted_head(alloc, create, catalog, access, body.uses.as_slice()) {
+    match interpreted_head(alloc, create, catalog, access, &body) {
         Ok(head) => Ok(with_body(create, head, body)),
         Err(NoMemory) => {
             drop(body);
@@ -430,7 +438,14 @@ fn procedure_body(
     let own = Some(own_procedure(create)?);
     let parameters = create.parameters.as_slice();
     let access = DataAccess::ModifiesSqlData;
-    let procedure = Some(procedure_head(alloc, parameters, access, 0, Items::new(alloc))?);
+    let procedure = Some(procedure_head(
+        alloc,
+        parameters,
+        access,
+        0,
+        HEAVIEST,
+        Items::new(alloc),
+    )?);
     let scopes = [ScopeRef { scope }];
     let place = Place {
         scopes: &scopes,
@@ -444,19 +459,21 @@ fn procedure_body(
     Ok(body)
 }
 
-// The head of a procedure, by what its body uses.
+// The head of a procedure, by its body and what it uses.
 fn head_of_procedure(
     alloc: Global,
     create: &CreateProcedure,
     catalog: &Catalog,
     access: DataAccess,
-    uses: &[Name],
+    body: &BoundBody,
 ) -> Result<ProcedureHead, NoMemory>
-    ensures { IfOk result (λ h. h ≡ spec.head_of_procedure (out-CreateProcedure create.now) catalog.now access uses.now) }
+    ensures { IfOk result (λ h. h ≡ spec.head_of_procedure (out-CreateProcedure create.now) catalog.now access body.now.uses body.now.stmt) }
 {
-    let height = height_above(greatest_height(catalog, uses));
-    let used = used_in(alloc, catalog, uses)?;
-    let head = procedure_head(alloc, create.parameters.as_slice(), access, height, used)?;
+    let parameters = create.parameters.as_slice();
+    let height = height_above(greatest_height(catalog, body.uses.as_slice()));
+    let weight = weight(&body.stmt, catalog);
+    let used = used_in(alloc, catalog, body.uses.as_slice())?;
+    let head = procedure_head(alloc, parameters, access, height, weight, used)?;
     Ok(head)
 }
 
@@ -481,7 +498,7 @@ fn procedure_of(
 ) -> Result<Object, NoMemory>
     ensures { IfOk result (λ o. o ≡ spec.procedure_of (out-CreateProcedure create.now) catalog.now access body.uses body.stmt) }
 {
-    match head_of_procedure(alloc, create, catalog, access, body.uses.as_slice()) {
+    match head_of_procedure(alloc, create, catalog, access, &body) {
         Ok(head) => Ok(procedure_with_body(create, head, body)),
         Err(NoMemory) => {
             drop(body);

@@ -25,7 +25,7 @@ table_entry = record { name = codes "T"; object = TableObject one_column }
 abbrev function_entry : Entry
 function_entry = record {
   name = codes "F";
-  object = FunctionObject (record { parameters = []; returns = Integer; access = ContainsSql; height = 1; uses = []; routine = Function false [] Integer (Literal Null) });
+  object = FunctionObject (record { parameters = []; returns = Integer; access = ContainsSql; height = 1; weight = 1; uses = []; routine = Function false [] Integer (Literal Null) });
 }
 
 -- the table T, empty

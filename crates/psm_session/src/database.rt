@@ -13,9 +13,6 @@ ghost use Rattle.psm_session.specs.Answering.{ends_with, HasValues};
 ghost use Rattle.psm_session.specs.Executing.{Executes, Checks, reply_to, refusal};
 ghost use Rattle.psm_session.specs.Preparing.{IsPrepared, plan_in, most_steps};
 
-// Databases are tested through the program: the tests of `psm_cli` run scripts with every kind of
-// statement.
-
 use crate::effect::{check_bound, run_bound};
 use crate::prepared::{Prepared, prepare_query, run_plan};
 use bound_trees::BoundQuery;
@@ -76,6 +73,7 @@ fn refuse(alloc: Global, at: Anchor) -> Result<Reply, NoMemory>
 }
 
 impl Database {
+    ghost use Rattle.psm_session.specs.Conclusions.{database};
     ghost use Rattle.psm_session.specs.Database.{empty};
 
     /// A database without tables and functions. It takes no memory.
@@ -87,6 +85,25 @@ impl Database {
             catalog: Catalog::new(alloc),
             tables: Tables::new(alloc),
         }
+    }
+
+    /// The catalog as it is, in which a query is bound that is to be prepared.
+    pub fn catalog(&self) -> &Catalog
+        ensures { result.now ≡ self.now.catalog }
+    {
+        &self.catalog
+    }
+
+    /// The catalog and the tables, which are all that a database is.
+    pub fn into_parts(self) -> (Catalog, Tables)
+        ensures { database result.0 result.1 ≡ self }
+    {
+        let Database {
+            alloc: _,
+            catalog,
+            tables,
+        } = self;
+        (catalog, tables)
     }
 
     /// Prepares a query whose functions all have plans: its plan is made once, and means the query

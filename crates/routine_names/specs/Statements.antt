@@ -8,6 +8,8 @@ use Rattle.syntax_trees.specs.declared.query.OrderedQuery.{OrderedQuery}
 use Rattle.statement_trees.specs.declared.statement.Block.{Block, fold-Block}
 use Rattle.statement_trees.specs.declared.statement.Branch.{Branch, fold-Branch}
 use Rattle.statement_trees.specs.declared.statement.Case.{Case, out-Case, fold-Case}
+use Rattle.statement_trees.specs.declared.statement.CreateFunction.{CreateFunction}
+use Rattle.statement_trees.specs.declared.statement.CreateProcedure.{CreateProcedure}
 use Rattle.statement_trees.specs.declared.statement.Declaration.{Declaration, fold-Declaration}
 use Rattle.statement_trees.specs.declared.statement.Declaration.TheOpen.{Declaration-F, Stmt-F, Structure-F, Block-F, Branch-F, Case-F, CreateFunction-F, CreateProcedure-F, Handler-F, If-F, Labelled-F}
 use Rattle.statement_trees.specs.declared.statement.Handler.{Handler, out-Handler, fold-Handler}
@@ -243,6 +245,14 @@ judge_labelled = fold-Labelled JudgedDeclaration Judge JudgedStructure Judge Jud
     declaration_step stmt_step structure_step block_step branch_step case_step function_step procedure_step handler_step if_step labelled_step
 
 -- ---- parts, for contracts
+
+-- whether what may have a label is a loop
+abbrev pub loops : Structure-F Declaration Stmt Structure Block Branch Case CreateFunction CreateProcedure Handler If LabelledTree → Bool
+loops (Structure-F.Block b) = false
+loops (Structure-F.Loop body) = true
+loops (Structure-F.While test body) = true
+loops (Structure-F.Repeat body test) = true
+loops (Structure-F.For i q body) = true
 
 -- the branches of a CASE, with its operand judged
 abbrev pub arms_of : Option BoundExpr → Kind → Case → Judge

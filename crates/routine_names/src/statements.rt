@@ -3,6 +3,7 @@
 
 ghost use Rattle.std.specs.Prelude.{◌≡◌, map, IfOk, OnOk};
 ghost use Rattle.name_faults.specs.Faults.{noted, taken};
+ghost use Rattle.statement_trees.specs.declared.statement.Structure.{out-Structure};
 ghost use Rattle.names_in_sight.specs.Scopes.{scope_by};
 ghost use Rattle.statement_names.specs.Places.{place_by, label_by, within, with_scope, in_action};
 ghost use Rattle.routine_names.specs.Statements as spec;
@@ -29,14 +30,15 @@ use statement_trees::{
     Block, Branch, Case, Declaration, Handler, If, Labelled as LabelledTree, Stmt, Structure,
 };
 use std::alloc::Global;
+use std::mem::drop;
 use syntax_trees::{Expr, Ident, OrderedQuery};
 use typed_parts::TypedQuery;
 
 // ---- parts of statements that hold statements
 
-// Whether what may have a label is a loop.
-fn is_loop(structure: &Structure) -> bool
-    ensures { result ≡ (judge_structure structure.now).is_loop }
+// Whether what may have a label is a loop, by its form.
+fn loops(structure: &Structure) -> bool
+    ensures { result ≡ spec.loops (out-Structure structure.now) }
 {
     match structure {
         Structure::Block(_) => false,
@@ -47,15 +49,30 @@ fn is_loop(structure: &Structure) -> bool
     }
 }
 
+// The same, by how it is judged.
+fn is_loop(structure: &Structure) -> bool
+    ensures { result ≡ (judge_structure structure.now).is_loop }
+{
+    loops(structure)
+}
+
 fn block_of(atomic: bool, so: Declared, statements: Items<BoundStmt>) -> BoundBlock
     ensures { result ≡ spec.block_of atomic so statements }
 {
+    let Declared {
+        scope,
+        variables,
+        cursors,
+        handlers,
+    } = so;
+    let first_cursor = scope.first_cursor;
+    drop(scope);
     BoundBlock {
         atomic,
-        variables: so.variables,
-        first_cursor: so.scope.first_cursor,
-        cursors: so.cursors,
-        handlers: so.handlers,
+        variables,
+        first_cursor,
+        cursors,
+        handlers,
         statements,
     }
 }

@@ -101,8 +101,8 @@ column n data_type = record { name = n; data_type = data_type; not_null = false 
 abbrev pub catalog : Catalog
 catalog = record { name = codes "T"; object = TableObject (record { columns = column (codes "K") type.Integer ∷ column (codes "A") type.Integer ∷ []; key = 0 ∷ [] }) }
     ∷ record { name = codes "S"; object = TableObject (record { columns = column (codes "A") type.Integer ∷ column (codes "B") (type.Varchar 9) ∷ []; key = 0 ∷ [] }) }
-    ∷ record { name = codes "F"; object = FunctionObject (record { parameters = type.Integer ∷ []; returns = type.Integer; access = ContainsSql; height = 8; uses = []; routine = missing }) }
-    ∷ record { name = codes "E"; object = FunctionObject (record { parameters = type.Integer ∷ []; returns = type.Integer; access = ContainsSql; height = 1; uses = []; routine = missing }) } ∷ []
+    ∷ record { name = codes "F"; object = FunctionObject (record { parameters = type.Integer ∷ []; returns = type.Integer; access = ContainsSql; height = 8; weight = 1; uses = []; routine = missing }) }
+    ∷ record { name = codes "E"; object = FunctionObject (record { parameters = type.Integer ∷ []; returns = type.Integer; access = ContainsSql; height = 1; weight = 1; uses = []; routine = missing }) } ∷ []
 
 -- ---- queries
 
@@ -406,15 +406,15 @@ pub record BindsByLevel : Type 0 where
 
 -- the catalog with a function W that modifies SQL data, a function I without a plan, and a procedure P, each of an INTEGER
 abbrev pub with_routines : Catalog
-with_routines = record { name = codes "W"; object = InterpretedObject (record { parameters = type.Integer ∷ []; returns = type.Integer; access = ModifiesSqlData; height = 1; uses = []; null_call = false; self_calling = false; body = Leave 0 }) }
-    ∷ record { name = codes "I"; object = InterpretedObject (record { parameters = type.Integer ∷ []; returns = type.Integer; access = ReadsSqlData; height = 1; uses = []; null_call = false; self_calling = false; body = Leave 0 }) }
-    ∷ record { name = codes "P"; object = ProcedureObject (record { modes = In ∷ []; parameters = type.Integer ∷ []; access = ContainsSql; height = 1; uses = []; self_calling = false; body = Leave 0 }) }
+with_routines = record { name = codes "W"; object = InterpretedObject (record { parameters = type.Integer ∷ []; returns = type.Integer; access = ModifiesSqlData; height = 1; weight = 1; uses = []; null_call = false; self_calling = false; body = Leave 0 }) }
+    ∷ record { name = codes "I"; object = InterpretedObject (record { parameters = type.Integer ∷ []; returns = type.Integer; access = ReadsSqlData; height = 1; weight = 1; uses = []; null_call = false; self_calling = false; body = Leave 0 }) }
+    ∷ record { name = codes "P"; object = ProcedureObject (record { modes = In ∷ []; parameters = type.Integer ∷ []; access = ContainsSql; height = 1; weight = 1; uses = []; self_calling = false; body = Leave 0 }) }
     ∷ catalog
 
 -- in the body of a function of one VARCHAR, and in that of a procedure
 abbrev pub in_function : List ℕ → Seen
 in_function n =
-    in_routine (record { name = n; head = Some (record { parameters = type.Varchar 9 ∷ []; returns = type.Varchar 9; access = ModifiesSqlData; height = 2; uses = [] }) })
+    in_routine (record { name = n; head = Some (record { parameters = type.Varchar 9 ∷ []; returns = type.Varchar 9; access = ModifiesSqlData; height = 2; weight = 1; uses = [] }) })
     (at_top with_routines)
 
 abbrev pub in_procedure : List ℕ → Seen

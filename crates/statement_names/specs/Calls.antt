@@ -49,7 +49,7 @@ procedure_in None = None
 procedure_in (Some (TableObject t)) = None
 procedure_in (Some (FunctionObject f)) = None
 procedure_in (Some (InterpretedObject f)) = None
-procedure_in (Some (ProcedureObject q)) = Some (record { modes = q.modes; parameters = q.parameters; access = q.access; height = q.height; uses = q.uses })
+procedure_in (Some (ProcedureObject q)) = Some (record { modes = q.modes; parameters = q.parameters; access = q.access; height = q.height; weight = q.weight; uses = q.uses })
 
 abbrev pub is_own : List ℕ → Option Own → Bool
 is_own name None = false

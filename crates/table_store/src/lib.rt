@@ -8,8 +8,6 @@ mod rows;
 mod search;
 mod table;
 mod tables;
-#[cfg(test)]
-mod tests;
 
 pub use placed_row::PlacedRow;
 pub use table::Table;

@@ -121,8 +121,8 @@ with_aggregate kind parts so = record { trees = parts.trees ++ argument_of so.tr
 abbrev pub head_in : Option Object → Option FunctionHead
 head_in None = None
 head_in (Some (TableObject t)) = None
-head_in (Some (FunctionObject f)) = Some (record { parameters = f.parameters; returns = f.returns; access = f.access; height = f.height; uses = f.uses })
-head_in (Some (InterpretedObject f)) = Some (record { parameters = f.parameters; returns = f.returns; access = f.access; height = f.height; uses = f.uses })
+head_in (Some (FunctionObject f)) = Some (record { parameters = f.parameters; returns = f.returns; access = f.access; height = f.height; weight = f.weight; uses = f.uses })
+head_in (Some (InterpretedObject f)) = Some (record { parameters = f.parameters; returns = f.returns; access = f.access; height = f.height; weight = f.weight; uses = f.uses })
 head_in (Some (ProcedureObject p)) = None
 
 abbrev pub head_named : List ℕ → Catalog → Option FunctionHead

@@ -1,0 +1,4 @@
+pub mod Sums
+pub mod Calls
+pub mod Weight
+pub mod Examples
