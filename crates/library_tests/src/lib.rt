@@ -3,14 +3,24 @@
 #![tactic(auto)]
 
 #[cfg(test)]
+mod catalogs;
+#[cfg(test)]
 mod interpreter;
 #[cfg(test)]
 mod parser;
 #[cfg(test)]
 mod plans;
 #[cfg(test)]
+mod runs;
+#[cfg(test)]
 mod scalars;
 #[cfg(test)]
+mod small_rows;
+#[cfg(test)]
 mod small_table;
+#[cfg(test)]
+mod tables;
+#[cfg(test)]
+mod undo;
 #[cfg(test)]
 mod words;

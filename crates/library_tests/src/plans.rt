@@ -33,10 +33,6 @@ fn end_of<L: Ledger>(blank: Blank, plan: &Plan, world: &World) -> Option<End>
     }
 }
 
-fn end_of_branded(plan: &Plan, world: &World) -> Option<End> {
-    end_of::<Brand>(Blank::new(1), plan, world)
-}
-
 fn plan_of(query: Query, alloc: Global, catalog: &Catalog) -> Option<Plan> {
     let tree = tree_of(alloc, query)?;
     plan_query(alloc, &tree, catalog).ok()
@@ -44,7 +40,7 @@ fn plan_of(query: Query, alloc: Global, catalog: &Catalog) -> Option<Plan> {
 
 fn end_over(query: Query, world: &World, catalog: &Catalog) -> Option<End> {
     let plan = plan_of(query, world.allocator(), catalog)?;
-    end_of_branded(&plan, world)
+    end_of::<Brand>(Blank::new(1), &plan, world)
 }
 
 fn with_catalog(alloc: Global, query: Query, catalog: &Catalog) -> Option<End> {

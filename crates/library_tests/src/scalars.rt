@@ -2,10 +2,11 @@
 
 ghost use Rattle.std.specs.Prelude.{◌≡◌};
 
+use crate::small_rows::text;
 use rel_algebra::{ListWord, Scalar, ScalarLink, UnaryWord};
 use row_types::{Cell, Outer, PlanRow, Steps};
 use scalar_eval::eval;
-use sql_values::{Comparison, MOST_TEXT, NoMemory, Operator, SqlType, Text, Value};
+use sql_values::{Comparison, NoMemory, Operator, SqlType, Value};
 use sqlite_items::{Boxed, Items};
 use std::alloc::Global;
 use std::marker::Brand;
@@ -15,15 +16,22 @@ fn truth(value: bool) -> Scalar {
     Scalar::Constant(Value::Bool(value))
 }
 
+// A scalar, an operator and another scalar.
+pub fn chained(
+    alloc: Global,
+    first: Scalar,
+    operator: Operator,
+    operand: Scalar,
+) -> Result<Scalar, NoMemory> {
+    let mut links = Items::new(alloc);
+    links.push(ScalarLink { operator, operand })?;
+    Ok(Scalar::Chain(Boxed::new(alloc, first)?, links))
+}
+
 // 10 / #0
 fn quotient(alloc: Global) -> Result<Scalar, NoMemory> {
-    let mut links = Items::new(alloc);
-    links.push(ScalarLink {
-        operator: Operator::Divide,
-        operand: Scalar::Column(0, 0),
-    })?;
-    let first = Boxed::new(alloc, Scalar::Constant(Value::Int(10)))?;
-    Ok(Scalar::Chain(first, links))
+    let ten = Scalar::Constant(Value::Int(10));
+    chained(alloc, ten, Operator::Divide, Scalar::Column(0, 0))
 }
 
 // NULL (an argument that isn't there) and then a truth value, under a word
@@ -46,14 +54,6 @@ fn case(alloc: Global) -> Result<Scalar, NoMemory> {
 
 fn number(number: i64) -> Result<Scalar, NoMemory> {
     Ok(Scalar::Constant(Value::Int(number)))
-}
-
-pub fn text(alloc: Global, characters: &str) -> Result<Value, NoMemory> {
-    let owned = characters.to_string(alloc)?;
-    if owned.as_str().chars().count() > MOST_TEXT {
-        return Err(NoMemory);
-    }
-    Ok(Value::Str(Text::of(alloc, owned)?))
 }
 
 fn written(alloc: Global, characters: &str) -> Result<Scalar, NoMemory> {
@@ -82,12 +82,7 @@ fn joined(
     first: Result<Scalar, NoMemory>,
     operand: Result<Scalar, NoMemory>,
 ) -> Result<Scalar, NoMemory> {
-    let mut links = Items::new(alloc);
-    links.push(ScalarLink {
-        operator: Operator::Concatenate,
-        operand: operand?,
-    })?;
-    Ok(Scalar::Chain(Boxed::new(alloc, first?)?, links))
+    chained(alloc, first?, Operator::Concatenate, operand?)
 }
 
 // A word on its operands, each of which is a number.

@@ -363,7 +363,7 @@ fn columns(alloc: Global) -> Option<Items<ColumnType>>
     one(alloc, column)
 }
 
-fn row_type(alloc: Global) -> Option<RowType>
+pub fn row_type(alloc: Global) -> Option<RowType>
     ensures { IfSome result (λ t. IsTrue (has_key_columns t.columns t.key)) }
 {
     let key = one(alloc, 0usize)?;

@@ -1,6 +1,6 @@
 //! Words, as the interpreter evaluates them where memory is there.
 
-use crate::scalars::text;
+use crate::small_rows::text;
 use crate::small_table::{catalog, literal, quotient, world};
 use bound_trees::{BoundExpr, BoundOperation};
 use expr_interp::{Frame, RowsInSight, Stop};

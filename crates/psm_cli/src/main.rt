@@ -6,44 +6,14 @@
 //! psm check <script
 //! ```
 //!
-//! From here on down: `program` has the answers, `read` and `write` the edges of a call, `run` the
-//! statements one by one, and `law` says that each script has one run. Which words are a command is
-//! psm_words', and what a statement means is psm_session's.
+//! The words, the standard streams and an empty database are taken here; what is done with them is
+//! psm_program's.
 #![tactic(auto)]
 
-#[cfg(test)]
-mod fault_tests;
-#[cfg(test)]
-mod group_tests;
-mod law;
-#[cfg(test)]
-mod pair_tests;
-mod program;
-#[cfg(test)]
-mod query_tests;
-mod read;
-#[cfg(test)]
-mod reading_tests;
-#[cfg(test)]
-mod routine_tests;
-mod run;
-mod status;
-#[cfg(test)]
-mod subquery_tests;
-#[cfg(test)]
-mod tests;
-#[cfg(test)]
-mod value_tests;
-mod write;
-#[cfg(test)]
-mod writing_tests;
-
 use io_edges::{StdSink, StdSource};
-pub use law::each_script_has_one_run;
-pub use program::run_program;
+use psm_program::{Status, run_program, tell};
 use psm_session::Database;
 use sql_values::NoMemory;
-pub use status::Status;
 use std::alloc::Global;
 use std::io::ErrorKind;
 use std::process::ExitCode;
@@ -76,7 +46,7 @@ fn main(rt: HostRuntime) -> ExitCode {
     let status = match run_words(&rt, rt.alloc()) {
         Ok(status) => status,
         Err(NoMemory) => {
-            program::tell(&mut StdSink::new(rt.stderr()), Status::NoMemory);
+            tell(&mut StdSink::new(rt.stderr()), Status::NoMemory);
             Status::NoMemory
         }
     };

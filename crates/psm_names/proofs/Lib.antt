@@ -2,4 +2,7 @@ pub mod Access
 pub mod Elements
 pub mod Meeting
 pub mod Made
+pub mod Runs
 pub mod Rows
+pub mod Typed
+pub mod Laws

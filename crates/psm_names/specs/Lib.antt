@@ -4,4 +4,6 @@ pub mod Routines
 pub mod Functions
 pub mod Statements
 pub mod Binds
+pub mod Types
+pub mod Runs
 pub mod Examples

@@ -3,6 +3,8 @@
 #![tactic(auto, using(name_faults::proofs::Laws::noted_append))]
 
 ghost use Rattle.psm_names.specs.Binds.{FaultlessFits};
+ghost use Rattle.psm_names.specs.Runs.{FaultlessRuns};
+ghost use Rattle.psm_names.specs.Types.{FaultlessTyped};
 ghost use Rattle.psm_names.specs.Examples.{EachFaultAtItsPlace, KeysOfTables, DropsOfEntries, FormsBoundAlone, FaultsOfWriting, KindsFit, BindsByPlaceAndName, BindsWriting};
 
 mod bound;
@@ -23,6 +25,20 @@ pub use typed_parts::NameFault;
 /// dropped stands there unused; and what is asked or met has a plan.
 pub fn faultless_fits()
     ensures { FaultlessFits }
+{}
+
+/// What is bound without faults is well typed: each column, slot, cursor and label that it names is
+/// there, and each operand, argument and value is of a kind that fits. In each compound statement
+/// the handlers stand behind all other declarations, as a script has them.
+pub fn faultless_typed()
+    ensures { FaultlessTyped }
+{}
+
+/// Where all functions have plans, a statement without faults is run if it is of a form that is run:
+/// CREATE TABLE, CREATE FUNCTION without characteristics whose body is RETURN and does not call the
+/// function itself, DROP, INSERT, UPDATE, DELETE or a query.
+pub fn faultless_runs()
+    ensures { FaultlessRuns }
 {}
 
 /// Each kind of fault, at its place.

@@ -1,14 +1,16 @@
 //! Statements: the public call.
 
-ghost use Rattle.std.specs.Prelude.{◌≡◌, IfOk, OnOk};
+ghost use Rattle.std.specs.Prelude.{◌≡◌, true, IfOk, OnOk};
 ghost use Rattle.std.specs.Option.{option_copied};
 ghost use Rattle.statement_trees.specs.declared.statement.CreateFunction.{out-CreateFunction};
+ghost use Rattle.declaration_order.specs.Ordered.{is_ordered};
 ghost use Rattle.name_faults.specs.Faults.{noted};
 ghost use Rattle.names_in_sight.specs.Sight.{at_top};
 ghost use Rattle.sql_names.specs.Order.{judge_ordered};
 ghost use Rattle.psm_names.specs.Statements.{result_of, judged_routine, judged_statement};
 ghost use Rattle.psm_names.specs.Statements as spec;
 ghost use Rattle.psm_names.specs.Binds.{Binds, StatementFits};
+ghost use Rattle.psm_names.specs.Types.{IsTyped};
 
 use crate::bound::{Bound, BoundStatement};
 use crate::function::{bind_function, bind_procedure, bind_returning};
@@ -365,8 +367,9 @@ pub fn anchor_of(stmt: &Stmt) -> Anchor
 
 /// A statement with its names resolved. Fault: exactly where it has a fault, and then the least, by
 /// place and then kind. What is made has a free name, and fits the catalog; what is dropped stands
-/// there unused; what is asked or met has a plan.
-#[tactic(auto, using(name_faults::proofs::Laws::is_free, crate::proofs::Made::bound_fits))]
+/// there unused; what is asked or met has a plan. It is well typed, where in each compound statement
+/// the handlers stand behind all other declarations.
+#[tactic(auto, using(name_faults::proofs::Laws::is_free, crate::proofs::Made::bound_fits, crate::proofs::Typed::bound_typed))]
 pub fn bind_statement(
     alloc: Global,
     stmt: &Stmt,
@@ -374,6 +377,7 @@ pub fn bind_statement(
 ) -> Result<BoundStatement, NameFault>
     ensures binds { Binds (judged_statement stmt.now catalog.now) result }
     ensures fits { IfOk result (λ b. StatementFits catalog.now b.bound) }
+    ensures typed { IfOk result (λ b. is_ordered stmt.now ≡ true → IsTyped catalog.now b.bound) }
 {
     let _entries = catalog.len();
     let mut least = None;

@@ -7,5 +7,6 @@ pub mod Answering
 pub mod Preparing
 pub mod Executing
 pub mod Statement
+pub mod Typed
 pub mod Conclusions
 pub mod Examples

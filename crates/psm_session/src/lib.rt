@@ -11,6 +11,7 @@ mod effect;
 mod next;
 mod planned;
 mod prepared;
+mod typing;
 mod world;
 
 pub use budget::DEFAULT_BUDGET;
@@ -19,3 +20,4 @@ pub use next::{check_next, run_next};
 pub use plan_exec::Answer;
 pub use prepared::Prepared;
 pub use reply_text::Reply;
+pub use typing::statements_are_typed;

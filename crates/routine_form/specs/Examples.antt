@@ -1,14 +1,18 @@
 -- Worked rows, which hold by computation.
 use Rattle.std.specs.Prelude.{◌≡◌, true, false, [], ◌∷◌, None, Some, codes}
 use Rattle.sql_values.specs.declared.value.SqlType.TheVariants.{Integer}
+use Rattle.bound_trees.specs.declared.condition.BoundArea.TheVariants.{Current}
+use Rattle.bound_trees.specs.declared.condition.BoundInformation.TheVariants.{Condition}
+use Rattle.bound_trees.specs.declared.expr.BoundExpr.{BoundExpr}
 use Rattle.bound_trees.specs.declared.expr.BoundExpr.TheOpen.{BoundExpr-F}
+use Rattle.bound_trees.specs.declared.query.BoundQuery.{BoundQuery}
 use Rattle.bound_trees.specs.declared.statement.BoundStmt.TheOpen.{BoundStmt-F}
 use Rattle.bound_trees.specs.declared.statement.BoundStmt.TheVariants.{Leave}
 use Rattle.bound_trees.specs.declared.statement.BoundVariables.{BoundVariables}
 use Rattle.catalog_store.specs.Catalog.{FunctionObject, InterpretedObject, Entry, Catalog, missing}
 use Rattle.catalog_store.specs.declared.entry.DataAccess.TheVariants.{ContainsSql}
 use Rattle.routine_form.specs.declared.sum.TheConstants.{HEAVIEST}
-use Rattle.routine_form.specs.Calls.{weight_named, expr_calls, select_calls}
+use Rattle.routine_form.specs.Calls.{weight_named, expr_calls, select_calls, calls_in, calls_in_query}
 use Rattle.routine_form.specs.Sums.{add, total}
 use Rattle.routine_form.specs.Weight.{Weigh, itself, choice, inside, compound, stmt_weight}
 
@@ -62,6 +66,11 @@ pub record StatementsWeigh : Type 0 where
   pub loop : stmt_weight known (BoundStmt-F.Loop []) 0 ≡ 4097
   pub iterate : stmt_weight known (BoundStmt-F.Iterate 0) 0 ≡ 4097
   pub leave : stmt_weight known (BoundStmt-F.Leave 0) 0 ≡ 1
+  -- the operand of CASE, the text of SIGNAL, the number of a condition and a query that call F
+  pub operand : (e : BoundExpr) → calls_in known e ≡ 5 → stmt_weight known (BoundStmt-F.Case (Some e) [] []) 0 ≡ 6
+  pub message : (e : BoundExpr) → calls_in known e ≡ 5 → stmt_weight known (BoundStmt-F.Signal (record { state = codes "45000"; message = Some e })) 0 ≡ 6
+  pub number : (e : BoundExpr) → calls_in known e ≡ 5 → stmt_weight known (BoundStmt-F.GetDiagnostics (record { area = Current; information = Condition e [] })) 0 ≡ 6
+  pub selected : (q : BoundQuery) → calls_in_query known q ≡ 5 → stmt_weight known (BoundStmt-F.SelectInto q []) 0 ≡ 6
 
 -- Compound statements.
 pub record CompoundStatementsWeigh : Type 0 where

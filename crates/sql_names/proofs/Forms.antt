@@ -1,8 +1,10 @@
 -- Expressions without faults, of each form: what is noted is what the bound tree uses, and it has a plan.
 use Rattle.std.proofs.Common.{◌≡◌, refl, sym, ap, ◌∙◌, arith, ℕ, suc, Bool, true, false, not, ◌&&◌, ◌==◌, nat_lt, List, [], ◌∷◌, ◌++◌, map, length, Option, Some, None}
+use Rattle.std.specs.Prelude.{nat_le}
 use Rattle.std.proofs.lemmas.List.{length-map}
 use Rattle.std.proofs.lemmas.Bool.Decides.{nat_tests}
 use Rattle.sql_values.specs.declared.fold.FoldKind.{FoldKind}
+use Rattle.sql_values.specs.declared.fold.FoldKind.TheVariants.{Count, Sum, Avg, Min, Max}
 use Rattle.sql_values.specs.declared.value.Value.TheVariants.{Null, Bool as Truth}
 use Rattle.syntax_trees.specs.declared.anchor.Anchor.{Anchor}
 use Rattle.syntax_trees.specs.declared.anchor.Ident.{Ident}
@@ -21,7 +23,7 @@ use Rattle.names_in_sight.specs.declared.sight.Found.TheVariants.{Column, Guesse
 use Rattle.names_in_sight.specs.Sight.{Level, Seen, may_stand, ungrouped, inside_aggregate}
 use Rattle.typed_parts.specs.declared.aggregates.Parts.{Parts}
 use Rattle.typed_parts.specs.declared.typed.Operands.{Operands}
-use Rattle.typed_parts.specs.Typed.{no_parts, named, asked_of, asked_by_chain, argument_faults, function_known, function_in_sight, is_modifying}
+use Rattle.typed_parts.specs.Typed.{no_parts, named, asked_of, asked_by_chain, takes_arguments, argument_faults, function_known, function_in_sight, is_modifying}
 use Rattle.typed_parts.specs.Subqueries.{width_faults, member_faults}
 use Rattle.sql_names.specs.Judges.{Expression, JudgedLink, QueryJudge, Judge, look, all_of, operators, places, operands, called, judge_call, judge_operation, judge_aggregate, judge_chain, judge_single, judge_exists, judge_member}
 use Rattle.sql_names.proofs.Sets.{front_nil, back_nil, no_fault, equal}
@@ -126,6 +128,23 @@ module _ (known : Known) (planned : AllPlanned known.catalog) where
   several : (n : ℕ) → nat_lt 1 (suc (suc n)) ≡ false → ⊥
   several n p = grind (arith, nat_tests)
 
+  known-true : (b : Bool) → not b ≡ false → b ≡ true
+  known-true true p = refl
+  known-true false p = cc
+
+  at-most-one : (n : ℕ) → nat_le n 1 ≡ true → nat_lt 1 n ≡ false
+  at-most-one n p = grind (arith, nat_tests)
+
+  just-one : (n : ℕ) → (n == 1) ≡ true → nat_lt 1 n ≡ false
+  just-one n p = grind (arith, nat_tests)
+
+  not-several : (kind : FoldKind) (n : ℕ) → not (takes_arguments kind n) ≡ false → nat_lt 1 n ≡ false
+  not-several Count n p = at-most-one n (known-true (nat_le n 1) p)
+  not-several Sum n p = just-one n (known-true (n == 1) p)
+  not-several Avg n p = just-one n (known-true (n == 1) p)
+  not-several Min n p = just-one n (known-true (n == 1) p)
+  not-several Max n p = just-one n (known-true (n == 1) p)
+
   alike-argument : (so : Operands) → length so.trees ≡ length so.heads → nat_lt 1 (length so.heads) ≡ false → Alike known (marks known so.trees) (marks known (argument_of so.trees ∷ []))
   alike-argument so n p = of-trees so.trees (ap (nat_lt 1) n ∙ p)
     where
@@ -142,11 +161,13 @@ module _ (known : Known) (planned : AllPlanned known.catalog) where
       let inner = inside_aggregate s in
       let so = all_of inner no_parts es in
       let asked = aggregate_asked kind so.value.value.heads in
-      let many = fault_if (nat_lt 1 (length so.value.value.heads)) WrongCount at in
+      let wrong = not (takes_arguments kind (length so.value.value.heads)) in
+      let many = fault_if wrong WrongCount at in
       let bar = fault_if (not (may_stand s.levels)) NotPermitted at in
       let behind = back_nil bar (so.faults ++ (asked ++ many)) e in
       let covers = grown-alone known inner no_parts so.value.parts so.uses (marks known so.value.value.trees) (never s.levels) (all-grow es inner no_parts fs is (front_nil so.faults (asked ++ many) behind)) in
-      let one = no_fault (nat_lt 1 (length so.value.value.heads)) WrongCount at (back_nil asked many (back_nil so.faults (asked ++ many) behind)) in
+      let taken = no_fault wrong WrongCount at (back_nil asked many (back_nil so.faults (asked ++ many) behind)) in
+      let one = not-several kind (length so.value.value.heads) taken in
       let may = no_fault (not (may_stand s.levels)) NotPermitted at (front_nil bar (so.faults ++ (asked ++ many)) e) in
       let argument = argument_of so.value.value.trees in
       let column = bound.Column 0 (length p.trees) in

@@ -1,8 +1,9 @@
 -- Expressions whose names are resolved, with their kinds: what is made of operands, and what is asked of them. ISO/IEC 9075-2, 6.6 (identifier
 -- chain), 6.26 (value expression), 10.4 (routine invocation) and 10.9 (aggregate function).
-use Rattle.std.specs.Prelude.{ℕ, ◌==◌, Bool, true, false, not, ◌&&◌, if◌then◌else◌, List, [], ◌∷◌, ◌++◌, map, length, nat_lt, Option, Some, None}
+use Rattle.std.specs.Prelude.{ℕ, ◌==◌, Bool, true, false, not, ◌&&◌, if◌then◌else◌, List, [], ◌∷◌, ◌++◌, map, length, nat_le, Option, Some, None}
 use Rattle.std.specs.Str.{bytes_eq}
 use Rattle.sql_values.specs.declared.fold.FoldKind.{FoldKind}
+use Rattle.sql_values.specs.declared.fold.FoldKind.TheVariants.{Count}
 use Rattle.syntax_trees.specs.declared.anchor.Anchor.{Anchor}
 use Rattle.syntax_trees.specs.declared.anchor.Ident.{Ident}
 use Rattle.syntax_trees.specs.declared.expr.ChainOperator.{ChainOperator}
@@ -107,9 +108,13 @@ asked_by_chain operators places first so = links_faults (chain_place first.head.
 abbrev pub aggregate_typed : Anchor → FoldKind → Parts → Operands → Typed
 aggregate_typed at kind parts so = with_kind (aggregate_given kind so.heads) at (bound.Column 0 (length parts.trees))
 
--- it has one argument at most
+-- each has one argument, but COUNT(*), which has none
+abbrev pub takes_arguments : FoldKind → ℕ → Bool
+takes_arguments Count n = nat_le n 1
+takes_arguments _ n = n == 1
+
 abbrev pub aggregate_faults : Anchor → FoldKind → List Head → List Fault
-aggregate_faults at kind hs = aggregate_asked kind hs ++ fault_if (nat_lt 1 (length hs)) WrongCount at
+aggregate_faults at kind hs = aggregate_asked kind hs ++ fault_if (not (takes_arguments kind (length hs))) WrongCount at
 
 -- one part more
 abbrev pub with_aggregate : FoldKind → Parts → Operands → Parts

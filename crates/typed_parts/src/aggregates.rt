@@ -41,6 +41,16 @@ pub fn parts_of_keys(alloc: Global, trees: Items<BoundExpr>) -> Parts
     }
 }
 
+// Each has one argument, but COUNT(*), which has none.
+fn takes_arguments(kind: FoldKind, count: usize) -> bool
+    ensures { result ≡ spec.takes_arguments kind count }
+{
+    match kind {
+        FoldKind::Count => count <= 1,
+        FoldKind::Sum | FoldKind::Avg | FoldKind::Min | FoldKind::Max => count == 1,
+    }
+}
+
 /// An aggregate over its argument, with what it asks of it: one part more. It becomes the column of
 /// its group's row where its argument stands among the parts.
 pub fn aggregated(
@@ -56,8 +66,8 @@ pub fn aggregated(
 {
     let Operands { heads, trees } = operands;
     ask_aggregate(kind, heads.as_slice(), least);
-    let several = heads.len() > 1;
-    note_if(several, FaultKind::WrongCount, at, least);
+    let taken = takes_arguments(kind, heads.len());
+    note_if(!taken, FaultKind::WrongCount, at, least);
     let given = aggregate_kind(kind, heads.as_slice());
     let place = parts.trees.len();
     parts.trees.push(argument_of(trees))?;

@@ -1,0 +1,2 @@
+//! In which order the declarations of compound statements stand.
+#![tactic(auto)]

@@ -1,0 +1,15 @@
+pub mod Below
+pub mod Sees
+pub mod Hits
+pub mod Shapes
+pub mod Layers
+pub mod Fits
+pub mod Words
+pub mod Calls
+pub mod Subqueries
+pub mod Conjuncts
+pub mod Order
+pub mod ValueRows
+pub mod Names
+pub mod Levels
+pub mod Stars

@@ -1,0 +1,2 @@
+//! That parts of expressions and queries without faults are bound to well typed trees.
+#![tactic(auto)]

@@ -1,5 +1,0 @@
-use Rattle.psm_cli.proofs.ProgramLemmas.{none_ran}
-use Rattle.psm_cli.proofs.run.run_script.Goals as goal
-
-pub returns-in-Err-clause-ends : goal.returns-in-Err-clause-ends
-returns-in-Err-clause-ends g c = none_ran _ _ _ _

@@ -1,0 +1,2 @@
+-- The laws on which upper crates stand.
+pub use Rattle.psm_names.proofs.Typed.{faultless-typed}

@@ -1,0 +1,2 @@
+//! That expressions and queries without faults are bound to well typed trees.
+#![tactic(auto)]

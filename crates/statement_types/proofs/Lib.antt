@@ -1,0 +1,12 @@
+pub mod Lists
+pub mod Stands
+pub mod Values
+pub mod Writing
+pub mod Storing
+pub mod Calls
+pub mod Layers
+pub mod Simple
+pub mod Declarations
+pub mod Blocks
+pub mod Induction
+pub mod Laws

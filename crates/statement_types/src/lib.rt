@@ -1,0 +1,2 @@
+//! That statements without faults are bound to well typed trees.
+#![tactic(auto)]

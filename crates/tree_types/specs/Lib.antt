@@ -1,0 +1,5 @@
+pub mod Kinds
+pub mod Around
+pub mod Queries
+pub mod Statements
+pub mod Examples

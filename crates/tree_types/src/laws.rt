@@ -1,0 +1,18 @@
+//! Worked rows.
+
+ghost use Rattle.tree_types.specs.Examples.{ExpressionsHaveKinds, QueriesHaveKinds, StatementsAreTyped};
+
+/// What is asked of the parts of an expression.
+pub fn expressions_have_kinds()
+    ensures { ExpressionsHaveKinds }
+{}
+
+/// Rows of VALUES, FROM with ON, groups and ORDER BY.
+pub fn queries_have_kinds()
+    ensures { QueriesHaveKinds }
+{}
+
+/// Targets, handlers, labels, cursors, arguments and defaults.
+pub fn statements_are_typed()
+    ensures { StatementsAreTyped }
+{}
