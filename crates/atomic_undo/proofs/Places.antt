@@ -1,5 +1,6 @@
 -- Tables at places.
-use Rattle.std.proofs.Common.{ℕ, zero, suc, ◌≡◌, ◌<◌, List, [], ◌∷◌, refl, ap, ◌∙◌, arith, length, le_trans}
+use Rattle.std.proofs.Common.{ℕ, zero, suc, ◌≡◌, ◌<◌, List, [], ◌∷◌, refl, ap, ◌∙◌, arith, length}
+use Rattle.std.proofs.Common.{le_trans}
 use Rattle.row_types.specs.Rows.{Row}
 use Rattle.row_types.specs.Tables.{Table, Tables, table_at, with_table, with_rows, with_rows_at}
 use Rattle.table_store.specs.Memory.{NoLess}
@@ -14,7 +15,8 @@ at-with t x [] l = absurd (omega arith)
 at-with zero x (s ∷ ss) l = refl
 at-with (suc t) x (s ∷ ss) l = at-with t x ss (omega arith)
 
-pub with-with : (t : ℕ) (x y : Table) (ts : Tables) → with_table t y (with_table t x ts) ≡ with_table t y ts
+pub with-with : (t : ℕ) (x y : Table) (ts : Tables) →
+    with_table t y (with_table t x ts) ≡ with_table t y ts
 with-with t x y [] = refl
 with-with zero x y (s ∷ ss) = refl
 with-with (suc t) x y (s ∷ ss) = ap (λ (us : Tables). s ∷ us) (with-with t x y ss)
@@ -25,12 +27,16 @@ with-at zero (s ∷ ss) = refl
 with-at (suc t) (s ∷ ss) = ap (λ (us : Tables). s ∷ us) (with-at t ss)
 
 -- the rows of a table that was given rows
-pub rows-with : (t : ℕ) (rows : List Row) (ts : Tables) → t < length ts → table_at (with_rows_at t rows ts) t ≡ with_rows rows (table_at ts t)
+pub rows-with : (t : ℕ) (rows : List Row) (ts : Tables) → t < length ts →
+    table_at (with_rows_at t rows ts) t ≡ with_rows rows (table_at ts t)
 rows-with t rows ts l = at-with t (with_rows rows (table_at ts t)) ts l
 
-pub rows_at-rows_at : (t : ℕ) (rows more : List Row) (ts : Tables) → t < length ts → with_rows_at t more (with_rows_at t rows ts) ≡ with_rows_at t more ts
+pub rows_at-rows_at : (t : ℕ) (rows more : List Row) (ts : Tables) → t < length ts →
+    with_rows_at t more (with_rows_at t rows ts) ≡ with_rows_at t more ts
 rows_at-rows_at t rows more ts l =
-    ap (λ (x : Table). with_table t (with_rows more x) (with_rows_at t rows ts)) (rows-with t rows ts l) ∙ with-with t (with_rows rows (table_at ts t)) (with_rows more (table_at ts t)) ts
+    ap (λ (x : Table). with_table t (with_rows more x) (with_rows_at t rows ts))
+    (rows-with t rows ts l) ∙ with-with t (with_rows rows (table_at ts t))
+    (with_rows more (table_at ts t)) ts
 
 pub rows_at-same : (t : ℕ) (ts : Tables) → with_rows_at t (table_at ts t).rows ts ≡ ts
 rows_at-same t ts = with-at t ts

@@ -29,7 +29,8 @@ count_of (Delete places) = length places.items
 -- the rows were assigned and pass NOT NULL, and the places increase and are there
 abbrev pub IsFor : Table → Changes → Type 0
 IsFor t (Insert new) = list_all (fits t.columns t.key) new.items ≡ true
-IsFor t (Update places new) = Climb 0 places.items (length t.rows) × (length places.items ≡ length new.items) × (list_all (fits t.columns t.key) new.items ≡ true)
+IsFor t (Update places new) = Climb 0 places.items (length t.rows) ×
+    (length places.items ≡ length new.items) × (list_all (fits t.columns t.key) new.items ≡ true)
 IsFor t (Delete places) = Climb 0 places.items (length t.rows)
 
 -- The changes are made, or refused exactly where a row of the result has the key of an earlier one,
@@ -37,14 +38,17 @@ IsFor t (Delete places) = Climb 0 places.items (length t.rows)
 abbrev pub IsApplied : Memory → Book → Memory → Book → ℕ → Changes → Result ℕ ApplyFault → Type 0
 IsApplied m k n l t changes (Ok count) =
     (count ≡ count_of changes)
-    × (n.tables ≡ with_rows_at t (in_order (order_in m.tables t) (result_of changes (rows_in m.tables t))) m.tables)
+    × (n.tables ≡ with_rows_at t (in_order (order_in m.tables t)
+    (result_of changes (rows_in m.tables t))) m.tables)
     × (first_repeat (order_in m.tables t) (result_of changes (rows_in m.tables t)) ≡ None)
 IsApplied m k n l t changes (Err (Constraint at)) =
-    (n.tables ≡ m.tables) × (l.entries ≡ k.entries) × (first_repeat (order_in m.tables t) (result_of changes (rows_in m.tables t)) ≡ Some at)
+    (n.tables ≡ m.tables) × (l.entries ≡ k.entries) ×
+    (first_repeat (order_in m.tables t) (result_of changes (rows_in m.tables t)) ≡ Some at)
 IsApplied m k n l t changes (Err NoMemory) = (n.tables ≡ m.tables) × (l.entries ≡ k.entries)
 
 -- From one state of tables and log to another no mark is lost, and a roll back to each mark that
 -- there was gives the same.
 pub record KeepsMarks (m : Memory) (k : Book) (n : Memory) (l : Book) : Type 0 where
   pub longer : length k.entries ≤ length l.entries
-  pub back : (mark : ℕ) → mark ≤ length k.entries → back_to mark l.entries n.tables ≡ back_to mark k.entries m.tables
+  pub back : (mark : ℕ) → mark ≤ length k.entries →
+      back_to mark l.entries n.tables ≡ back_to mark k.entries m.tables

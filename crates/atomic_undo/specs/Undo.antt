@@ -7,7 +7,8 @@ use Rattle.table_store.specs.Kept.{Kept, holding, CanInsert, CanInsertAll, CanRe
 use Rattle.table_store.specs.Places.{Climb, removed_all, inserted_all}
 use Rattle.table_store.specs.Memory.{kept_at}
 use Rattle.atomic_undo.specs.declared.log.Edit.{Edit}
-use Rattle.atomic_undo.specs.declared.log.Edit.TheVariants.{Inserted, Appended, InsertedAll, Removed, RemovedAll, Replaced}
+use Rattle.atomic_undo.specs.declared.log.Edit.TheVariants.{Inserted, Appended, InsertedAll}
+use Rattle.atomic_undo.specs.declared.log.Edit.TheVariants.{Removed, RemovedAll, Replaced}
 use Rattle.atomic_undo.specs.declared.log.Entry.{Entry}
 
 -- the rows as they were before one change
@@ -24,6 +25,7 @@ abbrev pub rows_before : List Edit → List Row → List Row
 rows_before [] rows = rows
 rows_before (e ∷ es) rows = undo_edit e (rows_before es rows)
 
+-- the tables as they were before one statement's changes
 abbrev pub undo_entry : Entry → Tables → Tables
 undo_entry e ts = with_rows_at e.table (rows_before e.edits (table_at ts e.table).rows) ts
 
@@ -46,12 +48,15 @@ CanUndoEdit k (Removed at row) = CanInsert k at row
 CanUndoEdit k (RemovedAll removed) = CanInsertAll k removed
 CanUndoEdit k (Replaced at row) = CanReplace k at row
 
+-- changes can be taken back, the last first, each from what taking the later ones back leaves
 abbrev pub CanUndo : Kept → List Edit → Type 0
 CanUndo k [] = Unit {0}
 CanUndo k (e ∷ es) = CanUndo k es × CanUndoEdit (holding (rows_before es k.table.rows) k) e
 
+-- one statement's changes can be taken back: its table is there, and each change can
 abbrev pub CanUndoEntry : List ℕ → Tables → Entry → Type 0
-CanUndoEntry capacities ts e = (e.table < length ts) × CanUndo (kept_at (record { tables = ts; capacities = capacities }) e.table) e.edits
+CanUndoEntry capacities ts e = (e.table < length ts) ×
+    CanUndo (kept_at (record { tables = ts; capacities = capacities }) e.table) e.edits
 
 -- a log belongs to tables: taking its entries back, the newest first, each can be taken back
 abbrev pub Belongs : List ℕ → List Entry → Tables → Type 0

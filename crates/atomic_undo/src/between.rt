@@ -1,6 +1,7 @@
 //! New rows, whose keys rise, that go in among those of a table in one pass.
 
-ghost use Rattle.std.specs.Prelude.{◌≡◌, ◌<◌, ◌≤◌, ◌+◌, length, true, slice_index, vec_len, vec_capacity, None, IfOk, OnErr};
+ghost use Rattle.std.specs.Prelude.{◌≡◌, ◌<◌, ◌≤◌, ◌+◌, length, true, slice_index, vec_len};
+ghost use Rattle.std.specs.Prelude.{vec_capacity, None, IfOk, OnErr};
 ghost use Rattle.std.specs.List.{list_all};
 ghost use Rattle.row_types.specs.Ordered.{rises};
 ghost use Rattle.row_types.specs.Rows.{by_key, fits};
@@ -21,7 +22,7 @@ use table_store::{PlacedRow, Table, Tables};
 
 /// What is found of the keys of new rows in a table.
 #[derive(Drop)]
-pub enum Found {
+pub enum FoundPlaces {
     /// None stands there: the places that the rows take.
     Free(Vec<usize>),
     /// That of the new row at this place stands there, and none of those before it.
@@ -29,19 +30,20 @@ pub enum Found {
 }
 
 // Where new rows go in, or the first whose key stands in the table.
-fn find_places(alloc: Global, table: &Table, new: &[Row]) -> Result<Found, NoMemory>
+fn find_places(alloc: Global, table: &Table, new: &[Row]) -> Result<FoundPlaces, NoMemory>
     requires { rises (by_key table.now.table.key) new.now ≡ true }
-    ensures { IfOk result (λ found. IsFound (by_key table.now.table.key) table.now.table.rows new.now found) }
+    ensures { IfOk result (λ found. IsFound (by_key table.now.table.key) table.now.table.rows
+        new.now found) }
 {
     let _rows = table.len();
     let mut places = Vec::with_capacity(alloc, new.len())?;
     for i in 0..new.len() {
         match place_in(table, &new[i]) {
-            Ok(_) => return Ok(Found::Taken(i)),
+            Ok(_) => return Ok(FoundPlaces::Taken(i)),
             Err(at) => places.push_reserved(at + i),
         }
     }
-    Ok(Found::Free(places))
+    Ok(FoundPlaces::Free(places))
 }
 
 // New rows with the places that they take.
@@ -69,19 +71,22 @@ pub fn insert_between(
     edits: &mut Vec<Edit>,
 ) -> Result<Option<usize>, NoMemory>
     requires there { table < length tables.old.tables }
-    requires fit { list_all (fits (table_at tables.old.tables table).columns (table_at tables.old.tables table).key) new.items ≡ true }
-    requires room { length (rows_in tables.old.tables table) + vec_len new ≤ slice_index tables.old.capacities table }
+    requires fit { list_all (fits (table_at tables.old.tables table).columns
+        (table_at tables.old.tables table).key) new.items ≡ true }
+    requires room { length (rows_in tables.old.tables table) + vec_len new ≤
+        slice_index tables.old.capacities table }
     requires can { CanUndo (kept_at tables.old table) edits.old.items }
     requires rise { rises (order_in tables.old.tables table) new.items ≡ true }
-    ensures done { IfOk result (λ at. WentIn tables.old tables.new table new.items edits.old.items edits.new.items at) }
+    ensures done { IfOk result (λ at. WentIn tables.old tables.new table new.items edits.old.items
+        edits.new.items at) }
     ensures tables { OnErr result (tables.new ≡ tables.old) }
     ensures edits { OnErr result (edits.new.items ≡ edits.old.items) }
 {
     let _rows = tables.table_at(table).len();
     let found = find_places(alloc, tables.table_at(table), &new)?;
     match found {
-        Found::Taken(at) => Ok(Some(at)),
-        Found::Free(places) => {
+        FoundPlaces::Taken(at) => Ok(Some(at)),
+        FoundPlaces::Free(places) => {
             let placed = with_places(alloc, &places, new)?;
             edits.reserve(1)?;
             tables.insert_all(table, placed);

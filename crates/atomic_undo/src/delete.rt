@@ -1,9 +1,11 @@
 //! Rows that go out of a table.
 
-ghost use Rattle.std.specs.Prelude.{◌≡◌, ◌<◌, ◌≤◌, ◌+◌, [], length, vec_len, vec_capacity, OnOk, OnErr};
+ghost use Rattle.std.specs.Prelude.{◌≡◌, ◌<◌, ◌≤◌, ◌+◌, [], length, vec_len, vec_capacity, OnOk};
+ghost use Rattle.std.specs.Prelude.{OnErr};
 ghost use Rattle.table_store.specs.Memory.{kept_at};
 ghost use Rattle.atomic_undo.specs.Undo.{CanUndo};
-ghost use Rattle.atomic_undo.specs.Changes.{rows_in, removed_all, Climb, IsAnswer, Going_out, Unchanged};
+ghost use Rattle.atomic_undo.specs.Changes.{rows_in, removed_all, Climb, IsAnswer, Going_out};
+ghost use Rattle.atomic_undo.specs.Changes.{Unchanged};
 
 use crate::fault::ApplyFault;
 use crate::log::Edit;
@@ -19,7 +21,8 @@ fn remove_each(tables: &mut Tables, table: usize, places: Vec<usize>, edits: &mu
     requires places { Climb 0 places.items (length (rows_in tables.old.tables table)) }
     requires noted { vec_len edits.old + vec_len places ≤ vec_capacity edits.old }
     requires can { CanUndo (kept_at tables.old table) edits.old.items }
-    ensures out { Going_out tables.old tables.new table places.items [] edits.old.items edits.new.items }
+    ensures out { Going_out tables.old tables.new table places.items [] edits.old.items
+        edits.new.items }
     ensures noted { vec_len edits.new ≤ vec_len edits.old + vec_len places }
     ensures capacity { vec_capacity edits.new ≡ vec_capacity edits.old }
 {
@@ -31,8 +34,8 @@ fn remove_each(tables: &mut Tables, table: usize, places: Vec<usize>, edits: &mu
     }
 }
 
-// Takes the rows at places out in one pass. There is memory for an edit; without memory for the rows
-// nothing changes.
+// Takes the rows at places out in one pass. There is memory for an edit; without memory for the
+// rows nothing changes.
 fn remove_at_once(
     tables: &mut Tables,
     table: usize,
@@ -43,7 +46,8 @@ fn remove_at_once(
     requires places { Climb 0 places.now (length (rows_in tables.old.tables table)) }
     requires noted { vec_len edits.old < vec_capacity edits.old }
     requires can { CanUndo (kept_at tables.old table) edits.old.items }
-    ensures out { OnOk result (Going_out tables.old tables.new table places.now [] edits.old.items edits.new.items) }
+    ensures out { OnOk result (Going_out tables.old tables.new table places.now [] edits.old.items
+        edits.new.items) }
     ensures unchanged { OnErr result (Unchanged tables.old tables.new) }
 {
     let _rows = tables.table_at(table).len();
@@ -63,7 +67,8 @@ pub fn take_out(
     requires there { table < length tables.old.tables }
     requires places { Climb 0 places.items (length (rows_in tables.old.tables table)) }
     requires can { CanUndo (kept_at tables.old table) edits.old.items }
-    ensures out { OnOk result (Going_out tables.old tables.new table places.items [] edits.old.items edits.new.items) }
+    ensures out { OnOk result (Going_out tables.old tables.new table places.items [] edits.old.items
+        edits.new.items) }
     ensures unchanged { OnErr result (Unchanged tables.old tables.new) }
 {
     if takes_one_pass(places.len(), tables.table_at(table).len()) {
@@ -84,7 +89,8 @@ pub fn delete_rows(
 ) -> Result<Items<Edit>, ApplyFault>
     requires there { table < length tables.old.tables }
     requires places { Climb 0 places.items (length (rows_in tables.old.tables table)) }
-    ensures { IsAnswer tables.old tables.new table (removed_all places.items (rows_in tables.old.tables table)) result }
+    ensures { IsAnswer tables.old tables.new table
+        (removed_all places.items (rows_in tables.old.tables table)) result }
 {
     let mut edits = Vec::new(alloc);
     match take_out(tables, table, places, &mut edits) {

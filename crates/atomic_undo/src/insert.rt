@@ -1,6 +1,7 @@
 //! Rows that go into a table.
 
-ghost use Rattle.std.specs.Prelude.{◌≡◌, ◌<◌, ◌≤◌, ◌+◌, [], ◌++◌, length, true, slice_index, vec_len, vec_capacity, None, IfOk, OnErr, IsTrue};
+ghost use Rattle.std.specs.Prelude.{◌≡◌, ◌<◌, ◌≤◌, ◌+◌, [], ◌++◌, length, true, slice_index};
+ghost use Rattle.std.specs.Prelude.{vec_len, vec_capacity, None, IfOk, OnErr, IsTrue};
 ghost use Rattle.std.specs.List.{list_all};
 ghost use Rattle.row_types.specs.Ordered.{rises};
 ghost use Rattle.row_types.specs.Rows.{fits};
@@ -22,8 +23,8 @@ use std::alloc::Global;
 use std::collections::VecDeque;
 use table_store::Tables;
 
-// Puts new rows into a table one after another, each at its place, up to the first whose key stands
-// there. There is memory for all.
+/// Puts new rows into a table one after another, each at its place, up to the first whose key
+/// stands there. There is memory for all.
 pub fn insert_each(
     tables: &mut Tables,
     table: usize,
@@ -31,8 +32,10 @@ pub fn insert_each(
     edits: &mut Vec<Edit>,
 ) -> Option<usize>
     requires there { table < length tables.old.tables }
-    requires fit { list_all (fits (table_at tables.old.tables table).columns (table_at tables.old.tables table).key) new.items ≡ true }
-    requires room { length (rows_in tables.old.tables table) + vec_len new ≤ slice_index tables.old.capacities table }
+    requires fit { list_all (fits (table_at tables.old.tables table).columns
+        (table_at tables.old.tables table).key) new.items ≡ true }
+    requires room { length (rows_in tables.old.tables table) + vec_len new ≤
+        slice_index tables.old.capacities table }
     requires noted { vec_len edits.old + vec_len new ≤ vec_capacity edits.old }
     requires can { CanUndo (kept_at tables.old table) edits.old.items }
     ensures { WentIn tables.old tables.new table new.items edits.old.items edits.new.items result }
@@ -55,11 +58,14 @@ pub fn insert_each(
 // Puts new rows after those of a table, where all their keys rise. There is memory for all.
 fn insert_after(tables: &mut Tables, table: usize, new: Vec<Row>, edits: &mut Vec<Edit>)
     requires there { table < length tables.old.tables }
-    requires fit { list_all (fits (table_at tables.old.tables table).columns (table_at tables.old.tables table).key) new.items ≡ true }
-    requires room { length (rows_in tables.old.tables table) + vec_len new ≤ slice_index tables.old.capacities table }
+    requires fit { list_all (fits (table_at tables.old.tables table).columns
+        (table_at tables.old.tables table).key) new.items ≡ true }
+    requires room { length (rows_in tables.old.tables table) + vec_len new ≤
+        slice_index tables.old.capacities table }
     requires noted { vec_len edits.old < vec_capacity edits.old }
     requires can { CanUndo (kept_at tables.old table) edits.old.items }
-    requires rise { rises (order_in tables.old.tables table) (rows_in tables.old.tables table ++ new.items) ≡ true }
+    requires rise { rises (order_in tables.old.tables table)
+        (rows_in tables.old.tables table ++ new.items) ≡ true }
     ensures { WentIn tables.old tables.new table new.items edits.old.items edits.new.items None }
 {
     let first = tables.table_at(table).len();
@@ -67,7 +73,7 @@ fn insert_after(tables: &mut Tables, table: usize, new: Vec<Row>, edits: &mut Ve
     edits.push_reserved(Edit::Appended(first));
 }
 
-/// Puts new rows into a table, behind the others, in one pass or each by itself, up to the first
+/// Puts new rows into a table, after the others, in one pass or each by itself, up to the first
 /// whose key stands there. There is memory for them; without memory for what is noted nothing
 /// changes.
 pub fn put_in(
@@ -79,11 +85,14 @@ pub fn put_in(
     edits: &mut Vec<Edit>,
 ) -> Result<Option<usize>, NoMemory>
     requires there { table < length tables.old.tables }
-    requires fit { list_all (fits (table_at tables.old.tables table).columns (table_at tables.old.tables table).key) new.items ≡ true }
-    requires room { length (rows_in tables.old.tables table) + vec_len new ≤ slice_index tables.old.capacities table }
+    requires fit { list_all (fits (table_at tables.old.tables table).columns
+        (table_at tables.old.tables table).key) new.items ≡ true }
+    requires room { length (rows_in tables.old.tables table) + vec_len new ≤
+        slice_index tables.old.capacities table }
     requires can { CanUndo (kept_at tables.old table) edits.old.items }
     requires rise { IsTrue rise → rises (order_in tables.old.tables table) new.items ≡ true }
-    ensures done { IfOk result (λ at. WentIn tables.old tables.new table new.items edits.old.items edits.new.items at) }
+    ensures done { IfOk result (λ at. WentIn tables.old tables.new table new.items edits.old.items
+        edits.new.items at) }
     ensures tables { OnErr result (tables.new ≡ tables.old) }
     ensures edits { OnErr result (edits.new.items ≡ edits.old.items) }
 {
@@ -108,9 +117,11 @@ fn insert_or_refuse(
     rise: bool,
 ) -> Result<Items<Edit>, ApplyFault>
     requires there { table < length tables.old.tables }
-    requires fit { list_all (fits (table_at tables.old.tables table).columns (table_at tables.old.tables table).key) new.items ≡ true }
+    requires fit { list_all (fits (table_at tables.old.tables table).columns
+        (table_at tables.old.tables table).key) new.items ≡ true }
     requires rise { IsTrue rise → rises (order_in tables.old.tables table) new.items ≡ true }
-    ensures { IsAnswer tables.old tables.new table (rows_in tables.old.tables table ++ new.items) result }
+    ensures { IsAnswer tables.old tables.new table (rows_in tables.old.tables table ++ new.items)
+        result }
 {
     let before = tables.table_at(table).len();
     let Ok(()) = tables.reserve(table, new.len()) else {
@@ -137,8 +148,10 @@ pub fn insert_rows(
     new: Vec<Row>,
 ) -> Result<Items<Edit>, ApplyFault>
     requires there { table < length tables.old.tables }
-    requires fit { list_all (fits (table_at tables.old.tables table).columns (table_at tables.old.tables table).key) new.items ≡ true }
-    ensures { IsAnswer tables.old tables.new table (rows_in tables.old.tables table ++ new.items) result }
+    requires fit { list_all (fits (table_at tables.old.tables table).columns
+        (table_at tables.old.tables table).key) new.items ≡ true }
+    ensures { IsAnswer tables.old tables.new table (rows_in tables.old.tables table ++ new.items)
+        result }
 {
     match rising_rows(alloc, tables.table_at(table), new) {
         Ok(sorted) => insert_or_refuse(alloc, tables, table, sorted.rows, sorted.rise),

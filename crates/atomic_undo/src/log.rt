@@ -84,19 +84,19 @@ impl Log {
         }
     }
 
-    // What the log takes its memory from.
+    /// What the log takes its memory from.
     pub fn allocator(&self) -> Global {
         *self.list.allocator()
     }
 
-    // Whether there are entries after a mark.
+    /// Whether there are entries after a mark.
     pub fn goes_past(&self, mark: Mark) -> bool
         ensures { IsTrue result ↔ (mark < length self.now.entries) }
     {
         mark.count < self.list.len()
     }
 
-    // Memory for one more entry.
+    /// Memory for one more entry.
     pub fn reserve_one(&mut self) -> Result<(), NoMemory>
         ensures entries { self.new.entries ≡ self.old.entries }
         ensures room { OnOk result (length self.new.entries < self.new.capacity) }
@@ -105,7 +105,7 @@ impl Log {
         Ok(())
     }
 
-    // One more entry, for which there is memory.
+    /// One more entry, for which there is memory.
     pub fn push(&mut self, entry: Entry)
         requires { length self.old.entries < self.old.capacity }
         ensures { self.new.entries ≡ self.old.entries ++ entry ∷ [] }
@@ -113,7 +113,7 @@ impl Log {
         self.list.push_reserved(entry);
     }
 
-    // The last entry.
+    /// The last entry.
     pub fn pop(&mut self) -> Entry
         requires { 0 < length self.old.entries }
         ensures { self.old.entries ≡ self.new.entries ++ result ∷ [] }

@@ -1,6 +1,7 @@
 //! Rows that take the place of others with other keys: the old ones go out, and the new ones go in.
 
-ghost use Rattle.std.specs.Prelude.{◌≡◌, ◌<◌, ◌≤◌, ◌+◌, ◌++◌, [], length, true, take, slice_index, vec_len, None, IfOk, OnErr};
+ghost use Rattle.std.specs.Prelude.{◌≡◌, ◌<◌, ◌≤◌, ◌+◌, ◌++◌, [], length, true, take, slice_index};
+ghost use Rattle.std.specs.Prelude.{vec_len, None, IfOk, OnErr};
 ghost use Rattle.std.specs.List.{list_all};
 ghost use Rattle.row_types.specs.Ordered.{first_repeat};
 ghost use Rattle.row_types.specs.Rows.{fits, by_key};
@@ -81,8 +82,10 @@ fn judge(alloc: Global, table: &Table, places: Vec<usize>, new: Vec<Row>) -> App
     requires places { Climb 0 places.items (length table.now.table.rows) }
     requires both { length places.items ≡ length new.items }
     requires fit { list_all (fits table.now.table.columns table.now.table.key) new.items ≡ true }
-    requires repeats { first_repeat (by_key table.now.table.key) (set_all places.items new.items table.now.table.rows) ≡ None → ⊥ }
-    ensures { IsJudged (first_repeat (by_key table.now.table.key) (set_all places.items new.items table.now.table.rows)) result }
+    requires repeats { first_repeat (by_key table.now.table.key)
+        (set_all places.items new.items table.now.table.rows) ≡ None → ⊥ }
+    ensures { IsJudged (first_repeat (by_key table.now.table.key)
+        (set_all places.items new.items table.now.table.rows)) result }
 {
     let _kept = table.len();
     let Ok(rows) = copied_table(alloc, table) else {
@@ -107,10 +110,13 @@ fn put_in_order(
     edits: &mut Vec<Edit>,
 ) -> Result<bool, NoMemory>
     requires there { table < length tables.old.tables }
-    requires fit { list_all (fits (table_at tables.old.tables table).columns (table_at tables.old.tables table).key) new.items ≡ true }
-    requires room { length (rows_in tables.old.tables table) + vec_len new ≤ slice_index tables.old.capacities table }
+    requires fit { list_all (fits (table_at tables.old.tables table).columns
+        (table_at tables.old.tables table).key) new.items ≡ true }
+    requires room { length (rows_in tables.old.tables table) + vec_len new ≤
+        slice_index tables.old.capacities table }
     requires can { CanUndo (kept_at tables.old table) edits.old.items }
-    ensures done { IfOk result (λ all. GoesIn tables.old tables.new table new.items edits.old.items edits.new.items all) }
+    ensures done { IfOk result (λ all. GoesIn tables.old tables.new table new.items edits.old.items
+        edits.new.items all) }
     ensures tables { OnErr result (tables.new ≡ tables.old) }
     ensures edits { OnErr result (edits.new.items ≡ edits.old.items) }
 {
@@ -134,8 +140,10 @@ pub fn rekey_rows(
     requires there { table < length tables.old.tables }
     requires places { Climb 0 places.items (length (rows_in tables.old.tables table)) }
     requires both { length places.items ≡ length new.items }
-    requires fit { list_all (fits (table_at tables.old.tables table).columns (table_at tables.old.tables table).key) new.items ≡ true }
-    ensures { IsAnswer tables.old tables.new table (set_all places.items new.items (rows_in tables.old.tables table)) result }
+    requires fit { list_all (fits (table_at tables.old.tables table).columns
+        (table_at tables.old.tables table).key) new.items ≡ true }
+    ensures { IsAnswer tables.old tables.new table
+        (set_all places.items new.items (rows_in tables.old.tables table)) result }
 {
     let _before = tables.table_at(table).len();
     let Ok(places_again) = Vec::from_slice(alloc, &places) else {

@@ -1,13 +1,19 @@
 //! New rows in key order, so that each goes in after the last where the table has no greater key.
 
-ghost use Rattle.std.specs.Prelude.{◌≡◌, ◌<◌, ◌++◌, drop, length, pos, slice_index_or, IfOk, IsTrue, None, true};
+ghost use Rattle.std.specs.Prelude.{◌≡◌, ◌<◌, ◌++◌, drop, length, pos, slice_index_or, IfOk};
+ghost use Rattle.std.specs.Prelude.{IsTrue, None, true};
 ghost use Rattle.std.specs.List.{All, IsDistinct};
 ghost use Rattle.std.specs.List.Sorted.{IsPermutation};
 ghost use Rattle.std.specs.Ordering.{is_lt};
 ghost use Rattle.row_types.specs.Ordered.{searched, first_repeat, is_below_first, rises};
 ghost use Rattle.row_types.specs.Rows.{by_key};
 ghost use Rattle.table_store.specs.Kept.{IsKept};
-ghost use Rattle.atomic_undo.specs.Sorting.{abbreviated as abbreviated_by, abbreviated_key as abbreviated_key_by, is_without_texts as is_without_texts_by, is_abbreviated_whole as is_abbreviated_whole_by, numbered_from, by_abbreviated, rows_at as rows_at_by, have_one_place, IsOrder, PutAlike};
+ghost use Rattle.atomic_undo.specs.Sorting.{abbreviated as abbreviated_by};
+ghost use Rattle.atomic_undo.specs.Sorting.{abbreviated_key as abbreviated_key_by};
+ghost use Rattle.atomic_undo.specs.Sorting.{is_without_texts as is_without_texts_by};
+ghost use Rattle.atomic_undo.specs.Sorting.{is_abbreviated_whole as is_abbreviated_whole_by};
+ghost use Rattle.atomic_undo.specs.Sorting.{numbered_from, by_abbreviated, rows_at as rows_at_by};
+ghost use Rattle.atomic_undo.specs.Sorting.{have_one_place, IsOrder, PutAlike};
 
 use row_types::{Row, order_by_key};
 use sql_values::{NoMemory, SqlType, Text, Value};
@@ -75,7 +81,8 @@ pub fn rise_after(table: &Table, rows: &[Row]) -> bool
 /// Where the key of a row stands; `Err` is the place to put the row, found without a search where
 /// its key is above all.
 pub fn place_in(table: &Table, row: &Row) -> Result<usize, usize>
-    ensures place { result ≡ searched (λ r. by_key table.now.table.key r row.now) table.now.table.rows }
+    ensures place { result ≡ searched (λ r. by_key table.now.table.key r row.now)
+        table.now.table.rows }
     ensures kept { IsKept table.now }
 {
     let count = table.len();
@@ -136,7 +143,8 @@ fn numbered(alloc: Global, rows: &[Row], key: &[usize]) -> Result<Vec<Placed>, N
 // The order of the rows at two places by their keys. Where the abbreviated keys differ, the rows
 // aren't looked at.
 fn order_placed(a: &Placed, b: &Placed, rows: &[Row], key: &[usize]) -> Ordering
-    ensures { a.now.place < length rows.now → b.now.place < length rows.now → result ≡ by_abbreviated key.now rows.now a.now b.now }
+    ensures { a.now.place < length rows.now → b.now.place < length rows.now →
+        result ≡ by_abbreviated key.now rows.now a.now b.now }
 {
     match a.abbreviated.cmp(&b.abbreviated) {
         Ordering::Less => Ordering::Less,
@@ -194,7 +202,8 @@ fn sorted_places(
 // Whether the key of a row is below that of the row at the next place, if there is one.
 fn is_below_next(row: &Row, rows: &[Row], placed: &[Placed], next: usize, key: &[usize]) -> bool
     requires { All (λ p. p.place < length rows.now) placed.now }
-    ensures { result ≡ is_below_first (by_key key.now) row.now (rows_at_by rows.now (drop next placed.now)) }
+    ensures { result ≡ is_below_first (by_key key.now) row.now
+        (rows_at_by rows.now (drop next placed.now)) }
 {
     if next < placed.len() {
         is_below(row, &rows[placed[next].place], key)
@@ -207,8 +216,10 @@ fn is_below_next(row: &Row, rows: &[Row], placed: &[Placed], next: usize, key: &
 // gone through from the last.
 fn may_go_in(table: &Table, rows: &[Row], placed: &[Placed]) -> bool
     requires { All (λ p. p.place < length rows.now) placed.now }
-    ensures once { IsTrue result → first_repeat (by_key table.now.table.key) (table.now.table.rows ++ rows_at_by rows.now placed.now) ≡ None }
-    ensures rise { IsTrue result → rises (by_key table.now.table.key) (rows_at_by rows.now placed.now) ≡ true }
+    ensures once { IsTrue result → first_repeat (by_key table.now.table.key)
+        (table.now.table.rows ++ rows_at_by rows.now placed.now) ≡ None }
+    ensures rise { IsTrue result → rises (by_key table.now.table.key)
+        (rows_at_by rows.now placed.now) ≡ true }
 {
     let _rows = table.len();
     let mut i = placed.len();
@@ -243,8 +254,10 @@ fn rows_at(alloc: Global, rows: Vec<Row>, placed: &[Placed]) -> Result<Vec<Row>,
 // New rows in key order; where a key stands twice, in their own order.
 fn in_key_order(alloc: Global, table: &Table, new: Vec<Row>) -> Result<InOrder, NoMemory>
     ensures moved { IfOk result (λ v. IsPermutation new.items v.rows.items) }
-    ensures alike { IfOk result (λ v. PutAlike (by_key table.now.table.key) table.now.table.rows v.rows.items new.items) }
-    ensures rise { IfOk result (λ v. IsTrue v.rise → rises (by_key table.now.table.key) v.rows.items ≡ true) }
+    ensures alike { IfOk result (λ v. PutAlike (by_key table.now.table.key) table.now.table.rows
+        v.rows.items new.items) }
+    ensures rise { IfOk result (λ v. IsTrue v.rise →
+        rises (by_key table.now.table.key) v.rows.items ≡ true) }
 {
     let _rows = table.len();
     let placed = sorted_places(alloc, &new, table.key(), is_abbreviated_whole(table))?;
@@ -259,12 +272,14 @@ fn in_key_order(alloc: Global, table: &Table, new: Vec<Row>) -> Result<InOrder, 
     }
 }
 
-/// New rows whose keys rise as they are, or else in key order; where a key stands twice, in their own
-/// order.
+/// New rows whose keys rise as they are, or else in key order; where a key stands twice, in their
+/// own order.
 pub fn rising_rows(alloc: Global, table: &Table, new: Vec<Row>) -> Result<InOrder, NoMemory>
     ensures moved { IfOk result (λ v. IsPermutation new.items v.rows.items) }
-    ensures alike { IfOk result (λ v. PutAlike (by_key table.now.table.key) table.now.table.rows v.rows.items new.items) }
-    ensures rise { IfOk result (λ v. IsTrue v.rise → rises (by_key table.now.table.key) v.rows.items ≡ true) }
+    ensures alike { IfOk result (λ v. PutAlike (by_key table.now.table.key) table.now.table.rows
+        v.rows.items new.items) }
+    ensures rise { IfOk result (λ v. IsTrue v.rise →
+        rises (by_key table.now.table.key) v.rows.items ≡ true) }
 {
     if do_rise(&new, table.key()) {
         return Ok(InOrder {

@@ -38,7 +38,8 @@ fn make(
 ) -> Result<Items<Edit>, ApplyFault>
     requires there { table < length tables.old.tables }
     requires changes { IsFor (table_at tables.old.tables table) changes }
-    ensures { IsAnswer tables.old tables.new table (result_of changes (rows_in tables.old.tables table)) result }
+    ensures { IsAnswer tables.old tables.new table
+        (result_of changes (rows_in tables.old.tables table)) result }
 {
     match changes {
         Changes::Insert(new) => insert_rows(alloc, tables, table, new),

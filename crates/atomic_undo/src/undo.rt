@@ -3,7 +3,8 @@
 ghost use Rattle.std.specs.Prelude.{◌≡◌, ◌<◌, ◌≤◌, ℕ, length, take};
 ghost use Rattle.row_types.specs.Tables.{table_at, with_rows_at};
 ghost use Rattle.table_store.specs.Memory.{kept_at, NoLess};
-ghost use Rattle.atomic_undo.specs.Undo.{undo_edit, undo_entry, rows_before, back_to, CanUndo, CanUndoEdit, CanUndoEntry, Belongs};
+ghost use Rattle.atomic_undo.specs.Undo.{undo_edit, undo_entry, rows_before, back_to, CanUndo};
+ghost use Rattle.atomic_undo.specs.Undo.{CanUndoEdit, CanUndoEntry, Belongs};
 
 use crate::log::{Edit, Entry, Log, Mark};
 use sqlite_items::Items;
@@ -13,7 +14,8 @@ use table_store::Tables;
 fn undo(tables: &mut Tables, table: usize, edit: Edit)
     requires there { table < length tables.old.tables }
     requires can { CanUndoEdit (kept_at tables.old table) edit }
-    ensures tables { tables.new.tables ≡ with_rows_at table (undo_edit edit (table_at tables.old.tables table).rows) tables.old.tables }
+    ensures tables { tables.new.tables ≡ with_rows_at table
+        (undo_edit edit (table_at tables.old.tables table).rows) tables.old.tables }
     ensures capacities { NoLess tables.old.capacities tables.new.capacities }
 {
     match edit {
@@ -30,7 +32,7 @@ fn undo(tables: &mut Tables, table: usize, edit: Edit)
     }
 }
 
-// Takes the changes of one entry back, the last first.
+/// Takes the changes of one entry back, the last first.
 pub fn undo_all(tables: &mut Tables, entry: Entry)
     requires { CanUndoEntry tables.old.capacities tables.old.tables entry }
     ensures tables { tables.new.tables ≡ undo_entry entry tables.old.tables }
@@ -43,11 +45,12 @@ pub fn undo_all(tables: &mut Tables, entry: Entry)
     }
 }
 
-// Takes changes of a table back that are not in a log yet.
+/// Takes changes of a table back that are not in a log yet.
 pub fn take_back(tables: &mut Tables, table: usize, edits: Vec<Edit>)
     requires there { table < length tables.old.tables }
     requires can { CanUndo (kept_at tables.old table) edits.items }
-    ensures tables { tables.new.tables ≡ with_rows_at table (rows_before edits.items (table_at tables.old.tables table).rows) tables.old.tables }
+    ensures tables { tables.new.tables ≡ with_rows_at table
+        (rows_before edits.items (table_at tables.old.tables table).rows) tables.old.tables }
     ensures capacities { NoLess tables.old.capacities tables.new.capacities }
 {
     let edits = Items::from_vec(edits);
@@ -62,7 +65,8 @@ pub fn roll_back(tables: &mut Tables, log: &mut Log, mark: Mark)
     ensures tables { tables.new.tables ≡ back_to mark log.old.entries tables.old.tables }
     ensures log { log.new.entries ≡ take mark log.old.entries }
     ensures belongs { Belongs tables.new.capacities log.new.entries tables.new.tables }
-    ensures earlier { (m : ℕ) → m ≤ mark → back_to m log.new.entries tables.new.tables ≡ back_to m log.old.entries tables.old.tables }
+    ensures earlier { (m : ℕ) → m ≤ mark → back_to m log.new.entries tables.new.tables ≡
+        back_to m log.old.entries tables.old.tables }
 {
     while log.goes_past(mark) {
         undo_all(tables, log.pop());

@@ -12,8 +12,8 @@ pub struct BoundInsert {
     pub source: BoundQuery,
 }
 
-/// An UPDATE (14.14): the table's name, the places of the columns that are assigned, in the order in
-/// which they are written, and the query of the rows that are met, each with all columns of the
+/// An UPDATE (14.14): the table's name, the places of the columns that are assigned, in the order
+/// in which they are written, and the query of the rows that are met, each with all columns of the
 /// table and then a value for each of these places.
 #[derive(Drop)]
 pub struct BoundUpdate {

@@ -1,4 +1,5 @@
-//! Bound expressions. Chains, operands and arguments are lists, so that a tree is as deep as the brackets and calls of its text nest.
+//! Bound expressions. Chains, operands and arguments are lists, so that a tree is as deep as the
+//! brackets and calls of its text nest.
 
 ghost use Rattle.std.specs.Prelude.{◌≡◌};
 ghost use Rattle.bound_trees.specs.Operands.{takes};
@@ -40,7 +41,8 @@ pub enum BoundOperation {
     Coalesce,
     /// CASE (6.12): tests and results in turn, and perhaps a last result.
     Case,
-    /// CASE with an operand (6.12): the operand, then what it is compared with and results in turn, and perhaps a last result.
+    /// CASE with an operand (6.12): the operand, then what it is compared with and results in turn,
+    /// and perhaps a last result.
     CaseOf,
 }
 
@@ -76,7 +78,8 @@ pub enum BoundExpr {
     Variable(usize),
     /// A word with its operands.
     Operation(BoundOperation, Items<BoundExpr>),
-    /// A chain of operators, read from the left: the first operand, and then each operator with its right operand.
+    /// A chain of operators, read from the left: the first operand, and then each operator with its
+    /// right operand.
     Chain(Boxed<BoundExpr>, Items<BoundLink>),
     /// A call of a function, by its name, with its arguments (10.4).
     Call(Name, Items<BoundExpr>),

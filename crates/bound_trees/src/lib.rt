@@ -1,4 +1,5 @@
-//! Bound trees: statements whose names are resolved. A column, a variable and a cursor stand by their places, a table and a routine by their names.
+//! Bound trees: statements whose names are resolved. A column, a variable and a cursor stand by
+//! their places, a table and a routine by their names.
 #![tactic(auto)]
 
 mod change;

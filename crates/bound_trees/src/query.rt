@@ -51,8 +51,8 @@ pub enum BoundSource {
 
 /// How a query is grouped (7.13). Of each row of FROM that is kept the parts are evaluated: the
 /// grouping columns, and then the arguments of the aggregates, which are those of the select list
-/// from left to right and then those of HAVING. The row of a group has its grouping columns and then
-/// its finished aggregates, so that each part and what becomes of it stand at one place.
+/// from left to right and then those of HAVING. The row of a group has its grouping columns and
+/// then its finished aggregates, so that each part and what becomes of it stand at one place.
 #[cycle(bound)]
 #[derive(Drop)]
 pub struct BoundGrouping {

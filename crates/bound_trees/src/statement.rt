@@ -55,8 +55,8 @@ pub enum BoundStmt {
     Call(BoundCall),
     /// A compound statement (ISO/IEC 9075-4, 14.1).
     Block(BoundBlock),
-    /// IF (14.7): the branches, and the statements of ELSE, of which there are none where it is left
-    /// out.
+    /// IF (14.7): the branches, and the statements of ELSE, of which there are none where it is
+    /// left out.
     If(Items<BoundBranch>, Items<BoundStmt>),
     /// CASE (14.6), simple with an operand, else searched.
     Case(Option<BoundExpr>, Items<BoundBranch>, Items<BoundStmt>),
@@ -111,7 +111,8 @@ pub struct BoundHandler {
     pub action: Boxed<BoundStmt>,
 }
 
-/// A test, or what the operand of a simple CASE is compared with, and the statements that it chooses.
+/// A test, or what the operand of a simple CASE is compared with, and the statements that it
+/// chooses.
 #[cycle(bound_statement)]
 #[derive(Drop)]
 pub struct BoundBranch {

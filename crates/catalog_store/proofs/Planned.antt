@@ -1,11 +1,16 @@
--- Each function of a catalog has a plan, since it fits those that stand before it; and names differ.
-use Rattle.std.proofs.Common.{◌≡◌, ℕ, Bool, true, false, cond, List, [], ◌∷◌, ◌++◌, Option, None, Some, refl, sym, ap, ◌∙◌}
+-- Each function of a catalog has a plan, since it fits those that stand before it; and names
+-- differ.
+use Rattle.std.proofs.Common.{◌≡◌, ℕ, Bool, true, false, cond, List, [], ◌∷◌, ◌++◌, Option, None}
+use Rattle.std.proofs.Common.{Some, refl, sym, ap, ◌∙◌}
 use Rattle.std.specs.List.{AllByRecursion, IsDistinct}
 use Rattle.std.specs.Str.{bytes_eq}
 use Rattle.rel_algebra.specs.Plain.{planned_routine}
 use Rattle.catalog_store.specs.declared.entry.Object.{Object as HeldObject}
-use Rattle.catalog_store.specs.declared.entry.Object.TheVariants.{Table, Function as FunctionRecord, Interpreted as InterpretedRecord, Procedure as ProcedureRecord}
-use Rattle.catalog_store.specs.Catalog.{Object, Entry, Catalog, names_of, object_named, routine_named, routine_in}
+use Rattle.catalog_store.specs.declared.entry.Object.TheVariants.{Table, Function as FunctionRecord}
+use Rattle.catalog_store.specs.declared.entry.Object.TheVariants.{Interpreted as InterpretedRecord}
+use Rattle.catalog_store.specs.declared.entry.Object.TheVariants.{Procedure as ProcedureRecord}
+use Rattle.catalog_store.specs.Catalog.{Object, Entry, Catalog, names_of, object_named}
+use Rattle.catalog_store.specs.Catalog.{routine_named, routine_in}
 use Rattle.catalog_store.specs.Entries.{object_of, entry_of, with_all, ObjectFits, AreSound}
 use Rattle.catalog_store.specs.Planning.{AllPlanned}
 use Rattle.catalog_store.proofs.Named.{named_kept, named_after}
@@ -13,43 +18,56 @@ use Rattle.catalog_store.proofs.Sound.{Held, grown}
 
 -- ---- catalogs
 
-planned_object : (known : Catalog) (o : HeldObject) → ObjectFits known o → planned_routine (routine_in (Some (object_of known o))) ≡ true
+planned_object : (known : Catalog) (o : HeldObject) → ObjectFits known o →
+    planned_routine (routine_in (Some (object_of known o))) ≡ true
 planned_object known (Table row_type) fits = refl
 planned_object known (FunctionRecord r) fits = fits.planned
 planned_object known (InterpretedRecord f) fits = refl
 planned_object known (ProcedureRecord p) fits = refl
 
-planned_more : (known : Catalog) (e : Held) → AllPlanned known → ObjectFits known e.1 → AllPlanned (grown known e)
+planned_more : (known : Catalog) (e : Held) → AllPlanned known → ObjectFits known e.1 →
+    AllPlanned (grown known e)
 planned_more known e all fits name = by (object_named name known) refl
   where
-    at_end : (b : Bool) → planned_routine (routine_in (cond b (Some (object_of known e.1)) None)) ≡ true
+    at_end : (b : Bool) → planned_routine (routine_in (cond b (Some (object_of known e.1)) None)) ≡
+        true
     at_end true = planned_object known e.1 fits
     at_end false = refl
 
-    by : (o : Option Object) → object_named name known ≡ o → planned_routine (routine_named name (grown known e)) ≡ true
-    by None h = ap (λ (o : Option Object). planned_routine (routine_in o)) (named_after name known (entry_of known e.0 e.1 ∷ []) h) ∙ at_end (bytes_eq e.0 name)
+    by : (o : Option Object) → object_named name known ≡ o →
+        planned_routine (routine_named name (grown known e)) ≡ true
+    by None h = ap (λ (o : Option Object). planned_routine (routine_in o))
+        (named_after name known (entry_of known e.0 e.1 ∷ []) h) ∙ at_end (bytes_eq e.0 name)
     by (Some o) h =
-        ap (λ (x : Option Object). planned_routine (routine_in x)) (named_kept name known (entry_of known e.0 e.1 ∷ []) o h ∙ sym h) ∙ all name
+        ap (λ (x : Option Object). planned_routine (routine_in x))
+        (named_kept name known (entry_of known e.0 e.1 ∷ []) o h ∙ sym h) ∙ all name
 
-pub all_planned : (known : Catalog) (es : List Held) → AllPlanned known → AreSound known es → AllPlanned (with_all known es)
+pub all_planned : (known : Catalog) (es : List Held) → AllPlanned known → AreSound known es →
+    AllPlanned (with_all known es)
 all_planned known [] all sound = all
-all_planned known (e ∷ es) all sound = all_planned (grown known e) es (planned_more known e all sound.1.fits) sound.2
+all_planned known (e ∷ es) all sound = all_planned (grown known e) es
+    (planned_more known e all sound.1.fits) sound.2
 
 -- ---- names
 
-apart_from_first : (k : Entry) (ks : Catalog) (name : List ℕ) → object_named name (k ∷ ks) ≡ None → (bytes_eq k.name name ≡ false) × (object_named name ks ≡ None)
+apart_from_first : (k : Entry) (ks : Catalog) (name : List ℕ) → object_named name (k ∷ ks) ≡ None →
+    (bytes_eq k.name name ≡ false) × (object_named name ks ≡ None)
 apart_from_first k ks name h = by (bytes_eq k.name name) refl h
   where
-    by : (b : Bool) → bytes_eq k.name name ≡ b → cond b (Some k.object) (object_named name ks) ≡ None → (bytes_eq k.name name ≡ false) × (object_named name ks ≡ None)
+    by : (b : Bool) → bytes_eq k.name name ≡ b → cond b (Some k.object) (object_named name ks) ≡
+        None → (bytes_eq k.name name ≡ false) × (object_named name ks ≡ None)
     by true e h = cc
     by false e h = (e, h)
 
-apart_from_more : (name : List ℕ) (ks : Catalog) (e : Entry) → AllByRecursion (λ other. bytes_eq name other ≡ false) (names_of ks) → bytes_eq name e.name ≡ false →
+apart_from_more : (name : List ℕ) (ks : Catalog) (e : Entry) →
+    AllByRecursion (λ other. bytes_eq name other ≡ false) (names_of ks) →
+    bytes_eq name e.name ≡ false →
     AllByRecursion (λ other. bytes_eq name other ≡ false) (names_of (ks ++ e ∷ []))
 apart_from_more name [] e h k = (k, tt)
 apart_from_more name (x ∷ xs) e h k = (h.0, apart_from_more name xs e h.1 k)
 
-distinct_more : (ks : Catalog) (e : Entry) → object_named e.name ks ≡ None → IsDistinct bytes_eq (names_of ks) → IsDistinct bytes_eq (names_of (ks ++ e ∷ []))
+distinct_more : (ks : Catalog) (e : Entry) → object_named e.name ks ≡ None →
+    IsDistinct bytes_eq (names_of ks) → IsDistinct bytes_eq (names_of (ks ++ e ∷ []))
 unfolding IsDistinct
 distinct_more [] e h d = (tt, tt)
 distinct_more (k ∷ ks) e h d =
@@ -60,6 +78,8 @@ pub none_alike : IsDistinct bytes_eq []
 unfolding IsDistinct
 none_alike = tt
 
-pub all_distinct : (known : Catalog) (es : List Held) → AreSound known es → IsDistinct bytes_eq (names_of known) → IsDistinct bytes_eq (names_of (with_all known es))
+pub all_distinct : (known : Catalog) (es : List Held) → AreSound known es →
+    IsDistinct bytes_eq (names_of known) → IsDistinct bytes_eq (names_of (with_all known es))
 all_distinct known [] sound d = d
-all_distinct known (e ∷ es) sound d = all_distinct (grown known e) es sound.2 (distinct_more known (entry_of known e.0 e.1) sound.0 d)
+all_distinct known (e ∷ es) sound d = all_distinct (grown known e) es sound.2
+    (distinct_more known (entry_of known e.0 e.1) sound.0 d)

@@ -54,13 +54,16 @@ pub data Object : Type 0 where
   InterpretedObject : Interpreted → Object
   ProcedureObject : Procedure → Object
 
+-- an object with its name
 pub record Entry : Type 0 where
   pub name : List ℕ
   pub object : Object
 
+-- the objects in the order of their making, so that each stands on those before it alone
 abbrev pub Catalog : Type 0
 Catalog = List Entry
 
+-- the names that are taken, in that order
 abbrev pub names_of : Catalog → List (List ℕ)
 names_of catalog = map (λ e. e.name) catalog
 
@@ -73,6 +76,7 @@ object_named name (e ∷ es) = if bytes_eq e.name name then Some e.object else o
 abbrev pub missing : Routine
 missing = FunctionTree false [] Integer (Literal Null)
 
+-- what a call runs: the function that the name stands for, and RETURN NULL for any other object
 abbrev pub routine_in : Option Object → Routine
 routine_in None = missing
 routine_in (Some (TableObject row_type)) = missing

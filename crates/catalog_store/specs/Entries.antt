@@ -4,11 +4,15 @@ use Rattle.std.specs.Prelude.{◌≡◌, ℕ, true, false, List, [], ◌∷◌, 
 use Rattle.row_types.specs.Rows.{has_key_columns}
 use Rattle.rel_algebra.specs.Tree.{Function as FunctionTree}
 use Rattle.catalog_store.specs.declared.entry.Object.{Object as HeldObject}
-use Rattle.catalog_store.specs.declared.entry.Object.TheVariants.{Table, Function as FunctionRecord, Interpreted as InterpretedRecord, Procedure as ProcedureRecord}
+use Rattle.catalog_store.specs.declared.entry.Object.TheVariants.{Table, Function as FunctionRecord}
+use Rattle.catalog_store.specs.declared.entry.Object.TheVariants.{Interpreted as InterpretedRecord}
+use Rattle.catalog_store.specs.declared.entry.Object.TheVariants.{Procedure as ProcedureRecord}
 use Rattle.catalog_store.specs.declared.entry.InterpretedFunction.{InterpretedFunction}
 use Rattle.catalog_store.specs.declared.entry.Procedure.{Procedure as HeldProcedure}
 use Rattle.catalog_store.specs.declared.entry.RoutineRecord.{RoutineRecord}
-use Rattle.catalog_store.specs.Catalog.{Function, Interpreted, Procedure, Object, TableObject, FunctionObject, InterpretedObject, ProcedureObject, Entry, Catalog, object_named}
+use Rattle.catalog_store.specs.Catalog.{Function, Interpreted, Procedure, Object, TableObject}
+use Rattle.catalog_store.specs.Catalog.{FunctionObject, InterpretedObject, ProcedureObject, Entry}
+use Rattle.catalog_store.specs.Catalog.{Catalog, object_named}
 use Rattle.rel_algebra.specs.Plain.{planned_expr}
 use Rattle.catalog_store.specs.Uses.{AllFit, uses_in, names_used, SameNames, UsesStand}
 use Rattle.catalog_store.specs.Kept.{IsKept}
@@ -27,6 +31,7 @@ function_of known r =
       routine = FunctionTree false r.head.parameters r.head.returns (tree_of known r.body);
     }
 
+-- a function whose body is other statements: the same in every catalog
 abbrev pub interpreted_of : InterpretedFunction → Interpreted
 interpreted_of f =
     record {
@@ -41,6 +46,7 @@ interpreted_of f =
       body = f.body;
     }
 
+-- a procedure: the same in every catalog
 abbrev pub procedure_of : HeldProcedure → Procedure
 procedure_of p =
     record {
@@ -61,6 +67,7 @@ object_of known (FunctionRecord r) = FunctionObject (function_of known r)
 object_of known (InterpretedRecord f) = InterpretedObject (interpreted_of f)
 object_of known (ProcedureRecord p) = ProcedureObject (procedure_of p)
 
+-- an object with its name, as this catalog sees it
 abbrev pub entry_of : Catalog → List ℕ → HeldObject → Entry
 entry_of known name object = record { name = name; object = object_of known object }
 
@@ -69,6 +76,7 @@ abbrev pub with_all : Catalog → List (List ℕ × HeldObject) → Catalog
 with_all known [] = known
 with_all known (e ∷ es) = with_all (known ++ entry_of known e.0 e.1 ∷ []) es
 
+-- what these objects stand for, each seen by those before it
 abbrev pub plain : List (List ℕ × HeldObject) → Catalog
 plain es = with_all [] es
 
@@ -79,8 +87,8 @@ pub record FunctionFits (known : Catalog) (r : RoutineRecord) : Type 0 where
   pub uses : SameNames r.head.uses (names_used (uses_in r.body))
   pub planned : planned_expr (tree_of known r.body) ≡ true
 
--- an object fits a catalog: a table does where its key columns are columns of its own, and a routine
--- without a plan where what it uses is there
+-- an object fits a catalog: a table does where its key columns are columns of its own, and a
+-- routine without a plan where what it uses is there
 abbrev pub ObjectFits : Catalog → HeldObject → Type 0
 ObjectFits known (Table row_type) = IsTrue (has_key_columns row_type.columns row_type.key)
 ObjectFits known (FunctionRecord r) = FunctionFits known r
@@ -102,7 +110,8 @@ pub record Stands (known : Catalog) (o : HeldObject) : Type 0 where
 -- each entry has a name that none before it has, and stands in the catalog of those before it
 abbrev pub AreSound : Catalog → List (List ℕ × HeldObject) → Type 0
 AreSound known [] = Unit {0}
-AreSound known (e ∷ es) = (object_named e.0 known ≡ None) × Stands known e.1 × AreSound (known ++ entry_of known e.0 e.1 ∷ []) es
+AreSound known (e ∷ es) = (object_named e.0 known ≡ None) × Stands known e.1 ×
+    AreSound (known ++ entry_of known e.0 e.1 ∷ []) es
 
 -- a name stands for the function of this record, and the record fits and has its plan
 pub record IsNamed (name : List ℕ) (known : Catalog) (r : RoutineRecord) : Type 0 where

@@ -1,9 +1,11 @@
 -- Which entries use a name, and the catalog without it. ISO/IEC 9075-2, 11.31 and 11.62 (drop
 -- statements: what is used is not dropped).
-use Rattle.std.specs.Prelude.{ℕ, ◌&&◌, Bool, false, not, List, [], ◌∷◌, filter, length, if◌then◌else◌}
+use Rattle.std.specs.Prelude.{ℕ, ◌&&◌, Bool, false, not, List, [], ◌∷◌, filter, length}
+use Rattle.std.specs.Prelude.{if◌then◌else◌}
 use Rattle.std.specs.List.{list_any}
 use Rattle.std.specs.Str.{bytes_eq}
-use Rattle.catalog_store.specs.Catalog.{Object, TableObject, FunctionObject, InterpretedObject, ProcedureObject, Entry, Catalog}
+use Rattle.catalog_store.specs.Catalog.{Object, TableObject, FunctionObject, InterpretedObject}
+use Rattle.catalog_store.specs.Catalog.{ProcedureObject, Entry, Catalog}
 
 -- whether an object uses a name
 abbrev pub mentions : List ℕ → Object → Bool

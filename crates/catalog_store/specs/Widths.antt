@@ -1,7 +1,9 @@
 -- How many columns the tables of a catalog have. ISO/IEC 9075-2, 4.15 (tables).
 use Rattle.std.specs.Prelude.{ℕ, List, length, Option, Some, None}
-use Rattle.catalog_store.specs.Catalog.{Object, TableObject, FunctionObject, InterpretedObject, ProcedureObject, Catalog, object_named}
+use Rattle.catalog_store.specs.Catalog.{Object, TableObject, FunctionObject, InterpretedObject}
+use Rattle.catalog_store.specs.Catalog.{ProcedureObject, Catalog, object_named}
 
+-- as many as its columns for a table; 0 for a routine, and where the name stands for nothing
 abbrev pub object_width : Option Object → ℕ
 object_width None = 0
 object_width (Some (TableObject row_type)) = length row_type.columns

@@ -1,6 +1,7 @@
 //! The catalog: objects under one set of names, in the order of their making.
 
-ghost use Rattle.std.specs.Prelude.{◌≡◌, [], ◌∷◌, ◌++◌, length, None, IsSome, IfSome, MatchOption, OnOk, OnErr, IfErr, false, slice_get};
+ghost use Rattle.std.specs.Prelude.{◌≡◌, [], ◌∷◌, ◌++◌, length, None, IsSome, IfSome, MatchOption};
+ghost use Rattle.std.specs.Prelude.{OnOk, OnErr, IfErr, false, slice_get};
 ghost use Rattle.std.specs.Option.{option_copied, option_map};
 ghost use Rattle.rel_algebra.specs.Tree.{Function as FunctionTree};
 ghost use Rattle.std.specs.List.{IsDistinct};
@@ -17,11 +18,11 @@ use sql_values::Name;
 use std::alloc::{AllocFailed, Global};
 use std::marker::Model;
 
-/// Tables, functions and procedures by their names, which differ, in the order of their making. Where
-/// a function has a plan, each call in its body names another that has one, stands before it, is
-/// lower, and has as many parameters as the call has arguments, and each table in FROM stands before
-/// it; and its plan is kept, which is what the emitter makes of its body. Of a function without a
-/// plan and of a procedure, each name that the head lists stands for something before it.
+/// Tables, functions and procedures by their names, which differ, in the order of their making.
+/// Where a function has a plan, each call in its body names another that has one, stands before it,
+/// is lower, and has as many parameters as the call has arguments, and each table in FROM stands
+/// before it; and its plan is kept, which is what the emitter makes of its body. Of a function
+/// without a plan and of a procedure, each name that the head lists stands for something before it.
 #[derive(Drop)]
 pub struct Catalog {
     objects: IndexMap<Name, Object>,
@@ -57,7 +58,8 @@ fn mentions(object: &Object, name: &Name) -> bool
 
 // Whether the entry at a place has another name, and uses this one.
 fn is_user(objects: &IndexMap<Name, Object>, place: usize, name: &Name) -> bool
-    ensures { IfSome (slice_get objects.now.entries place) (λ e. result ≡ is_user name.now (entry_of [] e.0 e.1)) }
+    ensures { IfSome (slice_get objects.now.entries place)
+        (λ e. result ≡ is_user name.now (entry_of [] e.0 e.1)) }
 {
     match objects.get_index(place) {
         Some((user, object)) => user != name && mentions(object, name),
@@ -87,7 +89,8 @@ impl Catalog {
 
     /// What a name stands for; `None` exactly where it stands for nothing.
     pub fn get(&self, name: &Name) -> Option<&Object>
-        ensures value { object_named name.now self.now ≡ option_map (object_of self.now) (option_copied result) }
+        ensures value { object_named name.now self.now ≡ option_map (object_of self.now)
+            (option_copied result) }
         ensures fits { IfSome result (λ o. ObjectFits self.now o.now) }
         ensures planned { IfSome result (λ o. IsPlanned self.now o.now) }
     {
@@ -109,7 +112,7 @@ impl Catalog {
         }
     }
 
-    /// One more entry, behind the others. Without memory the catalog stays as it was, and name and
+    /// One more entry, after the others. Without memory the catalog stays as it was, and name and
     /// object are handed back.
     pub fn add(&mut self, name: Name, object: Object) -> Result<(), AllocFailed<(Name, Object)>>
         requires free { object_named name self.old ≡ None }
@@ -123,8 +126,8 @@ impl Catalog {
         Ok(())
     }
 
-    /// Takes out the entry of a name that no other entry uses, so that no routine calls it, reads it or
-    /// writes it. The others keep their order, and stand for what they stood for.
+    /// Takes out the entry of a name that no other entry uses, so that no routine calls it, reads
+    /// it or writes it. The others keep their order, and stand for what they stood for.
     pub fn drop_entry(&mut self, name: &Name)
         requires there { IsSome (object_named name.now self.old) }
         requires unused { users_of name.now self.old ≡ 0 }

@@ -27,14 +27,14 @@ pub enum ParameterMode {
 }
 
 /// What is known of a function beside its body: the types of its parameters, that of its result,
-/// what it does with SQL data (11.60), its height (one more than that of the highest routine that it
-/// calls, itself aside, and one for a function that calls none), the weight of its body (how many
-/// statements run in its place at most; 4,097 and no more where it is too heavy, or has a statement
-/// of another kind than those that a plan takes), and the names that its body uses: the routines that
-/// it calls, itself aside, and the tables that it reads or writes, in whatever order and however
-/// often.
+/// what it does with SQL data (11.60), its height (one more than that of the highest routine that
+/// it calls, itself aside, and one for a function that calls none), the weight of its body (how
+/// many statements run in its place at most; 4,097 and no more where it is too heavy, or has a
+/// statement of another kind than those that a plan takes), and the names that its body uses: the
+/// routines that it calls, itself aside, and the tables that it reads or writes, in whatever order
+/// and however often.
 #[derive(Drop)]
-pub struct Head {
+pub struct FunctionHead {
     pub parameters: Items<SqlType>,
     pub returns: SqlType,
     pub access: DataAccess,
@@ -65,7 +65,7 @@ pub enum Object {
 
 /// A function without a plan: its body is a statement (11.60). No query calls one.
 pub struct InterpretedFunction {
-    pub head: Head,
+    pub head: FunctionHead,
     /// RETURNS NULL ON NULL INPUT.
     pub null_call: bool,
     /// Whether it calls itself.
@@ -105,18 +105,18 @@ impl Drop for Procedure {
     }
 }
 
-/// A function: its head, what it returns, and its plan. A function that isn't in a catalog yet may be
-/// without it.
+/// A function: its head, what it returns, and its plan. A function that isn't in a catalog yet may
+/// be without it.
 #[derive(Drop)]
 pub struct RoutineRecord {
-    pub head: Head,
+    pub head: FunctionHead,
     pub body: Body,
     pub plan: Option<FunctionPlan>,
 }
 
-/// The plan of a function by itself: its parameters are the arguments. Nodes that add columns to one
-/// row without cells, an Extend or an Apply each, and the scalar over these that is the function's
-/// value.
+/// The plan of a function by itself: its parameters are the arguments. Nodes that add columns to
+/// one row without cells, an Extend or an Apply each, and the scalar over these that is the
+/// function's value.
 #[derive(Drop)]
 pub struct FunctionPlan {
     pub nodes: Items<Node>,

@@ -7,8 +7,8 @@ mod names;
 
 pub use catalog::Catalog;
 pub use entry::{
-    Body, DataAccess, FunctionPlan, Head, InterpretedFunction, Object, ParameterMode, Procedure,
-    ProcedureHead, RoutineRecord,
+    Body, DataAccess, FunctionHead, FunctionPlan, InterpretedFunction, Object, ParameterMode,
+    Procedure, ProcedureHead, RoutineRecord,
 };
 pub use names::{
     adding_leaves_the_others, calls_after_a_drop, dropping_leaves_the_others, grouped_or_not,

@@ -1,6 +1,8 @@
 //! How names keep what they stand for as the catalog changes.
 
-ghost use Rattle.catalog_store.specs.Examples.{ObjectsByName, UsersOfNames, CallsAfterADrop, ItemsFromTheLeft, GroupedOrNot, TablesInBodies, RoutinesWithoutPlans};
+ghost use Rattle.catalog_store.specs.Examples.{ObjectsByName, UsersOfNames, CallsAfterADrop};
+ghost use Rattle.catalog_store.specs.Examples.{ItemsFromTheLeft, GroupedOrNot, TablesInBodies};
+ghost use Rattle.catalog_store.specs.Examples.{RoutinesWithoutPlans};
 ghost use Rattle.catalog_store.specs.Laws.{AddingLeavesOthers, DroppingLeavesOthers};
 
 /// One more entry leaves what every other name stands for, and so the trees that calls run.

@@ -7,4 +7,5 @@ use Rattle.data_change.specs.Writing.{insert}
 
 -- an INSERT that lists no columns is one of all columns, in their order
 abbrev pub InsertWithoutList : Type 0
-InsertWithoutList = (name : List ℕ) (query : Query) (w : World) → insert name None query w ≡ insert_all name query w
+InsertWithoutList = (name : List ℕ) (query : Query) (w : World) →
+    insert name None query w ≡ insert_all name query w

@@ -1,6 +1,7 @@
 -- What INSERT with a column list, UPDATE and DELETE do. ISO/IEC 9075-2, 14.11 (insert statement),
 -- 14.14 (update statement) and 14.9 (delete statement).
-use Rattle.std.specs.Prelude.{ℕ, List, [], ◌∷◌, map, length, take, drop, replicate, slice_set, Option, Some, None, Result, Ok, Err}
+use Rattle.std.specs.Prelude.{ℕ, List, [], ◌∷◌, map, length, take, drop, replicate, slice_set}
+use Rattle.std.specs.Prelude.{Option, Some, None, Result, Ok, Err}
 use Rattle.sql_values.specs.declared.value.Value.{Value}
 use Rattle.sql_values.specs.declared.value.Value.TheVariants.{Null}
 use Rattle.row_types.specs.Ordered.{in_order, first_repeat, searched}
@@ -23,12 +24,13 @@ put_all (c ∷ cs) (v ∷ vs) row = put_all cs vs (slice_set row c v)
 
 -- ---- INSERT
 
--- The values in the columns that are listed, and NULL in the others; in all columns, in their order,
--- where none are listed.
+-- The values in the columns that are listed, and NULL in the others; in all columns, in their
+-- order, where none are listed.
 abbrev pub spread : Option (List ℕ) → Table → Row → Row
 spread None t values = values
 spread (Some listed) t values = put_all listed values (replicate (length t.columns) Null)
 
+-- the same for each row, for the table of a name; where no table has it the rows are as they were
 abbrev pub spread_rows : Option (List ℕ) → Option Table → List Row → List Row
 spread_rows listed None new = new
 spread_rows listed (Some t) new = map (spread listed t) new
@@ -45,6 +47,7 @@ insert name listed query = unit (do
 
 -- ---- rows that are met
 
+-- the place where a search found something, or where it would stand
 abbrev pub found_at : Result ℕ ℕ → ℕ
 found_at (Ok i) = i
 found_at (Err i) = i
@@ -53,22 +56,26 @@ found_at (Err i) = i
 abbrev pub place_in : Table → Row → ℕ
 place_in t row = found_at (searched (λ r. by_key t.key r row) t.rows)
 
+-- the places of several rows, in turn
 abbrev pub places_in : Table → List Row → List ℕ
 places_in t rows = map (place_in t) rows
 
 -- ---- UPDATE
 
--- Of a row that is met, with the new values behind it: the row with these in the columns of their
+-- Of a row that is met, with the new values after it: the row with these in the columns of their
 -- targets.
 abbrev pub changed_row : List ℕ → Table → Row → Row
-changed_row targets t met = put_all targets (drop (length t.columns) met) (take (length t.columns) met)
+changed_row targets t met = put_all targets (drop (length t.columns) met)
+    (take (length t.columns) met)
 
--- The rows of a table with others at places, in key order; there are none where a row has the key of
--- an earlier one.
+-- The rows of a table with others at places, in key order; there are none where a row has the key
+-- of an earlier one.
 abbrev pub replaced : Table → List ℕ → List Row → Option (List Row)
-replaced t places new = rows_where (first_repeat (by_key t.key) (set_all places new t.rows)) (in_order (by_key t.key) (set_all places new t.rows))
+replaced t places new = rows_where (first_repeat (by_key t.key) (set_all places new t.rows))
+    (in_order (by_key t.key) (set_all places new t.rows))
 
--- Row by row the columns are assigned and NOT NULL is judged, and last the keys of the whole result.
+-- Row by row the columns are assigned and NOT NULL is judged, and last the keys of the whole
+-- result.
 abbrev pub change_in : Option Table → List ℕ → List ℕ → List Row → Eval (Unit {0})
 change_in None name targets met = give tt
 change_in (Some t) name targets met = do
@@ -89,6 +96,8 @@ update name targets query = unit (do
 
 -- ---- DELETE
 
+-- The rows that are met leave the table, which no key can forbid; where there is no table nothing
+-- is removed.
 abbrev pub remove_in : Option Table → List ℕ → List Row → Eval (Unit {0})
 remove_in None name met = give tt
 remove_in (Some t) name met = keep_rows (Some (removed_all (places_in t met) t.rows)) name

@@ -2,7 +2,8 @@
 //! Nothing here knows of a place in a store or of a log. Worked rows hold by computation.
 #![tactic(auto)]
 
-ghost use Rattle.data_change.specs.Examples.{KeysOfTheWhole, ListedColumns, NoneMet, RowsGo, TargetsTakeValues};
+ghost use Rattle.data_change.specs.Examples.{KeysOfTheWhole, ListedColumns, NoneMet, RowsGo};
+ghost use Rattle.data_change.specs.Examples.{TargetsTakeValues};
 ghost use Rattle.data_change.specs.Laws.{InsertWithoutList};
 ghost use Rattle.data_change.specs.Met.{MetRowsInOrder};
 

@@ -1,5 +1,6 @@
 -- Rows of plans in groups by keys. ISO/IEC 9075-2, 7.13 (group by clause).
-use Rattle.std.specs.Prelude.{ℕ, zero, suc, Bool, true, false, List, [], ◌∷◌, ◌++◌, map, Option, Some, None, if◌then◌else◌}
+use Rattle.std.specs.Prelude.{ℕ, zero, suc, Bool, true, false, List, [], ◌∷◌, ◌++◌, map, Option}
+use Rattle.std.specs.Prelude.{Some, None, if◌then◌else◌}
 use Rattle.std.specs.Option.{option_map}
 use Rattle.row_types.specs.declared.cell.Cell.{Cell}
 use Rattle.row_types.specs.declared.cell.Cell.TheVariants.{Val, Cond}
@@ -17,11 +18,13 @@ values_in [] = Some []
 values_in (Val v ∷ cells) = option_map (λ (vs : Row). v ∷ vs) (values_in cells)
 values_in (Cond area ∷ cells) = None
 
--- the values of a row at the places of its key; a row that is poisoned or has a condition there has none
+-- the values of a row at the places of its key; a row that is poisoned or has a condition there has
+-- none
 abbrev pub row_key : List ℕ → PlanRow → Option Row
 row_key places (Whole cells) = values_in (cells_at_places cells places)
 row_key places (Poisoned area) = None
 
+-- a row's key is the one that is sought; a row without a key is in no group
 abbrev pub is_key : Row → Option Row → Bool
 is_key key None = false
 is_key key (Some k) = same_row k key
@@ -30,6 +33,7 @@ is_key key (Some k) = same_row k key
 abbrev pub has_key : List ℕ → Row → PlanRow → Bool
 has_key places key row = is_key key (row_key places row)
 
+-- a row that is an area in place of cells
 abbrev pub is_poisoned : PlanRow → Bool
 is_poisoned (Whole cells) = false
 is_poisoned (Poisoned area) = true

@@ -11,6 +11,7 @@ pub record ColumnTaken : Type 0 where
   pub place : ℕ
   pub taken : Taken
 
+-- an aggregate's column before the first row
 abbrev pub no_column : AggregateColumn → ColumnTaken
 no_column a = record { place = a.place; taken = nothing a.kind }
 
@@ -18,9 +19,11 @@ no_column a = record { place = a.place; taken = nothing a.kind }
 abbrev pub column_with : Row → ColumnTaken → ColumnTaken
 column_with row c = record { place = c.place; taken = with_value c.taken (value_at row c.place) }
 
+-- what the aggregate of a column gives: its value, or the fault of a sum out of range
 abbrev pub column_end : ColumnTaken → Outcome
 column_end c = finished c.taken
 
+-- all aggregates of a group before its first row, from left to right
 abbrev pub none_kept : List AggregateColumn → List ColumnTaken
 none_kept aggregates = map no_column aggregates
 

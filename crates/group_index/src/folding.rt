@@ -17,10 +17,11 @@ use std::alloc::Global;
 use std::marker::Model;
 
 /// The groups of the rows that it took so far, by the columns at some places, with some aggregates
-/// (ISO/IEC 9075-2, 7.13 and 10.9). NULL equals NULL. It keeps nothing of the rows but their groups'
-/// keys and aggregates, so that its memory is that of the groups; a key of up to four columns takes
-/// none of its own. Contracts see what it keeps; of a list of rows that is `folded_rows`, and the law
-/// `foldings_are_of_groups` says that it finishes as the groups of the list.
+/// (ISO/IEC 9075-2, 7.13 and 10.9). NULL equals NULL. It keeps nothing of the rows but their
+/// groups' keys and aggregates, so that its memory is that of the groups; a key of up to four
+/// columns takes none of its own. Contracts see what it keeps; of a list of rows that is
+/// `folded_rows`, and the law `foldings_are_of_groups` says that it finishes as the groups of the
+/// list.
 #[derive(Drop)]
 pub struct Folding {
     alloc: Global,
@@ -79,7 +80,8 @@ fn add_new(
     aggregates: &[AggregateColumn],
     row: &[Value],
 ) -> Result<(), NoMemory>
-    ensures { OnOk result (groups.new.entries ≡ insert_entry same_row groups.old.entries key (kept_with row.now (none_kept aggregates.now))) }
+    ensures { OnOk result (groups.new.entries ≡ insert_entry same_row groups.old.entries key
+        (kept_with row.now (none_kept aggregates.now))) }
 {
     let mut kept = KeptRows::new(alloc, aggregates)?;
     kept.take(row)?;
@@ -95,7 +97,8 @@ fn add_row(
     aggregates: &[AggregateColumn],
     row: &[Value],
 ) -> Result<(), NoMemory>
-    ensures { OnOk result (groups.new.entries ≡ kept_put aggregates.now key row.now groups.old.entries) }
+    ensures { OnOk result (groups.new.entries ≡ kept_put aggregates.now key row.now
+        groups.old.entries) }
 {
     match groups.get_index_of(&key) {
         Some(at) => add_at(groups, at, row),
@@ -122,8 +125,8 @@ impl Folding {
         })
     }
 
-    /// Takes one row more: it goes to the group of its key, or makes a new one, the last. A place past
-    /// the row's end is NULL.
+    /// Takes one row more: it goes to the group of its key, or makes a new one, the last. A place
+    /// past the row's end is NULL.
     pub fn take(&mut self, row: &[Value]) -> Result<(), NoMemory>
         ensures { OnOk result (self.new ≡ with_row self.old row.now) }
     {

@@ -1,10 +1,13 @@
 //! Rows in groups by the values of some of their columns, each found by its key.
 
-ghost use Rattle.std.specs.Prelude.{◌≡◌, ◌+◌, ◌<◌, ◌≤◌, ◌++◌, [], ◌∷◌, filter, length, if◌then◌else◌, IfOk, OnOk};
+ghost use Rattle.std.specs.Prelude.{◌≡◌, ◌+◌, ◌<◌, ◌≤◌, ◌++◌, [], ◌∷◌, filter, length};
+ghost use Rattle.std.specs.Prelude.{if◌then◌else◌, IfOk, OnOk};
 ghost use Rattle.indexmap.specs.IndexMap.{insert_entry};
 ghost use Rattle.row_types.specs.Groups.{same_row};
 ghost use Rattle.row_types.specs.Rows.{Row};
-ghost use Rattle.group_index.specs.Indexed.{cells_at_places, group_of, has_key, is_poisoned as is_poisoned_by, pushed_at, row_key, values_in};
+ghost use Rattle.group_index.specs.Indexed.{cells_at_places, group_of, has_key};
+ghost use Rattle.group_index.specs.Indexed.{is_poisoned as is_poisoned_by, pushed_at, row_key};
+ghost use Rattle.group_index.specs.Indexed.{values_in};
 
 use indexmap::IndexMap;
 use row_types::{Cell, Key, PlanRow, RowInSight, RowList, Steps};
@@ -33,16 +36,17 @@ impl Model for Groups {
     ghost invariant = { λ g. g.none ≡ [] };
 }
 
-/// The rows in groups by the values at these places, each group in the order of the rows. A row that
-/// is poisoned, or has a condition at one of these places, is in no group; a place past its end is
-/// NULL. Each row that is read is a step.
+/// The rows in groups by the values at these places, each group in the order of the rows. A row
+/// that is poisoned, or has a condition at one of these places, is in no group; a place past its
+/// end is NULL. Each row that is read is a step.
 pub fn build<L: Ledger>(
     alloc: Global,
     rows: RowList,
     columns: &[usize],
     steps: &mut Steps<L>,
 ) -> Result<Groups, NoMemory>
-    ensures groups { IfOk result (λ g. (key : Row) → group_of key g ≡ filter (has_key columns.now key) rows) }
+    ensures groups { IfOk result (λ g. (key : Row) →
+        group_of key g ≡ filter (has_key columns.now key) rows) }
     ensures work { steps.new ≤ steps.old + length rows }
 {
     let mut left = rows;
@@ -79,7 +83,8 @@ fn add_row(
     columns: &[usize],
     row: PlanRow,
 ) -> Result<(), NoMemory>
-    ensures { OnOk result ((key : Row) → group_of key index.new.entries ≡ group_of key index.old.entries ++ (if has_key columns.now key row then row ∷ [] else [])) }
+    ensures { OnOk result ((key : Row) → group_of key index.new.entries ≡
+        group_of key index.old.entries ++ (if has_key columns.now key row then row ∷ [] else [])) }
 {
     match key_of(alloc, &row, columns)? {
         Some(key) => add_to(index, alloc, key, row),
@@ -94,7 +99,8 @@ fn add_to(
     key: Key,
     row: PlanRow,
 ) -> Result<(), NoMemory>
-    ensures { OnOk result ((sought : Row) → group_of sought index.new.entries ≡ group_of sought index.old.entries ++ (if same_row key sought then row ∷ [] else [])) }
+    ensures { OnOk result ((sought : Row) → group_of sought index.new.entries ≡
+        group_of sought index.old.entries ++ (if same_row key sought then row ∷ [] else [])) }
 {
     match index.get_index_of(&key) {
         Some(at) => push_at(index, at, row),
@@ -117,7 +123,8 @@ fn push_new(
     key: Key,
     row: PlanRow,
 ) -> Result<(), NoMemory>
-    ensures { OnOk result (index.new.entries ≡ insert_entry same_row index.old.entries key (row ∷ [])) }
+    ensures { OnOk result (index.new.entries ≡ insert_entry same_row index.old.entries key
+        (row ∷ [])) }
 {
     let mut rows = RowList::new(alloc);
     rows.push(row)?;

@@ -7,8 +7,8 @@ ghost use Rattle.group_index.specs.Folded.{finished, finished_groups, folded_row
 
 use sql_values::folds_are_of_lists;
 
-/// What is kept of rows that are taken one by one finishes as their groups, each with its aggregates
-/// (ISO/IEC 9075-2, 7.13 and 10.9).
+/// What is kept of rows that are taken one by one finishes as their groups, each with its
+/// aggregates (ISO/IEC 9075-2, 7.13 and 10.9).
 pub fn foldings_are_of_groups()
     ensures { (places : List ℕ) (aggregates : List AggregateColumn) (rows : List Row) →
         finished (folded_rows places aggregates rows) ≡ finished_groups places aggregates rows }

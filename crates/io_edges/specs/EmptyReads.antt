@@ -12,5 +12,6 @@ abbrev pub empty_by : {E : Type 0} → Result ℕ E → ℕ
 empty_by (Ok n) = one_if_none n
 empty_by (Err e) = 1
 
+-- the number that a value of `EmptyReads` stands for
 abbrev pub count_of : EmptyReads → ℕ
 count_of e = length e.log.items

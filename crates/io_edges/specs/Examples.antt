@@ -2,7 +2,7 @@
 use Rattle.std.specs.Prelude.{◌≡◌, true, false, [], ◌∷◌, codes, refl, None, Some, Ok, Err}
 use Rattle.io_edges.specs.Course.{Course, fails_now, one_later}
 use Rattle.io_edges.specs.EmptyReads.{empty_by}
-use Rattle.io_edges.specs.Told.{nothing_taken}
+use Rattle.io_edges.specs.TakenBytes.{nothing_taken}
 use Rattle.io_edges.specs.Events.{told_from}
 use Rattle.io_edges.specs.declared.source.Failed.{Failed}
 
@@ -10,14 +10,17 @@ use Rattle.io_edges.specs.declared.source.Failed.{Failed}
 pub only_second : Course
 only_second = record { failing = 1 ∷ []; per_call = 5; calls = 0 }
 
+-- Of the calls the second alone fails: the first goes,
 pub first_goes : fails_now only_second ≡ false
 unfolding only_second
 first_goes = refl
 
+-- the second fails,
 pub second_fails : fails_now (one_later only_second) ≡ true
 unfolding only_second
 second_fails = refl
 
+-- and the third goes again.
 pub third_goes : fails_now (one_later (one_later only_second)) ≡ false
 unfolding only_second
 third_goes = refl
@@ -26,12 +29,15 @@ third_goes = refl
 pub two_bytes : empty_by {E = Failed} (Ok 2) ≡ 0
 two_bytes = refl
 
+-- A read that gives no byte took nothing,
 pub the_end : empty_by {E = Failed} (Ok 0) ≡ 1
 the_end = refl
 
+-- and so did one that failed.
 pub a_fault : (failed : Failed) → empty_by (Err failed) ≡ 1
 a_fault failed = refl
 
 -- two bytes, a flush, and a byte more
-pub third_unflushed : told_from nothing_taken (Some 97 ∷ Some 98 ∷ None ∷ Some 99 ∷ []) ≡ record { bytes = codes "abc"; flushed = 2 }
+pub third_unflushed : told_from nothing_taken (Some 97 ∷ Some 98 ∷ None ∷ Some 99 ∷ []) ≡
+    record { bytes = codes "abc"; flushed = 2 }
 third_unflushed = refl

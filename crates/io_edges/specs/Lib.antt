@@ -1,6 +1,6 @@
 pub mod Causes
 pub mod EmptyReads
-pub mod Told
+pub mod TakenBytes
 pub mod Course
 pub mod Sources
 pub mod Sinks

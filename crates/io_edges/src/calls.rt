@@ -17,7 +17,12 @@ impl Calls {
     /// No call so far. The calls that fail are named by number, from 0.
     pub fn new(failing: Vec<u64>, per_call: usize) -> Self
         requires { 0 < per_call }
-        ensures { course_of result ≡ record { failing = failing.items; per_call = per_call; calls = 0 } }
+        ensures { course_of result ≡ record {
+          failing = failing.items;
+          per_call = per_call;
+          calls =
+              0;
+        } }
     {
         Calls {
             failing,

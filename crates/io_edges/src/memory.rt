@@ -4,7 +4,7 @@ ghost use Rattle.std.specs.Prelude.{◌≡◌, ◌<◌, ◌≤◌, ◌+◌, [], 
 ghost use Rattle.std.specs.Io.{ReadsAtMost};
 ghost use Rattle.std.specs.Io.KnownBytes.{ReadConsumes};
 ghost use Rattle.io_edges.specs.Causes.{HasCause, Counts};
-ghost use Rattle.io_edges.specs.Told.{WriteTakes, WritesSome, FlushTells};
+ghost use Rattle.io_edges.specs.TakenBytes.{WriteTakes, WritesSome, FlushTells};
 
 use crate::calls::Calls;
 use crate::empty::EmptyReads;
@@ -24,14 +24,20 @@ pub struct MemSource {
 }
 
 impl MemSource {
-    ghost use Rattle.io_edges.specs.Sources.{mem_left, mem_source_course, mem_source_faults, mem_empty_reads};
+    ghost use Rattle.io_edges.specs.Sources.{mem_left, mem_source_course, mem_source_faults};
+    ghost use Rattle.io_edges.specs.Sources.{mem_empty_reads};
 
     /// A source that has these bytes, and no fault so far. The calls that fail are named by number,
     /// from 0; every other call takes at most `per_call` bytes.
     pub fn new(bytes: Vec<u8>, failing: Vec<u64>, per_call: usize) -> Self
         requires { 0 < per_call }
         ensures left { mem_left result ≡ Some bytes.items }
-        ensures course { mem_source_course result ≡ record { failing = failing.items; per_call = per_call; calls = 0 } }
+        ensures course { mem_source_course result ≡ record {
+          failing = failing.items;
+          per_call =
+              per_call;
+          calls = 0;
+        } }
         ensures faults { mem_source_faults result ≡ 0 }
         ensures empty { mem_empty_reads result ≡ 0 }
     {
@@ -55,7 +61,8 @@ impl MemSource {
 impl Source for MemSource {
     ghost use Rattle.io_edges.specs.Course.{TakesBy, one_later};
     ghost use Rattle.io_edges.specs.EmptyReads.{empty_by};
-    ghost use Rattle.io_edges.specs.Sources.{mem_left, mem_bytes_left, mem_source_course, mem_source_faults, mem_empty_reads};
+    ghost use Rattle.io_edges.specs.Sources.{mem_left, mem_bytes_left, mem_source_course};
+    ghost use Rattle.io_edges.specs.Sources.{mem_source_faults, mem_empty_reads};
 
     ghost left = { mem_left };
 
@@ -105,7 +112,12 @@ impl MemSink {
     pub fn new(alloc: Global, failing: Vec<u64>, per_call: usize) -> Self
         requires { 0 < per_call }
         ensures told { mem_told result ≡ Some (record { bytes = []; flushed = 0 }) }
-        ensures course { mem_sink_course result ≡ record { failing = failing.items; per_call = per_call; calls = 0 } }
+        ensures course { mem_sink_course result ≡ record {
+          failing = failing.items;
+          per_call =
+              per_call;
+          calls = 0;
+        } }
         ensures faults { mem_sink_faults result ≡ 0 }
     {
         MemSink {
@@ -140,7 +152,8 @@ impl MemSink {
 
 impl Sink for MemSink {
     ghost use Rattle.io_edges.specs.Course.{fails_now, one_later};
-    ghost use Rattle.io_edges.specs.Sinks.{mem_told, mem_within, mem_sink_course, mem_sink_faults, MemWrites, MemFlushes};
+    ghost use Rattle.io_edges.specs.Sinks.{mem_told, mem_within, mem_sink_course, mem_sink_faults};
+    ghost use Rattle.io_edges.specs.Sinks.{MemWrites, MemFlushes};
 
     ghost told = { mem_told };
 

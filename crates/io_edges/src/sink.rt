@@ -1,14 +1,15 @@
 //! The sink for replies, written piece by piece and flushed once.
 ghost use Rattle.std.specs.Prelude.{ℕ, Option};
 ghost use Rattle.io_edges.specs.Causes.{HasCause};
-ghost use Rattle.io_edges.specs.Told.{Told, WriteTakes, WritesSome, FlushTells, IsWithin};
+ghost use Rattle.io_edges.specs.TakenBytes.{TakenBytes, WriteTakes, WritesSome, FlushTells};
+ghost use Rattle.io_edges.specs.TakenBytes.{IsWithin};
 
 use crate::Failed;
 
 /// Where bytes go to.
 pub trait Sink {
     /// What was taken so far and how much of it is flushed, where the sink tells it.
-    ghost told: { Self → Option Told };
+    ghost told: { Self → Option TakenBytes };
 
     /// How often it has failed. The number never falls, and stays at 2^64 - 1.
     ghost faults: { Self → ℕ };

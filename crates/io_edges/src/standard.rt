@@ -4,7 +4,7 @@ ghost use Rattle.std.specs.Prelude.{◌≡◌, ◌+◌, None};
 ghost use Rattle.std.specs.Io.{ReadsAtMost};
 ghost use Rattle.std.specs.Io.KnownBytes.{ReadConsumes, WriteAppends};
 ghost use Rattle.io_edges.specs.Causes.{HasCause, Counts};
-ghost use Rattle.io_edges.specs.Told.{WritesSome};
+ghost use Rattle.io_edges.specs.TakenBytes.{WritesSome};
 
 use crate::empty::EmptyReads;
 use crate::{Failed, Sink, Source};
@@ -59,7 +59,8 @@ impl<R: Read + Drop> Source for StdSource<R> {
         ensures cause { HasCause (std_source_faults self.old) (std_source_faults self.new) result }
         ensures counts { Counts (std_source_faults self.old) (std_source_faults self.new) result }
         ensures empty { std_empty_reads self.new ≡ std_empty_reads self.old + empty_by result }
-        ensures reader { ReadConsumes (R.remaining (reader_of self.old)) (R.remaining (reader_of self.new)) result buf.new }
+        ensures reader { ReadConsumes (R.remaining (reader_of self.old))
+            (R.remaining (reader_of self.new)) result buf.new }
     {
         match self.inner.read(buf) {
             Ok(count) => {
@@ -109,7 +110,7 @@ impl<W: Write + Drop> StdSink<W> {
 
 impl<W: Write + Drop> Sink for StdSink<W> {
     ghost use Rattle.io_edges.specs.Sinks.{std_sink_faults, writer_of};
-    ghost use Rattle.io_edges.specs.Told.{nothing_told, WriteTakes, FlushTells};
+    ghost use Rattle.io_edges.specs.TakenBytes.{nothing_told, WriteTakes, FlushTells};
 
     ghost told = { λ _. None };
 
@@ -124,7 +125,8 @@ impl<W: Write + Drop> Sink for StdSink<W> {
         ensures bytes { WriteTakes None None result piece.now }
         ensures cause { HasCause (std_sink_faults self.old) (std_sink_faults self.new) result }
         ensures counts { Counts (std_sink_faults self.old) (std_sink_faults self.new) result }
-        ensures writer { WriteAppends (W.contents (writer_of self.old)) (W.contents (writer_of self.new)) result piece.now }
+        ensures writer { WriteAppends (W.contents (writer_of self.old))
+            (W.contents (writer_of self.new)) result piece.now }
     {
         match self.inner.write(piece) {
             Ok(count) if count > 0 || piece.is_empty() => Ok(count),

@@ -3,7 +3,8 @@ ghost use Rattle.std.specs.Prelude.{◌≡◌, ◌≤◌, ◌+◌, ◌∷◌, []
 ghost use Rattle.std.specs.Io.{ReadsAtMost};
 ghost use Rattle.std.specs.Io.KnownBytes.{ReadConsumes};
 ghost use Rattle.io_edges.specs.Causes.{HasCause};
-ghost use Rattle.io_edges.specs.Told.{WriteTakes, WritesSome, FlushTells, Takes, nothing_taken};
+ghost use Rattle.io_edges.specs.TakenBytes.{WriteTakes, WritesSome, FlushTells, Takes};
+ghost use Rattle.io_edges.specs.TakenBytes.{nothing_taken};
 
 use crate::empty::EmptyReads;
 use crate::log::Log;

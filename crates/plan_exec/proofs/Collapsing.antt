@@ -1,5 +1,7 @@
 -- What a kind makes of what the rows of an inner plan come to.
-use Rattle.std.proofs.Common.{◌≡◌, ℕ, zero, suc, ◌+◌, ◌<◌, Bool, true, false, if◌then◌else◌, List, [], ◌∷◌, ◌++◌, map, length, drop, replicate, slice_get, slice_index_or, Some, None, Ok, Err, refl, sym, ap, ◌∙◌}
+use Rattle.std.proofs.Common.{◌≡◌, ℕ, zero, suc, ◌+◌, ◌<◌, Bool, true, false, if◌then◌else◌, List}
+use Rattle.std.proofs.Common.{[], ◌∷◌, ◌++◌, map, length, drop, replicate, slice_get}
+use Rattle.std.proofs.Common.{slice_index_or, Some, None, Ok, Err, refl, sym, ap, ◌∙◌}
 use Rattle.std.proofs.lemmas.List.{append_assoc, append-nil, length-map}
 use Rattle.sql_values.specs.declared.value.Value.{Value}
 use Rattle.sql_values.specs.declared.value.Value.TheVariants.{Null}
@@ -12,7 +14,9 @@ use Rattle.row_types.specs.declared.aggregate_column.AggregateColumn.{AggregateC
 use Rattle.row_types.specs.Cells.{PlanRow}
 use Rattle.rel_algebra.specs.Tree.{Aggregate}
 use Rattle.rel_algebra.specs.Endings.{Ending, after, among, equal_values}
-use Rattle.rel_algebra.specs.Plan.{Kind, single, exists, member, aggregate, all_or_first, collapse, collapse_as, collected, finish_cells, group_rows, grouped, kind_width, values_of}
+use Rattle.rel_algebra.specs.Plan.{Kind, single, exists, member, aggregate, all_or_first, collapse}
+use Rattle.rel_algebra.specs.Plan.{collapse_as, collected, finish_cells, group_rows, grouped}
+use Rattle.rel_algebra.specs.Plan.{kind_width, values_of}
 use Rattle.rel_algebra.specs.PlanView.{aggregates_of}
 use Rattle.plan_exec.specs.declared.received.Received.{Received}
 use Rattle.plan_exec.specs.declared.received.Received.TheVariants.{Rows}
@@ -24,7 +28,8 @@ use Rattle.plan_exec.proofs.Paired.{at_place}
 use Rattle.plan_exec.proofs.Receiving.{list_of, list_received, rows_same}
 use Rattle.plan_exec.proofs.Settled.{told_values}
 
-pub collapse_is : (k : Kind) (c : Cell) (rows : List PlanRow) → collapse k c rows ≡ ended_as k c (collected rows)
+pub collapse_is : (k : Kind) (c : Cell) (rows : List PlanRow) →
+    collapse k c rows ≡ ended_as k c (collected rows)
 collapse_is single c rows = refl
 collapse_is exists c rows = refl
 collapse_is (member s) (Val v) rows = refl
@@ -34,31 +39,40 @@ collapse_is (aggregate ags) c rows = refl
 -- ---- aggregates
 
 -- without a column there is one group
-one_group : (members rows : List Row) → grouped_from [] (record { key = []; members = members } ∷ []) rows ≡ record { key = []; members = members ++ rows } ∷ []
+one_group : (members rows : List Row) → grouped_from []
+    (record { key = []; members = members } ∷ []) rows ≡
+    record { key = []; members = members ++ rows } ∷ []
 one_group members [] = ap (λ ms. record { key = []; members = ms } ∷ []) (sym (append-nil members))
 one_group members (r ∷ rows) =
-    one_group (members ++ r ∷ []) rows ∙ ap (λ ms. record { key = []; members = ms } ∷ []) (append_assoc members (r ∷ []) rows)
+    one_group (members ++ r ∷ []) rows ∙ ap (λ ms. record { key = []; members = ms } ∷ [])
+    (append_assoc members (r ∷ []) rows)
 
-first_of : (n : ℕ) (e : Ending Row) → all_or_first n e ≡ aggregate_cells n (after e (λ r. Ok (r ∷ [])))
+first_of : (n : ℕ) (e : Ending Row) → all_or_first n e ≡ aggregate_cells n
+    (after e (λ r. Ok (r ∷ [])))
 first_of n (Ok vs) = refl
 first_of n (Err a) = refl
 
-aggregates_end : (ags : List (Aggregate × ℕ)) (c : Cell) (e : Ending (List Row)) → collapse_as (aggregate ags) c e ≡ aggregate_cells (length ags) (collected (grouped [] ags e))
+aggregates_end : (ags : List (Aggregate × ℕ)) (c : Cell) (e : Ending (List Row)) →
+    collapse_as (aggregate ags) c e ≡ aggregate_cells (length ags) (collected (grouped [] ags e))
 aggregates_end ags c (Ok rs) =
     first_of (length ags) (values_of (finish_cells ags rs))
-    ∙ ap (λ gs. aggregate_cells (length ags) (collected (group_rows ags gs))) (sym (one_group [] rs))
+    ∙ ap (λ gs. aggregate_cells (length ags) (collected (group_rows ags gs)))
+    (sym (one_group [] rs))
 aggregates_end ags c (Err a) = refl
 
 -- the aggregates of all rows are those of their one group
 pub aggregates_are : (columns : List AggregateColumn) (c : Cell) (rows : List PlanRow) →
-    collapse (aggregate (aggregates_of columns)) c rows ≡ aggregate_cells (length columns) (collected (grouped [] (aggregates_of columns) (collected rows)))
+    collapse (aggregate (aggregates_of columns)) c rows ≡ aggregate_cells (length columns)
+    (collected (grouped [] (aggregates_of columns) (collected rows)))
 aggregates_are columns c rows =
     aggregates_end (aggregates_of columns) c (collected rows)
-    ∙ ap (λ n. aggregate_cells n (collected (grouped [] (aggregates_of columns) (collected rows)))) (length-map columns _)
+    ∙ ap (λ n. aggregate_cells n (collected (grouped [] (aggregates_of columns) (collected rows))))
+    (length-map columns _)
 
 -- ---- how many cells there are
 
-finish_length : (ags : List (Aggregate × ℕ)) (rs : List Row) → length (finish_cells ags rs) ≡ length ags
+finish_length : (ags : List (Aggregate × ℕ)) (rs : List Row) →
+    length (finish_cells ags rs) ≡ length ags
 finish_length [] rs = refl
 finish_length (a ∷ ags) rs = ap suc (finish_length ags rs)
 
@@ -66,7 +80,8 @@ copies_length : {A : Type 0} (n : ℕ) (x : A) → length (replicate n x) ≡ n
 copies_length zero x = refl
 copies_length (suc n) x = ap suc (copies_length n x)
 
-all_length : (n : ℕ) (cs : List Cell) (e : Ending Row) → length cs ≡ n → values_of cs ≡ e → length (all_or_first n e) ≡ n
+all_length : (n : ℕ) (cs : List Cell) (e : Ending Row) → length cs ≡ n → values_of cs ≡ e →
+    length (all_or_first n e) ≡ n
 all_length n cs (Ok vs) l h = ap length (sym (told_values cs vs h)) ∙ l
 all_length n cs (Err a) l h = copies_length n (Cond a)
 
@@ -75,7 +90,8 @@ end_length single c (Ok rs) = refl
 end_length exists c (Ok rs) = refl
 end_length (member s) (Val v) (Ok rs) = refl
 end_length (member s) (Cond a) (Ok rs) = refl
-end_length (aggregate ags) c (Ok rs) = all_length (length ags) (finish_cells ags rs) (values_of (finish_cells ags rs)) (finish_length ags rs) refl
+end_length (aggregate ags) c (Ok rs) = all_length (length ags) (finish_cells ags rs)
+    (values_of (finish_cells ags rs)) (finish_length ags rs) refl
 end_length single c (Err a) = refl
 end_length exists c (Err a) = refl
 end_length (member s) (Val v) (Err a) = refl
@@ -89,14 +105,18 @@ pub all_stay : (f : Cell → Cell) → ((d : Cell) → f d ≡ d) → (cs : List
 all_stay f h [] = refl
 all_stay f h (c ∷ cs) = ap (λ d. d ∷ map f cs) (h c) ∙ ap (λ ds. c ∷ ds) (all_stay f h cs)
 
-all_turn : (f : Cell → Cell) (x : Cell) → ((d : Cell) → f d ≡ x) → (cs : List Cell) → map f cs ≡ replicate (length cs) x
+all_turn : (f : Cell → Cell) (x : Cell) → ((d : Cell) → f d ≡ x) → (cs : List Cell) →
+    map f cs ≡ replicate (length cs) x
 all_turn f x h [] = refl
 all_turn f x h (c ∷ cs) = ap (λ d. d ∷ map f cs) (h c) ∙ ap (λ ds. x ∷ ds) (all_turn f x h cs)
 
 -- it isn't: each becomes the same
-pub all_become : (f : Cell → Cell) (x : Cell) → ((d : Cell) → f d ≡ x) → (k : Kind) (c : Cell) (rows : List PlanRow) → map f (collapse k c rows) ≡ replicate (kind_width k) x
+pub all_become : (f : Cell → Cell) (x : Cell) → ((d : Cell) → f d ≡ x) →
+    (k : Kind) (c : Cell) (rows : List PlanRow) →
+    map f (collapse k c rows) ≡ replicate (kind_width k) x
 all_become f x h k c rows =
-    all_turn f x h (collapse k c rows) ∙ ap (λ n. replicate n x) (ap length (collapse_is k c rows) ∙ end_length k c (collected rows))
+    all_turn f x h (collapse k c rows) ∙ ap (λ n. replicate n x) (ap length (collapse_is k c rows) ∙
+    end_length k c (collected rows))
 
 -- ---- the first value of a row
 
@@ -114,46 +134,63 @@ one_row : (ags : List (Aggregate × ℕ)) (e : Ending (List Row)) → length (gr
 one_row ags (Ok rs) = ap (λ gs. length (group_rows ags gs)) (one_group [] rs)
 one_row ags (Err a) = refl
 
-module _ (columns : List AggregateColumn) (o : List (List Cell)) (args : List Value) (rows list : List PlanRow) (row : Received)
-    (h : row ≡ received (Rows []) (passed [] o args (grouped [] (aggregates_of columns) (collected rows)))) (e : row ≡ Rows list) where
+module _ (columns : List AggregateColumn) (o : List (List Cell)) (args : List Value)
+    (rows list : List PlanRow) (row : Received)
+    (h : row ≡ received (Rows []) (passed [] o args
+    (grouped [] (aggregates_of columns) (collected rows)))) (e : row ≡ Rows list) where
   pub row_came : list ≡ grouped [] (aggregates_of columns) (collected rows)
   row_came =
       let made = grouped [] (aggregates_of columns) (collected rows) in
-      rows_same list made (sym e ∙ (h ∙ (list_received [] (passed [] o args made) ∙ ap Rows (none_passed [] o args made refl))))
+      rows_same list made
+      (sym e ∙ (h ∙ (list_received [] (passed [] o args made) ∙
+      ap Rows (none_passed [] o args made refl))))
 
   pub row_length : length list ≡ 1
   row_length = ap length row_came ∙ one_row (aggregates_of columns) (collected rows)
 
-  pub row_cells_are : (c : Cell) (n : ℕ) (end : Ending (List Row)) → n ≡ length columns → end ≡ collected list → aggregate_cells n end ≡ collapse (aggregate (aggregates_of columns)) c rows
+  pub row_cells_are : (c : Cell) (n : ℕ) (end : Ending (List Row)) → n ≡ length columns →
+      end ≡ collected list → aggregate_cells n end ≡ collapse (aggregate (aggregates_of columns)) c
+      rows
   row_cells_are c n end k h =
-      ap (λ m. aggregate_cells m end) k ∙ (ap (aggregate_cells (length columns)) (h ∙ ap collected row_came) ∙ sym (aggregates_are columns c rows))
+      ap (λ m. aggregate_cells m end) k ∙ (ap (aggregate_cells (length columns))
+      (h ∙ ap collected row_came) ∙ sym (aggregates_are columns c rows))
 
 -- ---- among the first values of rows
 
-module _ (x : Value) (rows : List Row) (i : ℕ) (row : Row) (l : i < length rows) (h : row ≡ slice_index_or rows i row) (c so_far whole : Value) (e : c ≡ equal_values x (value_at row 0))
+module _ (x : Value) (rows : List Row) (i : ℕ) (row : Row) (l : i < length rows)
+    (h : row ≡ slice_index_or rows i row) (c so_far whole : Value)
+    (e : c ≡ equal_values x (value_at row 0))
     (k : among so_far x (values_of_column 0 (drop i rows)) ≡ whole) where
-  opened : (if is_true c then c else among (if is_null c then c else so_far) x (values_of_column 0 (drop (i + 1) rows))) ≡ whole
+  opened : (if is_true c then c else among (if is_null c then c else so_far) x
+      (values_of_column 0 (drop (i + 1) rows))) ≡ whole
   opened =
-      ap (λ d. if is_true d then d else among (if is_null d then d else so_far) x (values_of_column 0 (drop (i + 1) rows))) e
+      ap (λ d. if is_true d then d else among (if is_null d then d else so_far) x
+      (values_of_column 0 (drop (i + 1) rows))) e
       ∙ (ap (λ rs. among so_far x (values_of_column 0 rs)) (sym (at_place rows i row l h)) ∙ k)
 
   pub among_found : is_true c ≡ true → c ≡ whole
-  among_found t = ap (λ b. if b then c else among (if is_null c then c else so_far) x (values_of_column 0 (drop (i + 1) rows))) (sym t) ∙ opened
+  among_found t = ap (λ b. if b then c else among (if is_null c then c else so_far) x
+      (values_of_column 0 (drop (i + 1) rows))) (sym t) ∙ opened
 
-  among_next : (b : Bool) → is_true c ≡ false → is_null c ≡ b → among (if b then c else so_far) x (values_of_column 0 (drop (i + 1) rows)) ≡ whole
+  among_next : (b : Bool) → is_true c ≡ false → is_null c ≡ b →
+      among (if b then c else so_far) x (values_of_column 0 (drop (i + 1) rows)) ≡ whole
   among_next b t n =
       ap (λ d. among (if d then c else so_far) x (values_of_column 0 (drop (i + 1) rows))) (sym n)
-      ∙ (ap (λ d. if d then c else among (if is_null c then c else so_far) x (values_of_column 0 (drop (i + 1) rows))) (sym t) ∙ opened)
+      ∙ (ap (λ d. if d then c else among (if is_null c then c else so_far) x
+      (values_of_column 0 (drop (i + 1) rows))) (sym t) ∙ opened)
 
-  pub among_unknown : is_true c ≡ false → is_null c ≡ true → among c x (values_of_column 0 (drop (i + 1) rows)) ≡ whole
+  pub among_unknown : is_true c ≡ false → is_null c ≡ true →
+      among c x (values_of_column 0 (drop (i + 1) rows)) ≡ whole
   among_unknown t n = among_next true t n
 
-  pub among_further : is_true c ≡ false → is_null c ≡ false → among so_far x (values_of_column 0 (drop (i + 1) rows)) ≡ whole
+  pub among_further : is_true c ≡ false → is_null c ≡ false →
+      among so_far x (values_of_column 0 (drop (i + 1) rows)) ≡ whole
   among_further t n = among_next false t n
 
 -- ---- a list that is judged
 
-module _ (start came : Received) (rows list : List PlanRow) (b : start ≡ Rows []) (h : received start rows ≡ came) (e : came ≡ Rows list) where
+module _ (start came : Received) (rows list : List PlanRow) (b : start ≡ Rows [])
+    (h : received start rows ≡ came) (e : came ≡ Rows list) where
   list_is : rows ≡ list
   list_is = list_of rows list (ap (λ r. received r rows) (sym b) ∙ (h ∙ e))
 
@@ -161,4 +198,5 @@ module _ (start came : Received) (rows list : List PlanRow) (b : start ≡ Rows 
   judged_length = ap length (sym list_is)
 
   pub judged_cells : (k : Kind) (m : Cell) → ended_as k m (collected list) ≡ collapse k m rows
-  judged_cells k m = ap (λ xs. ended_as k m (collected xs)) (sym list_is) ∙ sym (collapse_is k m rows)
+  judged_cells k m = ap (λ xs. ended_as k m (collected xs)) (sym list_is) ∙
+      sym (collapse_is k m rows)

@@ -1,12 +1,14 @@
 -- Rows that are looked at, or taken, one after another.
-use Rattle.std.proofs.Common.{◌≡◌, ℕ, ◌+◌, ◌<◌, ◌≤◌, List, [], ◌∷◌, ◌++◌, length, map, take, drop, slice_index_or, Some, None, Ok, Err, refl, sym, ap, ◌∙◌, arith}
+use Rattle.std.proofs.Common.{◌≡◌, ℕ, ◌+◌, ◌<◌, ◌≤◌, List, [], ◌∷◌, ◌++◌, length, map, take, drop}
+use Rattle.std.proofs.Common.{slice_index_or, Some, None, Ok, Err, refl, sym, ap, ◌∙◌, arith}
 use Rattle.std.proofs.lemmas.List.{take_more, drop_more, drop_all, take_all, map-append, append-nil}
 use Rattle.sql_values.specs.declared.value.Value.{Value}
 use Rattle.sql_conditions.specs.Conditions.{Area}
 use Rattle.row_types.specs.Rows.{Row}
 use Rattle.row_types.specs.declared.cell.Cell.{Cell}
 use Rattle.row_types.specs.declared.cell.Cell.TheVariants.{Val, Cond}
-use Rattle.row_types.specs.Cells.{PlanRow, Whole, Poisoned, area_in, row_area, cells_end, row_end, with_value}
+use Rattle.row_types.specs.Cells.{PlanRow, Whole, Poisoned, area_in, row_area, cells_end, row_end}
+use Rattle.row_types.specs.Cells.{with_value}
 use Rattle.rel_algebra.specs.Endings.{Ending, after}
 use Rattle.rel_algebra.specs.Plan.{collected, values_of, shown, shown_rows}
 use Rattle.plan_exec.specs.Answers.{shown_end}
@@ -25,7 +27,8 @@ cells_end_is (Val v ∷ cs) = ap (with_value v) (cells_end_is cs) ∙ with_is v 
 abbrev pub first_and : Ending Row → Ending (List Row) → Ending (List Row)
 first_and first rest = after first (λ r. after rest (λ rs. Ok (r ∷ rs)))
 
-pub collected_first : (row : PlanRow) (rows : List PlanRow) → collected (row ∷ rows) ≡ first_and (row_end row) (collected rows)
+pub collected_first : (row : PlanRow) (rows : List PlanRow) →
+    collected (row ∷ rows) ≡ first_and (row_end row) (collected rows)
 collected_first (Whole cs) rows = ap (λ end. first_and end (collected rows)) (sym (cells_end_is cs))
 collected_first (Poisoned a) rows = refl
 
@@ -34,7 +37,8 @@ abbrev pub rows_and : List Row → Ending (List Row) → Ending (List Row)
 rows_and [] end = end
 rows_and (r ∷ rs) end = after (rows_and rs end) (λ qs. Ok (r ∷ qs))
 
-pub rows_and_push : (rs : List Row) (r : Row) (end : Ending (List Row)) → rows_and (rs ++ r ∷ []) end ≡ rows_and rs (first_and (Ok r) end)
+pub rows_and_push : (rs : List Row) (r : Row) (end : Ending (List Row)) →
+    rows_and (rs ++ r ∷ []) end ≡ rows_and rs (first_and (Ok r) end)
 rows_and_push [] r end = refl
 rows_and_push (q ∷ rs) r end = ap (λ e. after e (λ qs. Ok (q ∷ qs))) (rows_and_push rs r end)
 
@@ -47,12 +51,18 @@ rows_and_err [] a = refl
 rows_and_err (r ∷ rs) a = ap (λ e. after e (λ qs. Ok (r ∷ qs))) (rows_and_err rs a)
 
 -- one row more was taken: its values
-pub took_values : (rs : List Row) (row : PlanRow) (rest : List PlanRow) (r : Row) → row_end row ≡ Ok r → rows_and (rs ++ r ∷ []) (collected rest) ≡ rows_and rs (collected (row ∷ rest))
-took_values rs row rest r h = rows_and_push rs r (collected rest) ∙ ap (rows_and rs) (ap (λ e. first_and e (collected rest)) (sym h) ∙ sym (collected_first row rest))
+pub took_values : (rs : List Row) (row : PlanRow) (rest : List PlanRow) (r : Row) →
+    row_end row ≡ Ok r → rows_and (rs ++ r ∷ []) (collected rest) ≡ rows_and rs
+    (collected (row ∷ rest))
+took_values rs row rest r h = rows_and_push rs r (collected rest) ∙
+    ap (rows_and rs) (ap (λ e. first_and e (collected rest)) (sym h) ∙
+    sym (collected_first row rest))
 
 -- one row more was taken: its area
-pub took_area : (rs : List Row) (row : PlanRow) (rest : List PlanRow) (a : Area) → row_end row ≡ Err a → rows_and rs (collected (row ∷ rest)) ≡ Err a
-took_area rs row rest a h = ap (rows_and rs) (collected_first row rest ∙ ap (λ e. first_and e (collected rest)) h) ∙ rows_and_err rs a
+pub took_area : (rs : List Row) (row : PlanRow) (rest : List PlanRow) (a : Area) →
+    row_end row ≡ Err a → rows_and rs (collected (row ∷ rest)) ≡ Err a
+took_area rs row rest a h = ap (rows_and rs) (collected_first row rest ∙
+    ap (λ e. first_and e (collected rest)) h) ∙ rows_and_err rs a
 
 -- the values among cells
 abbrev pub among_cells : List Cell → Row
@@ -91,7 +101,8 @@ row_err : (row : PlanRow) (a : Area) → row_area row ≡ Some a → row_end row
 row_err (Whole cs) a h = cells_err cs a h
 row_err (Poisoned b) a h = let e : b ≡ a = cc in ap Err e
 
-shown_append : (rs : List Row) (r : Row) → shown_rows (rs ++ r ∷ []) ≡ shown_rows rs ++ Whole (shown r) ∷ []
+shown_append : (rs : List Row) (r : Row) → shown_rows (rs ++ r ∷ []) ≡ shown_rows rs ++ Whole
+    (shown r) ∷ []
 shown_append [] r = refl
 shown_append (q ∷ rs) r = ap (λ qs. Whole (shown q) ∷ qs) (shown_append rs r)
 
@@ -100,47 +111,64 @@ pub record Looked (rows : List PlanRow) (i : ℕ) : Type 0 where
   pub rest : rows_and (map among_row (take i rows)) (collected (drop i rows)) ≡ collected rows
   pub whole : shown_rows (map among_row (take i rows)) ≡ take i rows
 
-at_place : (rows : List PlanRow) (i : ℕ) (row : PlanRow) → i < length rows → row ≡ slice_index_or rows i row → drop i rows ≡ row ∷ drop (i + 1) rows
+at_place : (rows : List PlanRow) (i : ℕ) (row : PlanRow) → i < length rows →
+    row ≡ slice_index_or rows i row → drop i rows ≡ row ∷ drop (i + 1) rows
 at_place rows i row l h = drop_more rows i row l ∙ ap (λ r. r ∷ drop (i + 1) rows) (sym h)
 
 pub none_looked : (rows : List PlanRow) → Looked rows 0
 none_looked rows = record { rest = refl; whole = refl }
 
-pub one_more : (rows : List PlanRow) (i : ℕ) (row : PlanRow) → i < length rows → row ≡ slice_index_or rows i row → row_area row ≡ None → Looked rows i → Looked rows (i + 1)
+pub one_more : (rows : List PlanRow) (i : ℕ) (row : PlanRow) → i < length rows →
+    row ≡ slice_index_or rows i row → row_area row ≡ None → Looked rows i → Looked rows (i + 1)
 one_more rows i row l h n k =
-    let front : take (i + 1) rows ≡ take i rows ++ row ∷ [] = take_more rows i row l ∙ ap (λ r. take i rows ++ r ∷ []) (sym h) in
-    let values : map among_row (take (i + 1) rows) ≡ map among_row (take i rows) ++ among_row row ∷ [] = ap (map among_row) front ∙ map-append among_row (take i rows) (row ∷ []) in
+    let front : take (i + 1) rows ≡ take i rows ++ row ∷ [] = take_more rows i row l ∙
+    ap (λ r. take i rows ++ r ∷ []) (sym h) in
+    let values : map among_row (take (i + 1) rows) ≡ map among_row (take i rows) ++ among_row row ∷
+    [] = ap (map among_row) front ∙ map-append among_row (take i rows) (row ∷ []) in
     record {
       rest = ap (λ vs. rows_and vs (collected (drop (i + 1) rows))) values
-          ∙ (took_values (map among_row (take i rows)) row (drop (i + 1) rows) (among_row row) (row_ok row n)
-          ∙ (ap (λ rs. rows_and (map among_row (take i rows)) (collected rs)) (sym (at_place rows i row l h)) ∙ k.rest));
+          ∙ (took_values (map among_row (take i rows)) row (drop (i + 1) rows) (among_row row)
+          (row_ok row n)
+          ∙ (ap (λ rs. rows_and (map among_row (take i rows)) (collected rs))
+          (sym (at_place rows i row l h)) ∙ k.rest));
       whole = ap shown_rows values ∙ (shown_append (map among_row (take i rows)) (among_row row)
-          ∙ (ap (λ rs. rs ++ Whole (shown (among_row row)) ∷ []) k.whole ∙ (ap (λ r. take i rows ++ r ∷ []) (row_whole row n) ∙ sym front)));
+          ∙ (ap (λ rs. rs ++ Whole (shown (among_row row)) ∷ []) k.whole ∙
+          (ap (λ r. take i rows ++ r ∷ []) (row_whole row n) ∙ sym front)));
     }
 
-pub area_found : (rows : List PlanRow) (i : ℕ) (row : PlanRow) (a : Area) → i < length rows → row ≡ slice_index_or rows i row → row_area row ≡ Some a → Looked rows i → collected rows ≡ Err a
+pub area_found : (rows : List PlanRow) (i : ℕ) (row : PlanRow) (a : Area) → i < length rows →
+    row ≡ slice_index_or rows i row → row_area row ≡ Some a → Looked rows i → collected rows ≡ Err a
 area_found rows i row a l h s k =
-    sym k.rest ∙ (ap (λ rs. rows_and (map among_row (take i rows)) (collected rs)) (at_place rows i row l h)
+    sym k.rest ∙ (ap (λ rs. rows_and (map among_row (take i rows)) (collected rs))
+    (at_place rows i row l h)
     ∙ took_area (map among_row (take i rows)) row (drop (i + 1) rows) a (row_err row a s))
 
-pub all_looked : (rows : List PlanRow) (i : ℕ) → length rows ≤ i → Looked rows i → Ok rows ≡ shown_end (collected rows)
+pub all_looked : (rows : List PlanRow) (i : ℕ) → length rows ≤ i → Looked rows i →
+    Ok rows ≡ shown_end (collected rows)
 all_looked rows i l k =
     let vs = map among_row (take i rows) in
-    let all : collected rows ≡ Ok (vs ++ []) = sym k.rest ∙ (ap (λ rs. rows_and vs (collected rs)) (drop_all i rows l) ∙ rows_and_ok vs []) in
+    let all : collected rows ≡ Ok (vs ++ []) = sym k.rest ∙
+    (ap (λ rs. rows_and vs (collected rs)) (drop_all i rows l) ∙ rows_and_ok vs []) in
     sym (ap shown_end all ∙ ap Ok (ap shown_rows (append-nil vs) ∙ (k.whole ∙ take_all i rows l)))
 
 -- the first row was taken, and has values
-pub values_taken : (values us : List Row) (row : PlanRow) (left rest whole : List PlanRow) (r : Row) → left ≡ row ∷ rest → row_end row ≡ Ok r → us ≡ values ++ r ∷ [] →
-    rows_and values (collected left) ≡ collected whole → rows_and us (collected rest) ≡ collected whole
+pub values_taken : (values us : List Row) (row : PlanRow) (left rest whole : List PlanRow)
+    (r : Row) → left ≡ row ∷ rest → row_end row ≡ Ok r → us ≡ values ++ r ∷ [] →
+    rows_and values (collected left) ≡ collected whole →
+    rows_and us (collected rest) ≡ collected whole
 values_taken values us row left rest whole r f e p k =
-    ap (λ vs. rows_and vs (collected rest)) p ∙ (took_values values row rest r e ∙ (ap (λ rs. rows_and values (collected rs)) (sym f) ∙ k))
+    ap (λ vs. rows_and vs (collected rest)) p ∙
+    (took_values values row rest r e ∙ (ap (λ rs. rows_and values (collected rs)) (sym f) ∙ k))
 
 -- it was taken, and has an area
-pub area_taken : (values : List Row) (row : PlanRow) (left rest whole : List PlanRow) (a : Area) → left ≡ row ∷ rest → row_end row ≡ Err a →
+pub area_taken : (values : List Row) (row : PlanRow) (left rest whole : List PlanRow) (a : Area) →
+    left ≡ row ∷ rest → row_end row ≡ Err a →
     rows_and values (collected left) ≡ collected whole → Err a ≡ collected whole
-area_taken values row left rest whole a f e k = sym (took_area values row rest a e) ∙ (ap (λ rs. rows_and values (collected rs)) (sym f) ∙ k)
+area_taken values row left rest whole a f e k = sym (took_area values row rest a e) ∙
+    (ap (λ rs. rows_and values (collected rs)) (sym f) ∙ k)
 
 -- all were taken
-pub all_taken : (values : List Row) (left whole : List PlanRow) → length left ≤ 0 → rows_and values (collected left) ≡ collected whole → Ok values ≡ collected whole
+pub all_taken : (values : List Row) (left whole : List PlanRow) → length left ≤ 0 →
+    rows_and values (collected left) ≡ collected whole → Ok values ≡ collected whole
 all_taken values [] whole l k = sym (ap Ok (append-nil values)) ∙ (sym (rows_and_ok values []) ∙ k)
 all_taken values (row ∷ left) whole l k = absurd (omega (arith, l))

@@ -10,39 +10,40 @@ use Rattle.rel_algebra.specs.declared.plan.Node.{Node}
 use Rattle.rel_algebra.specs.declared.plan.Node.TheVariants.{Extend, Filter, Keep}
 use Rattle.rel_algebra.specs.Plan.{cell_of, cells_of, cells_at, each}
 use Rattle.rel_algebra.specs.PlanView.{scalar_of, scalars_of}
-use Rattle.scalar_eval.specs.Sights.{sight_of}
+use Rattle.plan_scalars.specs.Sights.{sight_of}
 
 -- it stays, with these cells; or it is left out; or deciding on it raises
-pub data Fate : Type 0 where
-  Stays : List Cell → Fate
-  Gone : Fate
-  Raises : Area → Fate
+pub data RowOutcome : Type 0 where
+  Stays : List Cell → RowOutcome
+  Gone : RowOutcome
+  Raises : Area → RowOutcome
 
 -- a row that was tested
-abbrev pub tested : Cell → List Cell → Fate
+abbrev pub tested : Cell → List Cell → RowOutcome
 tested (Cond area) row = Raises area
 tested (Val v) row = if is_true v then Stays row else Gone
 
 -- what a node makes of a row; one that takes whole lists does nothing
-abbrev pub node_fate : Node → List Cell → List (List Cell) → List Value → Fate
-node_fate (Extend ss) row outer args = Stays (row ++ cells_of (scalars_of ss) (sight_of row outer args))
+abbrev pub node_fate : Node → List Cell → List (List Cell) → List Value → RowOutcome
+node_fate (Extend ss) row outer args = Stays (row ++ cells_of (scalars_of ss)
+    (sight_of row outer args))
 node_fate (Filter s) row outer args = tested (cell_of (scalar_of s) (sight_of row outer args)) row
 node_fate (Keep places) row outer args = Stays (cells_at row places)
 node_fate _ row outer args = Stays row
 
 -- goes on with a row that stays
-abbrev pub go_on : Fate → (List Cell → Fate) → Fate
+abbrev pub go_on : RowOutcome → (List Cell → RowOutcome) → RowOutcome
 go_on (Stays row) more = more row
 go_on Gone more = Gone
 go_on (Raises area) more = Raises area
 
 -- what nodes make of a row, the first of them first
-abbrev pub fate : List Node → List Cell → List (List Cell) → List Value → Fate
+abbrev pub fate : List Node → List Cell → List (List Cell) → List Value → RowOutcome
 fate [] row outer args = Stays row
 fate (n ∷ ns) row outer args = go_on (node_fate n row outer args) (λ r. fate ns r outer args)
 
 -- the rows that come of it
-abbrev pub fate_rows : Fate → List PlanRow
+abbrev pub fate_rows : RowOutcome → List PlanRow
 fate_rows (Stays row) = Whole row ∷ []
 fate_rows Gone = []
 fate_rows (Raises area) = Poisoned area ∷ []

@@ -7,10 +7,10 @@ use Rattle.table_store.specs.Memory.{Memory}
 use Rattle.rel_algebra.specs.Plain.{Inputs}
 use Rattle.plan_exec.specs.declared.pass.RowFate.{RowFate}
 use Rattle.plan_exec.specs.declared.pass.RowFate.TheVariants as code
-use Rattle.plan_exec.specs.Fates.{Fate, Stays, Gone, Raises}
+use Rattle.plan_exec.specs.Fates.{RowOutcome, Stays, Gone, Raises}
 
 -- with the cells that are left
-abbrev pub fate_of : RowFate → List Cell → Fate
+abbrev pub fate_of : RowFate → List Cell → RowOutcome
 fate_of (code.Stays front) cells = Stays (map Val front ++ cells)
 fate_of code.Gone cells = Gone
 fate_of (code.Raises area) cells = Raises area

@@ -1,6 +1,6 @@
--- Rows on their way to the next node that takes whole lists: they make a list, or, where that node is a Group, or
--- an Apply wants aggregates of them, are folded as they come.
--- ISO/IEC 9075-2, 7.13 (group by clause).
+-- Rows on their way to the next node that takes whole lists: they make a list, or, where that node
+-- is a Group, or an Apply wants aggregates of them, are folded as they come. ISO/IEC 9075-2, 7.13
+-- (group by clause).
 use Rattle.std.specs.Prelude.{Bool, true, false, List, [], ◌∷◌, ◌++◌, Ok, Err}
 use Rattle.row_types.specs.Rows.{Row}
 use Rattle.row_types.specs.Cells.{PlanRow, row_end}
@@ -59,7 +59,7 @@ abbrev pub nothing_of : ApplyKind → Received
 nothing_of (Aggregate aggregates) = Folds (no_rows [] aggregates)
 nothing_of _ = Rows []
 
--- no rows, on their way to the first of nodes, or, behind the last, for what they are wanted
+-- no rows, on their way to the first of nodes, or, after the last, for what they are wanted
 abbrev pub nothing_below : Wanted → List Node → Received
 nothing_below for [] = nothing_wanted for
 nothing_below for (n ∷ ns) = nothing_for n

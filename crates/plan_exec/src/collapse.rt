@@ -1,6 +1,7 @@
 //! What an Apply makes of the rows of its inner plan, each of which has come before it is judged.
 
-ghost use Rattle.std.specs.Prelude.{◌≡◌, ◌+◌, ◌≤◌, ◌++◌, [], ◌∷◌, true, false, List, None, length, map, replicate, IfOk, IfSome, OnOk};
+ghost use Rattle.std.specs.Prelude.{◌≡◌, ◌+◌, ◌≤◌, ◌++◌, [], ◌∷◌, true, false, List, None, length};
+ghost use Rattle.std.specs.Prelude.{map, replicate, IfOk, IfSome, OnOk};
 ghost use Rattle.sql_values.specs.declared.value.Value.TheVariants.{Bool as TruthValue};
 ghost use Rattle.row_types.specs.declared.cell.Cell.{Cell as PlainCell};
 ghost use Rattle.row_types.specs.declared.cell.Cell.TheVariants.{Val};
@@ -9,19 +10,21 @@ ghost use Rattle.row_types.specs.Groups.{value_at, values_of_column};
 ghost use Rattle.row_types.specs.OuterRows.{outer_rows};
 ghost use Rattle.rel_algebra.specs.Endings.{among as among_by, cell_end, equal_values};
 ghost use Rattle.rel_algebra.specs.Joins.{single_of};
-ghost use Rattle.rel_algebra.specs.Plan.{applied, collapse, collected, kind_width, member_cell as member_by};
+ghost use Rattle.rel_algebra.specs.Plan.{applied, collapse, collected, kind_width};
+ghost use Rattle.rel_algebra.specs.Plan.{member_cell as member_by};
 ghost use Rattle.rel_algebra.specs.PlanView.{kind_of};
-ghost use Rattle.scalar_eval.specs.Sights.{sight_of};
+ghost use Rattle.plan_scalars.specs.Sights.{sight_of};
 ghost use Rattle.plan_exec.specs.Answers.{values_end};
 ghost use Rattle.plan_exec.specs.Applying.{aggregate_cells, ended_as};
-ghost use Rattle.plan_exec.specs.Receiving.{is_list, nothing_of, nothing_wanted, received as received_by};
+ghost use Rattle.plan_exec.specs.Receiving.{is_list, nothing_of, nothing_wanted};
+ghost use Rattle.plan_exec.specs.Receiving.{received as received_by};
 
 use crate::collecting::{Values, collect_values};
 use crate::groups::grouped_passed;
 use crate::received::{Received, Wanted};
+use plan_scalars::{eval_on, is_true};
 use rel_algebra::ApplyKind;
 use row_types::{Cell, Outer, Row, RowInSight, RowList, Steps, copied_cell};
-use scalar_eval::{eval_on, is_true};
 use sql_conditions::{Area, Condition, EngineCondition};
 use sql_values::{Comparison, NoMemory, Value};
 use sqlite_items::{Boxed, Items};
@@ -56,7 +59,8 @@ pub fn member_cell(
     outer: &Outer,
     args: &[Value],
 ) -> Result<Cell, NoMemory>
-    ensures { IfOk result (λ c. c ≡ member_by (kind_of kind.now) (sight_of row.now (outer_rows outer.now) args.now)) }
+    ensures { IfOk result (λ c. c ≡ member_by (kind_of kind.now)
+        (sight_of row.now (outer_rows outer.now) args.now)) }
 {
     match kind {
         ApplyKind::Member(scalar) => eval_on(alloc, scalar, row, outer, args),
@@ -64,8 +68,8 @@ pub fn member_cell(
     }
 }
 
-/// What stands in each cell of an Apply whose scalar has this cell: `None` where the scalar is true,
-/// and each has its own.
+/// What stands in each cell of an Apply whose scalar has this cell: `None` where the scalar is
+/// true, and each has its own.
 pub fn unless_true(when: Cell) -> Option<Cell>
     ensures some { IfSome result (λ c. (d : PlainCell) → applied when d ≡ c) }
     ensures none { result ≡ None → (d : PlainCell) → applied when d ≡ d }
@@ -107,9 +111,11 @@ pub fn add_collapsed<L: Ledger>(
     steps: &mut Steps<L>,
 ) -> Result<(), NoMemory>
     requires { is_list came ≡ is_list (nothing_of kind.now) }
-    ensures cells { OnOk result ((rows : List PlanRow) → received_by (nothing_of kind.now) rows ≡ came
+    ensures cells { OnOk result ((rows : List PlanRow) →
+        received_by (nothing_of kind.now) rows ≡ came
         → cells.new.items ≡ cells.old.items ++ collapse (kind_of kind.now) member rows) }
-    ensures work { (rows : List PlanRow) → received_by (nothing_of kind.now) rows ≡ came → steps.new ≤ steps.old + 1 + length rows }
+    ensures work { (rows : List PlanRow) → received_by (nothing_of kind.now) rows ≡ came →
+        steps.new ≤ steps.old + 1 + length rows }
 {
     match kind {
         ApplyKind::Aggregate(columns) => {
@@ -135,7 +141,8 @@ fn add_judged<L: Ledger>(
     steps: &mut Steps<L>,
 ) -> Result<(), NoMemory>
     requires { is_list (nothing_of kind.now) ≡ true }
-    ensures cells { OnOk result (cells.new.items ≡ cells.old.items ++ ended_as (kind_of kind.now) member (collected rows)) }
+    ensures cells { OnOk result (cells.new.items ≡ cells.old.items ++ ended_as (kind_of kind.now)
+        member (collected rows)) }
     ensures work { steps.new ≤ steps.old + length rows }
 {
     let values = collect_values(alloc, rows, steps)?;
@@ -150,7 +157,8 @@ fn add_aggregates(
     values: Values,
     count: usize,
 ) -> Result<(), NoMemory>
-    ensures { OnOk result (cells.new.items ≡ cells.old.items ++ aggregate_cells count (values_end values)) }
+    ensures { OnOk result (cells.new.items ≡ cells.old.items ++ aggregate_cells count
+        (values_end values)) }
 {
     match values {
         Values::Rows(rows) => match rows.get(0) {

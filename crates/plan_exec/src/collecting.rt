@@ -16,13 +16,13 @@ use std::sync::ledger::Ledger;
 pub enum Answer {
     /// The rows. None is poisoned, and each cell is a value.
     Rows(RowList),
-    /// The first area: the poison of a row, or a cell of one, rows in their order and cells from left
-    /// to right.
+    /// The first area: the poison of a row, or a cell of one, rows in their order and cells from
+    /// left to right.
     Raised(Area),
 }
 
-/// The same rows, where none of them has an area, and else the first area. Each row that is looked at
-/// is a step. It takes no memory.
+/// The same rows, where none of them has an area, and else the first area. Each row that is looked
+/// at is a step. It takes no memory.
 pub fn collect<L: Ledger>(rows: RowList, steps: &mut Steps<L>) -> Result<Answer, NoMemory>
     ensures answer { IfOk result (λ a. answer_end a ≡ shown_end (collected rows)) }
     ensures work { steps.new ≤ steps.old + length rows }

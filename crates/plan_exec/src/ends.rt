@@ -33,7 +33,7 @@ fn poisoned(alloc: Global, area: Area) -> Result<RowList, NoMemory>
     Ok(rows)
 }
 
-/// What nodes make of a list that is settled, received behind others: where a row of the list has an
+/// What nodes make of a list that is settled, received after others: where a row of the list has an
 /// area, one row that is poisoned by the first. Each row of the list is a step.
 pub fn settled_passed<L: Ledger>(
     alloc: Global,
@@ -44,7 +44,8 @@ pub fn settled_passed<L: Ledger>(
     args: &[Value],
     steps: &mut Steps<L>,
 ) -> Result<Received, NoMemory>
-    ensures rows { IfOk result (λ out. out ≡ received_by into (passed nodes.now (outer_rows outer.now) args.now (finished (collected rows)))) }
+    ensures rows { IfOk result (λ out. out ≡ received_by into
+        (passed nodes.now (outer_rows outer.now) args.now (finished (collected rows)))) }
     ensures work { steps.new ≤ steps.old + length rows }
 {
     if into.takes_whole(nodes) {
@@ -71,7 +72,7 @@ fn settled<L: Ledger>(
 }
 
 /// What nodes make of a list that is settled and then put in the order of these columns, received
-/// behind others. Each row of the list is a step.
+/// after others. Each row of the list is a step.
 pub fn sorted_passed<L: Ledger>(
     alloc: Global,
     rows: RowList,
@@ -82,7 +83,9 @@ pub fn sorted_passed<L: Ledger>(
     args: &[Value],
     steps: &mut Steps<L>,
 ) -> Result<Received, NoMemory>
-    ensures rows { IfOk result (λ out. out ≡ received_by into (passed nodes.now (outer_rows outer.now) args.now (finished (after (collected rows) (λ rs. Ok (in_order keys.now rs)))))) }
+    ensures rows { IfOk result (λ out. out ≡ received_by into
+        (passed nodes.now (outer_rows outer.now) args.now
+        (finished (after (collected rows) (λ rs. Ok (in_order keys.now rs)))))) }
     ensures work { steps.new ≤ steps.old + length rows }
 {
     match collect_values(alloc, rows, steps)? {
@@ -94,8 +97,8 @@ pub fn sorted_passed<L: Ledger>(
     }
 }
 
-/// What nodes make of rows of values, received behind others; where there is an area instead, one row
-/// poisoned by it.
+/// What nodes make of rows of values, received after others; where there is an area instead, one
+/// row poisoned by it.
 pub fn values_passed(
     alloc: Global,
     values: Values,
@@ -104,7 +107,8 @@ pub fn values_passed(
     outer: &Outer,
     args: &[Value],
 ) -> Result<Received, NoMemory>
-    ensures { IfOk result (λ out. out ≡ received_by into (passed nodes.now (outer_rows outer.now) args.now (finished (values_end values)))) }
+    ensures { IfOk result (λ out. out ≡ received_by into
+        (passed nodes.now (outer_rows outer.now) args.now (finished (values_end values)))) }
 {
     match values {
         Values::Rows(rows) => rows_passed(alloc, rows, nodes, into, outer, args),
@@ -112,8 +116,8 @@ pub fn values_passed(
     }
 }
 
-// What nodes make of rows of values, received behind others. Where there is no node and no other row,
-// they go on as they lie.
+// What nodes make of rows of values, received after others. Where there is no node and no other
+// row, they go on as they lie.
 fn rows_passed(
     alloc: Global,
     rows: Items<Row>,
@@ -122,7 +126,8 @@ fn rows_passed(
     outer: &Outer,
     args: &[Value],
 ) -> Result<Received, NoMemory>
-    ensures { IfOk result (λ out. out ≡ received_by into (passed nodes.now (outer_rows outer.now) args.now (shown_rows rows))) }
+    ensures { IfOk result (λ out. out ≡ received_by into
+        (passed nodes.now (outer_rows outer.now) args.now (shown_rows rows))) }
 {
     if into.takes_whole(nodes) {
         let list = handed_on(alloc, rows)?;

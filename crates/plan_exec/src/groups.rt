@@ -18,14 +18,14 @@ use crate::leaves::{add_passed, keep_each};
 use crate::received::Received;
 use crate::scratch::Scratch;
 use group_index::{FinishedGroup, foldings_are_of_groups};
+use plan_scalars::outcome_cell;
 use rel_algebra::Node;
 use row_types::{AggregateColumn, Cell, Outer, ValuesInSight};
-use scalar_eval::outcome_cell;
 use sql_values::{NoMemory, Value, ValueFault};
 use std::alloc::Global;
 
-/// What nodes make of the groups of the rows that came, received behind others: where a row that came
-/// had an area, one row that is poisoned by the first.
+/// What nodes make of the groups of the rows that came, received after others: where a row that
+/// came had an area, one row that is poisoned by the first.
 pub fn grouped_passed(
     alloc: Global,
     came: Received,
@@ -38,8 +38,10 @@ pub fn grouped_passed(
 ) -> Result<Received, NoMemory>
     requires { is_list came ≡ false }
     ensures form { IfOk result (λ out. is_list out ≡ is_list into) }
-    ensures rows { IfOk result (λ out. (rows : List PlanRow) → received_by (Folds (no_rows places.now aggregates.now)) rows ≡ came
-        → out ≡ received_by into (passed nodes.now (outer_rows outer.now) args.now (grouped places.now (aggregates_of aggregates.now) (collected rows)))) }
+    ensures rows { IfOk result (λ out. (rows : List PlanRow) →
+        received_by (Folds (no_rows places.now aggregates.now)) rows ≡ came
+        → out ≡ received_by into (passed nodes.now (outer_rows outer.now) args.now
+        (grouped places.now (aggregates_of aggregates.now) (collected rows)))) }
 {
     foldings_are_of_groups();
     match came {
@@ -52,7 +54,7 @@ pub fn grouped_passed(
     }
 }
 
-// What nodes make of groups, received behind others.
+// What nodes make of groups, received after others.
 fn groups_passed(
     alloc: Global,
     groups: &[FinishedGroup],
@@ -61,7 +63,8 @@ fn groups_passed(
     outer: &Outer,
     args: &[Value],
 ) -> Result<Received, NoMemory>
-    ensures { IfOk result (λ out. out ≡ received_by into (passed nodes.now (outer_rows outer.now) args.now (groups_rows groups.now))) }
+    ensures { IfOk result (λ out. out ≡ received_by into
+        (passed nodes.now (outer_rows outer.now) args.now (groups_rows groups.now))) }
 {
     let room = if keep_each(nodes) { groups.len() } else { 0 };
     let mut received = into.with_room(alloc, room)?;

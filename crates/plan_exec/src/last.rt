@@ -1,7 +1,8 @@
 //! The last nodes of a plan, by which a row gets its final cells. They are worked out straight into
 //! the memory of the row that comes out.
 
-ghost use Rattle.std.specs.Prelude.{◌≡◌, ◌++◌, [], ◌-◌, true, List, length, take, map, slice_get, Some, IfOk, IfSome};
+ghost use Rattle.std.specs.Prelude.{◌≡◌, ◌++◌, [], ◌-◌, true, List, length, take, map, slice_get};
+ghost use Rattle.std.specs.Prelude.{Some, IfOk, IfSome};
 ghost use Rattle.sql_values.specs.declared.value.Value.{Value as PlainValue};
 ghost use Rattle.row_types.specs.declared.cell.Cell.{Cell as PlainCell};
 ghost use Rattle.row_types.specs.declared.cell.Cell.TheVariants.{Val};
@@ -10,14 +11,14 @@ ghost use Rattle.row_types.specs.OuterRows.{outer_rows};
 ghost use Rattle.rel_algebra.specs.Plan.{cell_at, cells_of, cells_at};
 ghost use Rattle.rel_algebra.specs.PlanView.{scalars_of};
 ghost use Rattle.rel_algebra.specs.declared.plan.Node.TheVariants.{Extend, Keep};
-ghost use Rattle.scalar_eval.specs.Sights.{sight_of};
+ghost use Rattle.plan_scalars.specs.Sights.{sight_of};
 ghost use Rattle.plan_exec.specs.Fates.{Stays, fate, go_on};
 ghost use Rattle.plan_exec.specs.Ways.{last_cells, way_fate};
 
 use crate::scratch::Scratch;
+use plan_scalars::{eval_on, own_cell};
 use rel_algebra::{Node, Scalar};
 use row_types::{Cell, Outer, PlanRow, RowInSight, ValuesInSight, gathered};
-use scalar_eval::{eval_on, own_cell};
 use sql_values::{NoMemory, Value};
 use sqlite_items::Items;
 use std::alloc::Global;
@@ -27,7 +28,7 @@ use std::alloc::Global;
 pub enum Last<'a> {
     /// It has them.
     Whole,
-    /// They are the cells at these places of the row with the cells of these scalars behind its own.
+    /// They are the cells at these places of the row with the cells of these scalars after its own.
     Picked(&'a [Scalar], &'a [usize]),
 }
 
@@ -73,7 +74,8 @@ fn before_keep<'a>(nodes: &'a [Node], places: &'a [usize]) -> Way<'a>
 
 // The places of the last node, where it is a Keep.
 fn last_places(nodes: &[Node]) -> Option<&[usize]>
-    ensures { IfSome result (λ places. slice_get nodes.now (length nodes.now - 1) ≡ Some (Keep places.now)) }
+    ensures { IfSome result (λ places. slice_get nodes.now (length nodes.now - 1) ≡
+        Some (Keep places.now)) }
 {
     match nodes.last()? {
         Node::Keep(places) => Some(places.as_slice()),
@@ -83,7 +85,8 @@ fn last_places(nodes: &[Node]) -> Option<&[usize]>
 
 // The scalars of the last node, where it is an Extend.
 fn last_scalars(nodes: &[Node]) -> Option<&[Scalar]>
-    ensures { IfSome result (λ scalars. slice_get nodes.now (length nodes.now - 1) ≡ Some (Extend scalars.now)) }
+    ensures { IfSome result (λ scalars. slice_get nodes.now (length nodes.now - 1) ≡
+        Some (Extend scalars.now)) }
 {
     match nodes.last()? {
         Node::Extend(scalars) => Some(scalars.as_slice()),
@@ -99,7 +102,7 @@ fn without_last(nodes: &[Node]) -> &[Node]
     front
 }
 
-/// The row that comes of these values and of the cells in the scratch behind them.
+/// The row that comes of these values and of the cells in the scratch after them.
 pub fn finished(
     alloc: Global,
     last: &Last,
@@ -108,7 +111,9 @@ pub fn finished(
     outer: &Outer,
     args: &[Value],
 ) -> Result<PlanRow, NoMemory>
-    ensures { IfOk result (λ r. r ≡ WholeRow (last_cells last.now (map Val front.now ++ scratch.old.cells.items) (outer_rows outer.now) args.now)) }
+    ensures { IfOk result
+        (λ r. r ≡ WholeRow (last_cells last.now (map Val front.now ++ scratch.old.cells.items)
+        (outer_rows outer.now) args.now)) }
 {
     match last {
         Last::Whole => gathered(alloc, front, scratch.cells.as_mut_slice()),
@@ -135,7 +140,9 @@ pub fn work_out(
     outer: &Outer,
     args: &[Value],
 ) -> Result<bool, NoMemory>
-    ensures values { IfOk result (λ all. all ≡ true → map Val scratch.new.values.items ≡ last_cells last.now (map Val front.now ++ scratch.old.cells.items) (outer_rows outer.now) args.now) }
+    ensures values { IfOk result (λ all. all ≡ true →
+        map Val scratch.new.values.items ≡ last_cells last.now
+        (map Val front.now ++ scratch.old.cells.items) (outer_rows outer.now) args.now) }
     ensures cells { scratch.new.cells.items ≡ scratch.old.cells.items }
 {
     scratch.values.clear();
@@ -158,7 +165,7 @@ pub fn work_out(
     }
 }
 
-// The cells at places of a row with the cells of scalars behind its own.
+// The cells at places of a row with the cells of scalars after its own.
 fn picked_cells(
     alloc: Global,
     scalars: &[Scalar],
@@ -186,7 +193,10 @@ fn pick_values(
     outer: &Outer,
     args: &[Value],
 ) -> Result<bool, NoMemory>
-    ensures { IfOk result (λ all. all ≡ true → map Val values.new.items ≡ map Val values.old.items ++ cells_at (row.now ++ cells_of (scalars_of scalars.now) (sight_of row.now (outer_rows outer.now) args.now)) places.now) }
+    ensures { IfOk result (λ all. all ≡ true →
+        map Val values.new.items ≡ map Val values.old.items ++ cells_at
+        (row.now ++ cells_of (scalars_of scalars.now)
+        (sight_of row.now (outer_rows outer.now) args.now)) places.now) }
 {
     let width = row.len();
     for place in places {
@@ -200,7 +210,8 @@ fn pick_values(
 
 // Adds the values of a row's cells, where each is a value. `false` says nothing.
 fn own_values(values: &mut Vec<Value>, alloc: Global, row: &RowInSight) -> Result<bool, NoMemory>
-    ensures { IfOk result (λ all. all ≡ true → map Val values.new.items ≡ map Val values.old.items ++ row.now) }
+    ensures { IfOk result (λ all. all ≡ true →
+        map Val values.new.items ≡ map Val values.old.items ++ row.now) }
 {
     for place in 0..row.len() {
         match own_cell(alloc, row, place)? {
@@ -211,8 +222,8 @@ fn own_values(values: &mut Vec<Value>, alloc: Global, row: &RowInSight) -> Resul
     Ok(true)
 }
 
-// The cell at a place of a row with the cells of scalars behind its own.
-#[tactic(auto, using(crate::proofs::Picks::cell_front, crate::proofs::Picks::cell_behind, crate::proofs::Picks::cell_scalar, crate::proofs::Picks::cell_none, std::proofs::lemmas::Grind::common_steps))]
+// The cell at a place of a row with the cells of scalars after its own.
+#[tactic(auto, using(crate::proofs::Picks::cell_front, crate::proofs::Picks::cell_following, crate::proofs::Picks::cell_scalar, crate::proofs::Picks::cell_none, std::proofs::lemmas::Grind::common_steps))]
 fn extended_cell(
     alloc: Global,
     scalars: &[Scalar],
@@ -223,14 +234,15 @@ fn extended_cell(
     args: &[Value],
 ) -> Result<Cell, NoMemory>
     requires { width ≡ length row.now }
-    ensures { IfOk result (λ c. c ≡ cell_at (row.now ++ cells_of (scalars_of scalars.now) (sight_of row.now (outer_rows outer.now) args.now)) place) }
+    ensures { IfOk result (λ c. c ≡ cell_at (row.now ++ cells_of (scalars_of scalars.now)
+        (sight_of row.now (outer_rows outer.now) args.now)) place) }
 {
     if place < width {
         return own_cell(alloc, row, place);
     }
-    let behind = place - width;
-    if behind < scalars.len() {
-        eval_on(alloc, &scalars[behind], row, outer, args)
+    let after = place - width;
+    if after < scalars.len() {
+        eval_on(alloc, &scalars[after], row, outer, args)
     } else {
         Ok(Cell::Val(Value::Null))
     }

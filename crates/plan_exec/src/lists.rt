@@ -6,11 +6,11 @@ ghost use Rattle.row_types.specs.Cells.{Whole};
 ghost use Rattle.row_types.specs.OuterRows.{outer_rows};
 ghost use Rattle.rel_algebra.specs.Plan.{cells_of, list_rows};
 ghost use Rattle.rel_algebra.specs.PlanView.{lists_of, scalars_of};
-ghost use Rattle.scalar_eval.specs.Sights.{sight_of};
+ghost use Rattle.plan_scalars.specs.Sights.{sight_of};
 
+use plan_scalars::{eval_on, value_in_place};
 use rel_algebra::{Scalar, ScalarRow};
 use row_types::{Cell, Outer, PlanRow, Row, RowInSight, RowList};
-use scalar_eval::{eval_on, value_in_place};
 use sql_values::{NoMemory, Value};
 use sqlite_items::Items;
 use std::alloc::Global;
@@ -22,7 +22,8 @@ pub fn listed(
     outer: &Outer,
     args: &[Value],
 ) -> Result<RowList, NoMemory>
-    ensures { IfOk result (λ rows. rows ≡ list_rows (lists_of lists.now) (sight_of [] (outer_rows outer.now) args.now)) }
+    ensures { IfOk result (λ rows. rows ≡ list_rows (lists_of lists.now)
+        (sight_of [] (outer_rows outer.now) args.now)) }
 {
     let mut rows = RowList::with_capacity(alloc, lists.len())?;
     for list in lists {
@@ -38,7 +39,8 @@ fn listed_row(
     outer: &Outer,
     args: &[Value],
 ) -> Result<PlanRow, NoMemory>
-    ensures { IfOk result (λ r. r ≡ Whole (cells_of (scalars_of scalars.now) (sight_of [] (outer_rows outer.now) args.now))) }
+    ensures { IfOk result (λ r. r ≡ Whole (cells_of (scalars_of scalars.now)
+        (sight_of [] (outer_rows outer.now) args.now))) }
 {
     match listed_values(alloc, scalars, outer, args)? {
         Some(values) => Ok(PlanRow::of_values(values)),
@@ -53,7 +55,8 @@ fn listed_values(
     outer: &Outer,
     args: &[Value],
 ) -> Result<Option<Row>, NoMemory>
-    ensures { IfOk result (λ o. IfSome o (λ values. map Val values ≡ cells_of (scalars_of scalars.now) (sight_of [] (outer_rows outer.now) args.now))) }
+    ensures { IfOk result (λ o. IfSome o (λ values. map Val values ≡ cells_of
+        (scalars_of scalars.now) (sight_of [] (outer_rows outer.now) args.now))) }
 {
     let row = RowInSight::of(&[], &[]);
     let mut values = Items::from_vec(Vec::with_capacity(alloc, scalars.len())?);
@@ -76,7 +79,8 @@ fn listed_cells(
     outer: &Outer,
     args: &[Value],
 ) -> Result<Items<Cell>, NoMemory>
-    ensures { IfOk result (λ cells. cells ≡ cells_of (scalars_of scalars.now) (sight_of [] (outer_rows outer.now) args.now)) }
+    ensures { IfOk result (λ cells. cells ≡ cells_of (scalars_of scalars.now)
+        (sight_of [] (outer_rows outer.now) args.now)) }
 {
     let row = RowInSight::of(&[], &[]);
     let mut cells = Items::from_vec(Vec::with_capacity(alloc, scalars.len())?);

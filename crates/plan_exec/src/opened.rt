@@ -4,8 +4,8 @@ ghost use Rattle.std.specs.Prelude.{◌≡◌, ◌++◌, IfOk, OnOk};
 ghost use Rattle.plan_exec.specs.Applying.{has_condition as has_condition_by, opened_row};
 
 use crate::scratch::Scratch;
+use plan_scalars::own_cell;
 use row_types::{Cell, PlanRow, Row, RowEnd, RowInSight};
-use scalar_eval::own_cell;
 use sql_conditions::Area;
 use sql_values::NoMemory;
 use sqlite_items::{Boxed, Items};
@@ -14,7 +14,7 @@ use std::alloc::Global;
 /// A row that was opened.
 #[derive(Drop)]
 pub enum Opened {
-    /// These values; its other cells stand in the scratch behind them.
+    /// These values; its other cells stand in the scratch after them.
     Values(Row),
     /// It is poisoned by this area.
     Poison(Boxed<Area>),

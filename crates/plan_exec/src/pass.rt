@@ -7,9 +7,9 @@ ghost use Rattle.plan_exec.specs.Fates.{fate};
 ghost use Rattle.plan_exec.specs.Passing.{fate_of};
 
 use crate::scratch::Scratch;
+use plan_scalars::{eval_on, is_true};
 use rel_algebra::Node;
 use row_types::{Cell, Outer, RowInSight, ValuesInSight};
-use scalar_eval::{eval_on, is_true};
 use sql_conditions::Area;
 use sql_values::{NoMemory, Value};
 use sqlite_items::Boxed;
@@ -17,7 +17,7 @@ use std::alloc::Global;
 
 /// What becomes of a row.
 pub enum RowFate<'a> {
-    /// It stays: these values, and the cells that are left in the scratch behind them.
+    /// It stays: these values, and the cells that are left in the scratch after them.
     Stays(ValuesInSight<'a>),
     /// It is left out.
     Gone,
@@ -25,7 +25,7 @@ pub enum RowFate<'a> {
     Raises(Boxed<Area>),
 }
 
-/// What nodes make of the row of these values and of the cells in the scratch behind them. A node
+/// What nodes make of the row of these values and of the cells in the scratch after them. A node
 /// that takes whole lists does nothing here.
 pub fn pass<'a>(
     alloc: Global,
@@ -35,7 +35,8 @@ pub fn pass<'a>(
     outer: &Outer,
     args: &[Value],
 ) -> Result<RowFate<'a>, NoMemory>
-    ensures { IfOk result (λ f. fate_of f scratch.new.cells.items ≡ fate nodes.now (map Val values.now ++ scratch.old.cells.items) (outer_rows outer.now) args.now) }
+    ensures { IfOk result (λ f. fate_of f scratch.new.cells.items ≡ fate nodes.now
+        (map Val values.now ++ scratch.old.cells.items) (outer_rows outer.now) args.now) }
 {
     let (first, second) = values.slices();
     let mut front = ValuesInSight::of_pair(first, second);

@@ -3,7 +3,11 @@
 
 ghost use Rattle.std.specs.Prelude.{◌≡◌, ◌∷◌, [], true, IfOk, OnOk};
 ghost use Rattle.row_types.specs.Cells.{Poisoned};
-ghost use Rattle.plan_exec.specs.Receiving.{is_list as is_list_by, nothing_below as nothing_below_by, nothing_for as nothing_for_by, nothing_wanted as nothing_wanted_by, received as received_by};
+ghost use Rattle.plan_exec.specs.Receiving.{is_list as is_list_by};
+ghost use Rattle.plan_exec.specs.Receiving.{nothing_below as nothing_below_by};
+ghost use Rattle.plan_exec.specs.Receiving.{nothing_for as nothing_for_by};
+ghost use Rattle.plan_exec.specs.Receiving.{nothing_wanted as nothing_wanted_by};
+ghost use Rattle.plan_exec.specs.Receiving.{received as received_by};
 ghost use Rattle.plan_exec.specs.declared.received.Received.TheVariants.{Rows};
 
 use group_index::Folding;
@@ -35,7 +39,7 @@ pub enum Received {
 }
 
 impl Received {
-    /// No rows, on their way to the first of these nodes, or, behind the last, for what they are
+    /// No rows, on their way to the first of these nodes, or, after the last, for what they are
     /// wanted.
     pub fn nothing_below(
         alloc: Global,

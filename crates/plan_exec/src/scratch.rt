@@ -5,16 +5,16 @@ ghost use Rattle.row_types.specs.declared.cell.Cell.TheVariants.{Val};
 ghost use Rattle.row_types.specs.OuterRows.{outer_rows};
 ghost use Rattle.rel_algebra.specs.Plan.{cells_of, cells_at};
 ghost use Rattle.rel_algebra.specs.PlanView.{scalars_of};
-ghost use Rattle.scalar_eval.specs.Sights.{sight_of};
+ghost use Rattle.plan_scalars.specs.Sights.{sight_of};
 
+use plan_scalars::{eval_on, own_cell};
 use rel_algebra::Scalar;
 use row_types::{Cell, Outer, RowInSight, ValuesInSight};
-use scalar_eval::{eval_on, own_cell};
 use sql_values::{NoMemory, Value};
 use std::alloc::Global;
 use std::mem::swap;
 
-/// The cells that stand behind the values of a row, and memory for as many more and for the values
+/// The cells that stand after the values of a row, and memory for as many more and for the values
 /// that come of a row.
 #[derive(Drop)]
 pub struct Scratch {
@@ -42,8 +42,8 @@ impl Scratch {
         self.cells.clear();
     }
 
-    /// Adds the cells of scalars, each of which is read on the row of these values and the cells that
-    /// stood behind them.
+    /// Adds the cells of scalars, each of which is read on the row of these values and the cells
+    /// that stood after them.
     pub fn extend(
         &mut self,
         alloc: Global,
@@ -52,20 +52,23 @@ impl Scratch {
         outer: &Outer,
         args: &[Value],
     ) -> Result<(), NoMemory>
-        ensures { OnOk result (self.new.cells.items ≡ self.old.cells.items ++ cells_of (scalars_of scalars.now) (sight_of (map Val values.now ++ self.old.cells.items) (outer_rows outer.now) args.now)) }
+        ensures { OnOk result (self.new.cells.items ≡ self.old.cells.items ++ cells_of
+            (scalars_of scalars.now) (sight_of (map Val values.now ++ self.old.cells.items)
+            (outer_rows outer.now) args.now)) }
     {
         extend(&mut self.cells, alloc, scalars, values, outer, args)
     }
 
-    /// Keeps of the row of these values and the cells behind them the cells at these places, in this
-    /// order; they stand behind no value.
+    /// Keeps of the row of these values and the cells after them the cells at these places, in this
+    /// order; they stand after no value.
     pub fn keep(
         &mut self,
         alloc: Global,
         places: &[usize],
         values: &ValuesInSight,
     ) -> Result<(), NoMemory>
-        ensures { OnOk result (self.new.cells.items ≡ cells_at (map Val values.now ++ self.old.cells.items) places.now) }
+        ensures { OnOk result (self.new.cells.items ≡ cells_at
+            (map Val values.now ++ self.old.cells.items) places.now) }
     {
         self.spare.clear();
         let (first, second) = values.slices();
@@ -86,7 +89,8 @@ fn extend(
     outer: &Outer,
     args: &[Value],
 ) -> Result<(), NoMemory>
-    ensures { OnOk result (cells.new.items ≡ cells.old.items ++ cells_of (scalars_of scalars.now) (sight_of (map Val values.now ++ cells.old.items) (outer_rows outer.now) args.now)) }
+    ensures { OnOk result (cells.new.items ≡ cells.old.items ++ cells_of (scalars_of scalars.now)
+        (sight_of (map Val values.now ++ cells.old.items) (outer_rows outer.now) args.now)) }
 {
     let (first, second) = values.slices();
     let width = cells.len();

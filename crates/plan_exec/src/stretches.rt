@@ -1,5 +1,5 @@
-//! Which nodes of a plan act row by row. Those that stand together are a stretch, through which rows
-//! go one after another; between stretches stand the nodes that take whole lists.
+//! Which nodes of a plan act row by row. Those that stand together are a stretch, through which
+//! rows go one after another; between stretches stand the nodes that take whole lists.
 
 ghost use Rattle.std.specs.Prelude.{◌≡◌};
 ghost use Rattle.std.specs.List.{prefix_len};

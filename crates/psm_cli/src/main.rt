@@ -1,5 +1,5 @@
-//! psm runs a script of SQL and SQL/PSM from standard input, or checks each of its statements alone,
-//! and writes its replies to standard output:
+//! psm runs a script of SQL and SQL/PSM from standard input, or checks each of its statements
+//! alone, and writes its replies to standard output:
 //!
 //! ```text
 //! psm run <script

@@ -1,5 +1,3 @@
-pub mod WriteLemmas
-pub mod ReadLemmas
 pub mod LowerLaws
 pub mod RunLemmas
 pub mod Runs

@@ -1,33 +1,43 @@
 -- A script has one run, and a status of 1 is told exactly where it should.
-use Rattle.std.proofs.Common.{◌≡◌, ℕ, ◌<◌, List, [], ◌∷◌, ◌++◌, Bool, true, false, refl, sym, ◌∙◌, ap, subst, arith, length, length-append, append-nil, append_assoc, ◌⊎◌, inl, inr, ◌||◌}
+use Rattle.std.proofs.Common.{◌≡◌, ℕ, ◌<◌, List, [], ◌∷◌, ◌++◌, Bool, true, false, refl, sym, ◌∙◌}
+use Rattle.std.proofs.Common.{ap, subst, arith, length, length-append, append-nil, append_assoc}
+use Rattle.std.proofs.Common.{◌⊎◌, inl, inr, ◌||◌}
 use Rattle.std.proofs.lemmas.Grind.{flat_map-append}
 use Rattle.std.specs.Prelude.{Option, Some, None}
 use Rattle.psm_program.proofs.RunLemmas.{whole-more}
 use Rattle.psm_program.specs.Outcome.{CutInReply, FirstFew}
 use Rattle.std.specs.Io.KnownBytes.{Consumes}
-use Rattle.io_edges.specs.Told.{Told, Takes, TakesFlushed, with_bytes, all_flushed, IsWithin}
+use Rattle.io_edges.specs.TakenBytes.{TakenBytes, Takes, TakesFlushed, with_bytes, all_flushed}
+use Rattle.io_edges.specs.TakenBytes.{IsWithin}
 use Rattle.io_edges.proofs.Laws.{Takes-nil}
 use Rattle.sql_lex.specs.Tokens.{Lexing, IsTokens}
 use Rattle.psm_session.specs.Database.{Plain}
-use Rattle.psm_program.specs.Script.{Runs, IsDetermined, AlwaysGoesOn, whole, has_exception, is_exception}
+use Rattle.psm_program.specs.Script.{Runs, IsDetermined, AlwaysGoesOn, whole, has_exception}
+use Rattle.program_status.specs.Replies.{is_exception}
 use Rattle.psm_program.specs.Session.{Does, Script}
 use Rattle.psm_words.specs.declared.command.Command.{Command}
 use Rattle.psm_words.specs.declared.command.Command.TheVariants.{Run, Check}
-use Rattle.psm_program.specs.Reading.{ReadsWhole}
-use Rattle.psm_program.specs.Whole.{RunsWhole, IsCutShort, IsFirstFew, SaysExceptions, LeavesTheOnlyRun, WritesFront}
-use Rattle.psm_program.specs.declared.status.Status.{Status}
-use Rattle.psm_program.specs.declared.status.Status.TheVariants.{Done, DoneWithExceptions, Usage, ReadFault, WriteFault, NoMemory, ScriptTooLong}
-use Rattle.psm_program.proofs.LowerLaws.{one_lexing, some_lexing, one_statement, some_statement, one_checked, some_checked}
+use Rattle.program_status.specs.Reading.{ReadsWhole}
+use Rattle.psm_program.specs.Whole.{RunsWhole, IsCutShort, IsFirstFew, SaysExceptions}
+use Rattle.psm_program.specs.Whole.{LeavesTheOnlyRun, WritesFront}
+use Rattle.program_status.specs.declared.status.Status.{Status}
+use Rattle.program_status.specs.declared.status.Status.TheVariants.{Done, DoneWithExceptions, Usage}
+use Rattle.program_status.specs.declared.status.Status.TheVariants.{ReadFault, WriteFault, NoMemory}
+use Rattle.program_status.specs.declared.status.Status.TheVariants.{ScriptTooLong}
+use Rattle.psm_program.proofs.LowerLaws.{one_lexing, some_lexing, one_statement, some_statement}
+use Rattle.psm_program.proofs.LowerLaws.{one_checked, some_checked}
 use Rattle.psm_program.proofs.Runs.{some_run, runs_same, runs_front}
 
 -- what a command does is determined
 Does-determined : (command : Command) (t : Lexing) → IsDetermined (Does command t) (length t.tokens)
 Does-determined Run t = record {
-  one = λ at before r r' to to' after after' p q. one_statement t at before r r' to to' after after' p.1 q.1;
+  one = λ at before r r' to to' after after' p q. one_statement t at before r r' to to' after after'
+      p.1 q.1;
   ends = λ before r to after p. absurd (omega (arith, p.0));
 }
 Does-determined Check t = record {
-  one = λ at before r r' to to' after after' p q. one_checked t at before r r' to to' after after' p.1 q.1;
+  one = λ at before r r' to to' after after' p q. one_checked t at before r r' to to' after after'
+      p.1 q.1;
   ends = λ before r to after p. absurd (omega (arith, p.0));
 }
 
@@ -41,27 +51,38 @@ Does-goes_on Check t at before there =
     (s.0, s.1, s.2, (there, s.3), s.4, s.5)
 
 -- Each script has a run.
-pub script_some : (command : Command) (bytes : List ℕ) (before : Plain) → (replies : List (List ℕ)) × (after : Plain) × Script command bytes before replies after
+pub script_some : (command : Command) (bytes : List ℕ) (before : Plain) →
+    (replies : List (List ℕ)) × (after : Plain) × Script command bytes before replies after
 script_some command bytes before =
     let t = some_lexing bytes in
     let run = some_run (Does command t.0) (length t.0.tokens) (Does-goes_on command t.0) before in
     (run.0, run.1, record { lexing = t.0; lexed = t.1; ran = run.2 })
 
 -- A script has one list of replies, and leaves one database.
-pub script_same : (command : Command) (bytes : List ℕ) (before : Plain) (rs rs' : List (List ℕ)) (after after' : Plain) → Script command bytes before rs after → Script command bytes before rs' after'
+pub script_same : (command : Command) (bytes : List ℕ) (before : Plain) (rs rs' : List (List ℕ))
+    (after after' : Plain) → Script command bytes before rs after →
+    Script command bytes before rs' after'
     → (rs ≡ rs') × (after ≡ after')
 script_same command bytes before rs rs' after after' p q =
     let same : p.lexing ≡ q.lexing = one_lexing bytes p.lexing q.lexing p.lexed q.lexed in
-    let ran : Runs (Does command q.lexing) 0 before rs (length q.lexing.tokens) after = subst (λ (t : Lexing). Runs (Does command t) 0 before rs (length t.tokens) after) same p.ran in
-    runs_same (Does command q.lexing) (length q.lexing.tokens) (Does-determined command q.lexing) 0 before rs rs' after after' ran q.ran
+    let ran : Runs (Does command q.lexing) 0 before rs (length q.lexing.tokens) after =
+    subst (λ (t : Lexing). Runs (Does command t) 0 before rs (length t.tokens) after) same
+    p.ran in
+    runs_same (Does command q.lexing) (length q.lexing.tokens) (Does-determined command q.lexing) 0
+    before rs rs' after after' ran q.ran
 
 -- The first statements of a script give the first of its replies.
-pub script_front : (command : Command) (bytes : List ℕ) (t : Lexing) (before : Plain) (few rs : List (List ℕ)) (to : ℕ) (mid last : Plain) → IsTokens bytes t
-    → Runs (Does command t) 0 before few to mid → Script command bytes before rs last → (more : List (List ℕ)) × (rs ≡ few ++ more)
+pub script_front : (command : Command) (bytes : List ℕ) (t : Lexing) (before : Plain)
+    (few rs : List (List ℕ)) (to : ℕ) (mid last : Plain) → IsTokens bytes t
+    → Runs (Does command t) 0 before few to mid → Script command bytes before rs last →
+    (more : List (List ℕ)) × (rs ≡ few ++ more)
 script_front command bytes t before few rs to mid last lexed p q =
     let same : q.lexing ≡ t = one_lexing bytes q.lexing t q.lexed lexed in
-    let ran : Runs (Does command t) 0 before rs (length t.tokens) last = subst (λ (u : Lexing). Runs (Does command u) 0 before rs (length u.tokens) last) same q.ran in
-    runs_front (Does command t) (length t.tokens) (Does-determined command t) 0 before few rs to mid last p ran
+    let ran : Runs (Does command t) 0 before rs (length t.tokens) last =
+    subst (λ (u : Lexing). Runs (Does command u) 0 before rs (length u.tokens) last) same
+    q.ran in
+    runs_front (Does command t) (length t.tokens) (Does-determined command t) 0 before few rs to mid
+    last p ran
 
 whole-append : (xs ys : List (List ℕ)) → whole (xs ++ ys) ≡ whole xs ++ whole ys
 whole-append xs ys = flat_map-append (λ r. r) xs ys
@@ -71,116 +92,172 @@ exception_length : (reply : List ℕ) → is_exception reply ≡ true → 0 < le
 exception_length [] e = cc
 exception_length (b ∷ bs) e = omega arith
 
-first_or_later : (r : List ℕ) (rs : List (List ℕ)) → (has_exception rs ≡ true → 0 < length (whole rs)) → (b : Bool) → is_exception r ≡ b
+first_or_later : (r : List ℕ) (rs : List (List ℕ)) →
+    (has_exception rs ≡ true → 0 < length (whole rs)) → (b : Bool) → is_exception r ≡ b
     → (is_exception r || has_exception rs) ≡ true → 0 < length (r ++ whole rs)
 first_or_later r rs later true h e = omega (arith, length-append r (whole rs), exception_length r h)
-first_or_later r rs later false h e = omega (arith, length-append r (whole rs), later (ap (λ x. x || has_exception rs) (sym h) ∙ e))
+first_or_later r rs later false h e = omega (
+  arith,
+  length-append r (whole rs),
+  later
+      (ap (λ x. x || has_exception rs) (sym h) ∙ e),
+)
 
 exceptions_length : (rs : List (List ℕ)) → has_exception rs ≡ true → 0 < length (whole rs)
 exceptions_length [] e = cc
 exceptions_length (r ∷ rs) e = first_or_later r rs (exceptions_length rs) (is_exception r) refl e
 
 -- what was taken and not flushed is not all flushed
-unflushed : (told told' : Option Told) (t : Told) (w more : List ℕ) → IsWithin told → told ≡ Some t → Takes told told' w
+unflushed : (told told' : Option TakenBytes) (t : TakenBytes) (w more : List ℕ) → IsWithin told →
+    told ≡ Some t → Takes told told' w
     → told' ≡ Some (all_flushed (with_bytes t more)) → 0 < length more → ⊥
 unflushed told told' t w more within is takes all some =
-    let within' : IsWithin (Some t) = subst (λ (o : Option Told). IsWithin o) is within in
-    let takes' : told' ≡ Some (with_bytes t w) = subst (λ (o : Option Told). Takes o told' w) is takes in
+    let within' : IsWithin (Some t) = subst (λ (o : Option TakenBytes). IsWithin o) is within in
+    let takes' : told' ≡ Some (with_bytes t w) =
+    subst (λ (o : Option TakenBytes). Takes o told' w) is takes in
     let same : with_bytes t w ≡ all_flushed (with_bytes t more) = cc (sym takes' ∙ all) in
-    let flushed : t.flushed ≡ length (t.bytes ++ more) = ap (λ (x : Told). x.flushed) same in
+    let flushed : t.flushed ≡ length (t.bytes ++ more) = ap (λ (x : TakenBytes). x.flushed) same in
     omega (arith, length-append t.bytes more)
 
-pub script_is : (left left' : Option (List ℕ)) (xs script : List ℕ) → left ≡ Some xs → ReadsWhole left left' script → xs ≡ script
+pub script_is : (left left' : Option (List ℕ)) (xs script : List ℕ) → left ≡ Some xs →
+    ReadsWhole left left' script → xs ≡ script
 script_is left None xs script is r =
-    let bad : Consumes (Some xs) None script = subst (λ (o : Option (List ℕ)). Consumes o None script) is r.bytes in absurd bad
+    let bad : Consumes (Some xs) None script =
+    subst (λ (o : Option (List ℕ)). Consumes o None script) is r.bytes in absurd bad
 script_is left (Some ys) xs script is r =
-    let used : xs ≡ script ++ ys = subst (λ (o : Option (List ℕ)). Consumes o (Some ys) script) is r.bytes in
+    let used : xs ≡ script ++ ys = subst (λ (o : Option (List ℕ)). Consumes o (Some ys) script) is
+    r.bytes in
     used ∙ ap (λ z. script ++ z) r.end ∙ append-nil script
 
-module _ (command : Command) (left left' : Option (List ℕ)) (told told' : Option Told) (before after : Plain) (within : IsWithin told) where
+module _ (command : Command) (left left' : Option (List ℕ)) (told told' : Option TakenBytes)
+    (before after : Plain) (within : IsWithin told) where
   pub exactly : (status : Status)
       → (status ≡ Done → RunsWhole command left left' told told' before after false)
       → (status ≡ WriteFault → IsCutShort command left left' told told' before after)
-      → (status ≡ NoMemory → Takes told told' [] ⊎ IsFirstFew command left left' told told' before after)
+      → (status ≡ NoMemory → Takes told told' [] ⊎
+      IsFirstFew command left left' told told' before after)
       → ((status ≡ Usage) ⊎ ((status ≡ ReadFault) ⊎ (status ≡ ScriptTooLong)) → Takes told told' [])
       → SaysExceptions command left told told' before status
   exactly Done done cut few rest = λ script replies last t is ran excepts tells all.
       let r = done refl in
       let same : script ≡ r.script = script_is left left' script r.script is r.read in
-      let ran' : Script command r.script before replies last = subst (λ (s : List ℕ). Script command s before replies last) same ran in
-      let mine : Script command r.script before r.completes.replies after = record { lexing = r.lexing; lexed = r.lexed; ran = r.completes.ran } in
-      let replies_same : r.completes.replies ≡ replies = (script_same command r.script before r.completes.replies replies after last mine ran').0 in
+      let ran' : Script command r.script before replies last =
+      subst (λ (s : List ℕ). Script command s before replies last) same ran in
+      let mine : Script command r.script before r.completes.replies after =
+      record { lexing = r.lexing; lexed = r.lexed; ran = r.completes.ran } in
+      let replies_same : r.completes.replies ≡ replies =
+      (script_same command r.script before r.completes.replies replies after last mine ran').0
+      in
       let no : false ≡ true = sym r.completes.kind ∙ ap has_exception replies_same ∙ excepts in
       cc
-  exactly DoneWithExceptions done cut few rest = λ script replies last t is ran excepts tells all. refl
+  exactly DoneWithExceptions done cut few rest = λ script replies last t is ran excepts tells all.
+      refl
   exactly WriteFault done cut few rest = λ script replies last t is ran excepts tells all.
       absurd (elim (cut refl).cut [
-        | inl x ↦ unflushed told told' t _ _ within tells x.written all (exceptions_length replies excepts)
-        | inr x ↦ unflushed told told' t _ _ within tells x.written all (exceptions_length replies excepts)
+        | inl x ↦ unflushed told told' t _ _ within tells x.written all
+            (exceptions_length replies excepts)
+        | inr x ↦ unflushed told told' t _ _ within tells x.written all
+            (exceptions_length replies excepts)
       ])
   exactly NoMemory done cut few rest = λ script replies last t is ran excepts tells all.
       absurd (elim (few refl) [
         | inl x ↦ unflushed told told' t _ _ within tells x all (exceptions_length replies excepts)
-        | inr x ↦ unflushed told told' t _ _ within tells x.first.written all (exceptions_length replies excepts)
+        | inr x ↦ unflushed told told' t _ _ within tells x.first.written all
+            (exceptions_length replies excepts)
       ])
   exactly Usage done cut few rest = λ script replies last t is ran excepts tells all.
-      absurd (unflushed told told' t _ _ within tells (rest (inl refl)) all (exceptions_length replies excepts))
+      absurd (unflushed told told' t _ _ within tells (rest (inl refl)) all
+      (exceptions_length replies excepts))
   exactly ReadFault done cut few rest = λ script replies last t is ran excepts tells all.
-      absurd (unflushed told told' t _ _ within tells (rest (inr (inl refl))) all (exceptions_length replies excepts))
+      absurd (unflushed told told' t _ _ within tells (rest (inr (inl refl))) all
+      (exceptions_length replies excepts))
   exactly ScriptTooLong done cut few rest = λ script replies last t is ran excepts tells all.
-      absurd (unflushed told told' t _ _ within tells (rest (inr (inr refl))) all (exceptions_length replies excepts))
+      absurd (unflushed told told' t _ _ within tells (rest (inr (inr refl))) all
+      (exceptions_length replies excepts))
 
 -- where nothing was written, not all was
-pub nothing_written : (command : Command) (left : Option (List ℕ)) (told : Option Told) (before : Plain) (status : Status) → IsWithin told
+pub nothing_written : (command : Command) (left : Option (List ℕ)) (told : Option TakenBytes)
+    (before : Plain) (status : Status) → IsWithin told
     → SaysExceptions command left told told before status
-nothing_written command left told before status within = λ script replies last t is ran excepts tells all.
-    absurd (unflushed told told t _ _ within tells (Takes-nil told) all (exceptions_length replies excepts))
+nothing_written command left told before status within =
+    λ script replies last t is ran excepts tells all.
+    absurd (unflushed told told t _ _ within tells (Takes-nil told) all
+    (exceptions_length replies excepts))
 
-module _ (command : Command) (left left' : Option (List ℕ)) (told told' : Option Told) (before after : Plain) where
-  pub only_run : (excepts : Bool) → RunsWhole command left left' told told' before after excepts → LeavesTheOnlyRun command left told told' before after
+module _ (command : Command) (left left' : Option (List ℕ)) (told told' : Option TakenBytes)
+    (before after : Plain) where
+  pub only_run : (excepts : Bool) → RunsWhole command left left' told told' before after excepts →
+      LeavesTheOnlyRun command left told told' before after
   only_run excepts r script replies last is ran =
       let same : script ≡ r.script = script_is left left' script r.script is r.read in
-      let ran' : Script command r.script before replies last = subst (λ (s : List ℕ). Script command s before replies last) same ran in
-      let mine : Script command r.script before r.completes.replies after = record { lexing = r.lexing; lexed = r.lexed; ran = r.completes.ran } in
-      let one = script_same command r.script before r.completes.replies replies after last mine ran' in
-      (subst (λ (rs : List (List ℕ)). TakesFlushed told told' (whole rs)) one.0 r.completes.written, one.1)
+      let ran' : Script command r.script before replies last =
+      subst (λ (s : List ℕ). Script command s before replies last) same ran in
+      let mine : Script command r.script before r.completes.replies after =
+      record { lexing = r.lexing; lexed = r.lexed; ran = r.completes.ran } in
+      let one = script_same command r.script before r.completes.replies replies after last mine ran'
+      in (
+        subst (λ (rs : List (List ℕ)). TakesFlushed told told' (whole rs)) one.0 r.completes.written,
+        one.1,
+      )
 
-module _ (command : Command) (told told' : Option Told) (t : Lexing) (script : List ℕ) (lexed : IsTokens script t) (before after : Plain) where
-  front_of_few : FirstFew (Does command t) told told' before after → (replies : List (List ℕ)) (last : Plain) → Script command script before replies last
-      → (front : List ℕ) × (rest : List ℕ) × (whole replies ≡ front ++ rest) × Takes told told' front
+module _ (command : Command) (told told' : Option TakenBytes) (t : Lexing) (script : List ℕ)
+    (lexed : IsTokens script t) (before after : Plain) where
+  front_of_few : FirstFew (Does command t) told told' before after →
+      (replies : List (List ℕ)) (last : Plain) → Script command script before replies last
+      → (front : List ℕ) × (rest : List ℕ) × (whole replies ≡ front ++ rest) ×
+      Takes told told' front
   front_of_few f replies last ran =
-      let more = script_front command script t before f.replies replies f.to after last lexed f.ran ran in
+      let more = script_front command script t before f.replies replies f.to after last lexed f.ran
+      ran in
       (whole f.replies, whole more.0, ap whole more.1 ∙ whole-append f.replies more.0, f.written)
 
-  front_of_cut : CutInReply (Does command t) told told' before after → (replies : List (List ℕ)) (last : Plain) → Script command script before replies last
-      → (front : List ℕ) × (rest : List ℕ) × (whole replies ≡ front ++ rest) × Takes told told' front
+  front_of_cut : CutInReply (Does command t) told told' before after →
+      (replies : List (List ℕ)) (last : Plain) → Script command script before replies last
+      → (front : List ℕ) × (rest : List ℕ) × (whole replies ≡ front ++ rest) ×
+      Takes told told' front
   front_of_cut f replies last ran =
-      let more = script_front command script t before (f.replies ++ f.reply ∷ []) replies f.to after last lexed f.ran ran in
+      let more = script_front command script t before (f.replies ++ f.reply ∷ []) replies f.to after
+      last lexed f.ran ran in
       let all : whole replies ≡ (whole f.replies ++ f.reply) ++ whole more.0 =
-      ap whole more.1 ∙ whole-append (f.replies ++ f.reply ∷ []) more.0 ∙ ap (λ x. x ++ whole more.0) (whole-more f.replies f.reply) in (
+      ap whole more.1 ∙ whole-append (f.replies ++ f.reply ∷ []) more.0 ∙
+      ap (λ x. x ++ whole more.0) (whole-more f.replies f.reply) in (
         whole f.replies ++ f.front,
         f.cut.0 ++ whole more.0,
-        all ∙ ap (λ x. (whole f.replies ++ x) ++ whole more.0) f.cut.2 ∙ grind (arith, append_assoc),
+        all ∙ ap (λ x. (whole f.replies ++ x) ++ whole more.0) f.cut.2 ∙
+            grind (arith, append_assoc),
         f.written,
       )
 
-module _ (command : Command) (left left' : Option (List ℕ)) (told told' : Option Told) (before after : Plain) where
+module _ (command : Command) (left left' : Option (List ℕ)) (told told' : Option TakenBytes)
+    (before after : Plain) where
   pub front_of_none : Takes told told' [] → WritesFront command left told told' before
   front_of_none w script replies last is ran = ([], whole replies, refl, w)
 
-  pub front_of_first : IsFirstFew command left left' told told' before after → WritesFront command left told told' before
+  pub front_of_first : IsFirstFew command left left' told told' before after →
+      WritesFront command left told told' before
   front_of_first f script replies last is ran =
       let same : script ≡ f.script = script_is left left' script f.script is f.read in
-      let ran' : Script command f.script before replies last = subst (λ (s : List ℕ). Script command s before replies last) same ran in
-      front_of_few command told told' f.lexing f.script f.lexed before after f.first replies last ran'
+      let ran' : Script command f.script before replies last =
+      subst (λ (s : List ℕ). Script command s before replies last) same ran in
+      front_of_few command told told' f.lexing f.script f.lexed before after f.first replies last
+      ran'
 
-  pub front_of_short : IsCutShort command left left' told told' before after → WritesFront command left told told' before
+  pub front_of_short : IsCutShort command left left' told told' before after →
+      WritesFront command left told told' before
   front_of_short f script replies last is ran =
       let same : script ≡ f.script = script_is left left' script f.script is f.read in
-      let ran' : Script command f.script before replies last = subst (λ (s : List ℕ). Script command s before replies last) same ran in
+      let ran' : Script command f.script before replies last =
+      subst (λ (s : List ℕ). Script command s before replies last) same ran in
       elim f.cut [
-        | inl x ↦ front_of_cut command told told' f.lexing f.script f.lexed before after x replies last ran'
+        | inl x ↦ front_of_cut command told told' f.lexing f.script f.lexed before after x replies
+            last ran'
         | inr x ↦
             front_of_few command told told' f.lexing f.script f.lexed before after
-            (record { replies = x.replies; to = length f.lexing.tokens; ran = x.ran; written = x.written }) replies last ran'
+            (record {
+              replies = x.replies;
+              to = length f.lexing.tokens;
+              ran = x.ran;
+              written =
+                  x.written;
+            }) replies last ran'
       ]

@@ -1,30 +1,35 @@
 -- How far a run over a step came: what was written, and the database that is left. `told` and
 -- `told'` are what the sink tells before and after.
 use Rattle.std.specs.Prelude.{◌≡◌, ◌⊎◌, ℕ, Bool, true, false, List, [], ◌∷◌, ◌++◌, Option}
-use Rattle.io_edges.specs.Told.{Told, Takes, TakesFlushed}
-use Rattle.psm_program.specs.Script.{Step, Runs, whole, has_exception, is_exception}
-use Rattle.psm_program.specs.Writing.{IsProperFront}
-use Rattle.psm_program.specs.declared.run.Stop.{Stop}
-use Rattle.psm_program.specs.declared.run.Stop.TheVariants as stop
-use Rattle.psm_program.specs.declared.status.Status.{Status}
-use Rattle.psm_program.specs.declared.status.Status.TheVariants.{Done, DoneWithExceptions, WriteFault, NoMemory}
+use Rattle.io_edges.specs.TakenBytes.{TakenBytes, Takes, TakesFlushed}
+use Rattle.program_status.specs.Replies.{is_exception}
+use Rattle.psm_program.specs.Script.{Step, Runs, whole, has_exception}
+use Rattle.program_status.specs.Writing.{IsProperFront}
+use Rattle.psm_program.specs.declared.run.Interruption.{Interruption}
+use Rattle.psm_program.specs.declared.run.Interruption.TheVariants as stop
+use Rattle.program_status.specs.declared.status.Status.{Status}
+use Rattle.program_status.specs.declared.status.Status.TheVariants.{Done, DoneWithExceptions}
+use Rattle.program_status.specs.declared.status.Status.TheVariants.{WriteFault, NoMemory}
 
 -- the first statements, up to a place: their replies were written
-pub record RanTo {D : Type 0} (step : Step D) (to : ℕ) (told told' : Option Told) (before after : D) (excepts : Bool) : Type 0 where
+pub record RanTo {D : Type 0} (step : Step D) (to : ℕ) (told told' : Option TakenBytes)
+    (before after : D) (excepts : Bool) : Type 0 where
   pub replies : List (List ℕ)
   pub ran : Runs step 0 before replies to after
   pub kind : has_exception replies ≡ excepts
   pub written : Takes told told' (whole replies)
 
 -- one statement: its reply was written
-pub record Stepped {D : Type 0} (step : Step D) (at to : ℕ) (told told' : Option Told) (before after : D) (excepts : Bool) : Type 0 where
+pub record Stepped {D : Type 0} (step : Step D) (at to : ℕ) (told told' : Option TakenBytes)
+    (before after : D) (excepts : Bool) : Type 0 where
   pub reply : List ℕ
   pub ran : step at before reply to after
   pub kind : is_exception reply ≡ excepts
   pub written : Takes told told' reply
 
 -- one statement: a front of its reply was written, and not all of it
-pub record StepCut {D : Type 0} (step : Step D) (at : ℕ) (told told' : Option Told) (before after : D) : Type 0 where
+pub record StepCut {D : Type 0} (step : Step D) (at : ℕ) (told told' : Option TakenBytes)
+    (before after : D) : Type 0 where
   pub reply : List ℕ
   pub to : ℕ
   pub ran : step at before reply to after
@@ -33,14 +38,16 @@ pub record StepCut {D : Type 0} (step : Step D) (at : ℕ) (told told' : Option 
   pub written : Takes told told' front
 
 -- the first statements: their replies were written whole, and nothing else
-pub record FirstFew {D : Type 0} (step : Step D) (told told' : Option Told) (before after : D) : Type 0 where
+pub record FirstFew {D : Type 0} (step : Step D) (told told' : Option TakenBytes)
+    (before after : D) : Type 0 where
   pub replies : List (List ℕ)
   pub to : ℕ
   pub ran : Runs step 0 before replies to after
   pub written : Takes told told' (whole replies)
 
 -- the first statements: their replies were written, but not all of the last one
-pub record CutInReply {D : Type 0} (step : Step D) (told told' : Option Told) (before after : D) : Type 0 where
+pub record CutInReply {D : Type 0} (step : Step D) (told told' : Option TakenBytes)
+    (before after : D) : Type 0 where
   pub replies : List (List ℕ)
   pub reply : List ℕ
   pub to : ℕ
@@ -50,38 +57,39 @@ pub record CutInReply {D : Type 0} (step : Step D) (told told' : Option Told) (b
   pub written : Takes told told' (whole replies ++ front)
 
 -- all statements up to the end: their replies were written, and none of it is flushed
-pub record Unflushed {D : Type 0} (step : Step D) (end : ℕ) (told told' : Option Told) (before after : D) : Type 0 where
+pub record Unflushed {D : Type 0} (step : Step D) (end : ℕ) (told told' : Option TakenBytes)
+    (before after : D) : Type 0 where
   pub replies : List (List ℕ)
   pub ran : Runs step 0 before replies end after
   pub written : Takes told told' (whole replies)
 
 -- all statements up to the end: their replies were written and flushed
-pub record Completes {D : Type 0} (step : Step D) (end : ℕ) (told told' : Option Told) (before after : D) (excepts : Bool) : Type 0 where
+pub record Completes {D : Type 0} (step : Step D) (end : ℕ) (told told' : Option TakenBytes)
+    (before after : D) (excepts : Bool) : Type 0 where
   pub replies : List (List ℕ)
   pub ran : Runs step 0 before replies end after
   pub kind : has_exception replies ≡ excepts
   pub written : TakesFlushed told told' (whole replies)
 
 -- why one statement stopped the run
-abbrev pub StepStopped : {D : Type 0} → Stop → Step D → ℕ → Option Told → Option Told → D → D → Type 0
+abbrev pub StepStopped : {D : Type 0} → Interruption → Step D → ℕ → Option TakenBytes →
+    Option TakenBytes → D → D → Type 0
 StepStopped stop.Write step at told told' before after = StepCut step at told told' before after
 StepStopped stop.Memory step at told told' before after = (told' ≡ told) × (after ≡ before)
 
-abbrev pub Stopped : {D : Type 0} → Stop → Step D → Option Told → Option Told → D → D → Type 0
+-- why the statements stopped, and what was written by then
+abbrev pub Stopped : {D : Type 0} → Interruption → Step D → Option TakenBytes → Option TakenBytes →
+    D → D → Type 0
 Stopped stop.Write step told told' before after = CutInReply step told told' before after
 Stopped stop.Memory step told told' before after = FirstFew step told told' before after
 
--- the flush after all replies, at each status
-abbrev pub Finishes : Bool → Option Told → Option Told → Status → Type 0
-Finishes excepts told told' Done = (excepts ≡ false) × TakesFlushed told told' []
-Finishes excepts told told' DoneWithExceptions = (excepts ≡ true) × TakesFlushed told told' []
-Finishes excepts told told' WriteFault = Takes told told' []
-Finishes excepts told told' _ = ⊥
-
 -- a run, at each status
-abbrev pub Ends : {D : Type 0} → Step D → ℕ → Option Told → Option Told → D → D → Status → Type 0
+abbrev pub Ends : {D : Type 0} → Step D → ℕ → Option TakenBytes → Option TakenBytes → D → D →
+    Status → Type 0
 Ends step end told told' before after Done = Completes step end told told' before after false
-Ends step end told told' before after DoneWithExceptions = Completes step end told told' before after true
-Ends step end told told' before after WriteFault = CutInReply step told told' before after ⊎ Unflushed step end told told' before after
+Ends step end told told' before after DoneWithExceptions =
+    Completes step end told told' before after true
+Ends step end told told' before after WriteFault = CutInReply step told told' before after ⊎
+    Unflushed step end told told' before after
 Ends step end told told' before after NoMemory = FirstFew step told told' before after
 Ends step end told told' before after _ = ⊥

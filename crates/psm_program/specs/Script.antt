@@ -1,7 +1,8 @@
 -- Runs of statements, over any step: the replies one after the other, and the database that they
 -- leave.
-use Rattle.std.specs.Prelude.{◌≡◌, ◌==◌, ◌<◌, ◌≤◌, ℕ, Bool, false, List, [], ◌∷◌, Option, None, Some, slice_get, flat_map}
+use Rattle.std.specs.Prelude.{◌≡◌, ◌<◌, ◌≤◌, ℕ, Bool, List, [], ◌∷◌, flat_map}
 use Rattle.std.specs.List.{list_any}
+use Rattle.program_status.specs.Replies.{is_exception}
 
 -- One statement: at this place it takes the one database to the other, with this reply, and the
 -- next one begins at `to`.
@@ -12,31 +13,28 @@ Step D = ℕ → D → List ℕ → ℕ → D → Type 0
 -- database that they leave
 abbrev pub Runs : {D : Type 0} → Step D → ℕ → D → List (List ℕ) → ℕ → D → Type 0
 Runs step at before [] to after = (to ≡ at) × (after ≡ before)
-Runs {D} step at before (reply ∷ replies) to after = (mid : ℕ) × (between : D) × step at before reply mid between × Runs step mid between replies to after
+Runs {D} step at before (reply ∷ replies) to after = (mid : ℕ) × (between : D) ×
+    step at before reply mid between × Runs step mid between replies to after
 
 -- A statement at a place has one outcome, and none begins at the end. Only where each step is so
 -- has a script one run: a step with a reply that is free in part is not, though there are runs of
 -- it.
 pub record IsDetermined {D : Type 0} (step : Step D) (end : ℕ) : Type 0 where
-  pub one : (at : ℕ) (before : D) (reply reply' : List ℕ) (to to' : ℕ) (after after' : D) → step at before reply to after → step at before reply' to' after' → (reply ≡ reply') × (to ≡ to') × (after ≡ after')
+  pub one : (at : ℕ) (before : D) (reply reply' : List ℕ) (to to' : ℕ) (after after' : D) →
+      step at before reply to after → step at before reply' to' after' → (reply ≡ reply') ×
+      (to ≡ to') × (after ≡ after')
   pub ends : (before : D) (reply : List ℕ) (to : ℕ) (after : D) → step end before reply to after → ⊥
 
 -- a statement at this place has an outcome, and the next one begins further on, up to the end
 abbrev pub GoesOn : {D : Type 0} → Step D → ℕ → ℕ → D → Type 0
-GoesOn {D} step end at before = (reply : List ℕ) × (to : ℕ) × (after : D) × step at before reply to after × (at < to) × (to ≤ end)
+GoesOn {D} step end at before = (reply : List ℕ) × (to : ℕ) × (after : D) ×
+    step at before reply to after × (at < to) × (to ≤ end)
 
 -- so at each place before the end, whatever the database
 abbrev pub AlwaysGoesOn : {D : Type 0} → Step D → ℕ → Type 0
 AlwaysGoesOn {D} step end = (at : ℕ) (before : D) → at < end → GoesOn step end at before
 
-abbrev pub begins_with_mark : Option ℕ → Bool
-begins_with_mark None = false
-begins_with_mark (Some b) = b == 33
-
--- a reply begins with `!` where its statement ended in an exception or a fault
-abbrev pub is_exception : List ℕ → Bool
-is_exception reply = begins_with_mark (slice_get reply 0)
-
+-- one of the replies tells of an exception or a fault
 abbrev pub has_exception : List (List ℕ) → Bool
 has_exception replies = list_any is_exception replies
 

@@ -11,11 +11,14 @@ use Rattle.psm_words.specs.declared.command.Command.TheVariants.{Run, Check}
 
 -- what a command does with the statement that begins at a token
 abbrev pub Does : Command → Lexing → Step Plain
-Does Run lexing at before reply to after = (at < length lexing.tokens) × Statement lexing at before reply to after
-Does Check lexing at before reply to after = (at < length lexing.tokens) × Checked lexing at before reply to after
+Does Run lexing at before reply to after = (at < length lexing.tokens) ×
+    Statement lexing at before reply to after
+Does Check lexing at before reply to after = (at < length lexing.tokens) ×
+    Checked lexing at before reply to after
 
 -- to the command the bytes are a script with these replies, and it leaves this database
-pub record Script (command : Command) (bytes : List ℕ) (before : Plain) (replies : List (List ℕ)) (after : Plain) : Type 0 where
+pub record Script (command : Command) (bytes : List ℕ) (before : Plain) (replies : List (List ℕ))
+    (after : Plain) : Type 0 where
   pub lexing : Lexing
   pub lexed : IsTokens bytes lexing
   pub ran : Runs (Does command lexing) 0 before replies (length lexing.tokens) after

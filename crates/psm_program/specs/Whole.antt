@@ -1,40 +1,44 @@
 -- What a call of the program says of its edges, at each status. `left` and `left'` are what the
 -- source has left before and after, `told` and `told'` what the sink tells, `before` and `after`
 -- the database.
-use Rattle.std.specs.Prelude.{◌≡◌, ◌⊎◌, ℕ, Bool, true, List, [], ◌++◌, length, Option, Some, codes}
-use Rattle.io_edges.specs.Causes.{Rose}
-use Rattle.io_edges.specs.Told.{Told, Takes, TakesFlushed, with_bytes, all_flushed}
+use Rattle.std.specs.Prelude.{◌≡◌, ◌⊎◌, ℕ, Bool, true, List, ◌++◌, length, Option, Some}
+use Rattle.io_edges.specs.TakenBytes.{TakenBytes, Takes, TakesFlushed, with_bytes, all_flushed}
 use Rattle.sql_lex.specs.Tokens.{Lexing, IsTokens}
 use Rattle.psm_session.specs.Database.{Plain}
 use Rattle.psm_program.specs.Script.{whole, has_exception}
 use Rattle.psm_program.specs.Session.{Does, Script}
 use Rattle.psm_words.specs.declared.command.Command.{Command}
-use Rattle.psm_program.specs.Reading.{ReadsWhole, TakesCount}
+use Rattle.program_status.specs.Reading.{ReadsWhole, TakesCount}
 use Rattle.psm_program.specs.Outcome.{Completes, CutInReply, Unflushed, FirstFew, Ends}
-use Rattle.psm_program.specs.declared.status.Status.{Status}
-use Rattle.psm_program.specs.declared.status.Status.TheVariants.{Done, DoneWithExceptions, Usage, ReadFault, WriteFault, NoMemory, ScriptTooLong}
+use Rattle.program_status.specs.declared.status.Status.{Status}
+use Rattle.program_status.specs.declared.status.Status.TheVariants.{DoneWithExceptions}
 
 -- The source was read to its end. What it gave is the script; its replies were written and flushed.
-pub record RunsWhole (command : Command) (left left' : Option (List ℕ)) (told told' : Option Told) (before after : Plain) (excepts : Bool) : Type 0 where
+pub record RunsWhole (command : Command) (left left' : Option (List ℕ))
+    (told told' : Option TakenBytes) (before after : Plain) (excepts : Bool) : Type 0 where
   pub script : List ℕ
   pub read : ReadsWhole left left' script
   pub lexing : Lexing
   pub lexed : IsTokens script lexing
-  pub completes : Completes (Does command lexing) (length lexing.tokens) told told' before after excepts
+  pub completes : Completes (Does command lexing) (length lexing.tokens) told told' before after
+      excepts
 
 -- The source was read to its end. The sink took the replies of the first statements, but not all of
 -- the last one, and the database is the one after these statements; or it took all replies, with
 -- the flush refused.
-pub record IsCutShort (command : Command) (left left' : Option (List ℕ)) (told told' : Option Told) (before after : Plain) : Type 0 where
+pub record IsCutShort (command : Command) (left left' : Option (List ℕ))
+    (told told' : Option TakenBytes) (before after : Plain) : Type 0 where
   pub script : List ℕ
   pub read : ReadsWhole left left' script
   pub lexing : Lexing
   pub lexed : IsTokens script lexing
-  pub cut : CutInReply (Does command lexing) told told' before after ⊎ Unflushed (Does command lexing) (length lexing.tokens) told told' before after
+  pub cut : CutInReply (Does command lexing) told told' before after ⊎
+      Unflushed (Does command lexing) (length lexing.tokens) told told' before after
 
 -- The source was read to its end. The sink took the replies of the first statements, whole, and
 -- nothing else.
-pub record IsFirstFew (command : Command) (left left' : Option (List ℕ)) (told told' : Option Told) (before after : Plain) : Type 0 where
+pub record IsFirstFew (command : Command) (left left' : Option (List ℕ))
+    (told told' : Option TakenBytes) (before after : Plain) : Type 0 where
   pub script : List ℕ
   pub read : ReadsWhole left left' script
   pub lexing : Lexing
@@ -42,7 +46,8 @@ pub record IsFirstFew (command : Command) (left left' : Option (List ℕ)) (told
   pub first : FirstFew (Does command lexing) told told' before after
 
 -- a run of a script, at each status
-pub record EndsOn (command : Command) (script : List ℕ) (told told' : Option Told) (before after : Plain) (status : Status) : Type 0 where
+pub record EndsOn (command : Command) (script : List ℕ) (told told' : Option TakenBytes)
+    (before after : Plain) (status : Status) : Type 0 where
   pub lexing : Lexing
   pub lexed : IsTokens script lexing
   pub ends : Ends (Does command lexing) (length lexing.tokens) told told' before after status
@@ -53,47 +58,28 @@ ReadsCount left left' n = TakesCount left left' (λ k. k ≡ n)
 
 -- Where the source had this script, a reply of it begins with `!`, and all was written and flushed,
 -- the status says so.
-abbrev pub SaysExceptions : Command → Option (List ℕ) → Option Told → Option Told → Plain → Status → Type 0
-SaysExceptions command left told told' before status = (script : List ℕ) (replies : List (List ℕ)) (after : Plain) (t : Told)
+abbrev pub SaysExceptions : Command → Option (List ℕ) → Option TakenBytes → Option TakenBytes →
+    Plain → Status → Type 0
+SaysExceptions command left told told' before status =
+    (script : List ℕ) (replies : List (List ℕ)) (after : Plain) (t : TakenBytes)
     → left ≡ Some script → Script command script before replies after → has_exception replies ≡ true
     → told ≡ Some t → told' ≡ Some (all_flushed (with_bytes t (whole replies)))
     → status ≡ DoneWithExceptions
 
 -- Where all was done: whatever run the script has, its replies are what was written and flushed,
 -- and its database is what is left.
-abbrev pub LeavesTheOnlyRun : Command → Option (List ℕ) → Option Told → Option Told → Plain → Plain → Type 0
-LeavesTheOnlyRun command left told told' before after = (script : List ℕ) (replies : List (List ℕ)) (last : Plain)
+abbrev pub LeavesTheOnlyRun : Command → Option (List ℕ) → Option TakenBytes → Option TakenBytes →
+    Plain → Plain → Type 0
+LeavesTheOnlyRun command left told told' before after =
+    (script : List ℕ) (replies : List (List ℕ)) (last : Plain)
     → left ≡ Some script → Script command script before replies last
     → TakesFlushed told told' (whole replies) × (after ≡ last)
 
 -- Whatever run the script has, what was written is a front of its replies, and none of it is
 -- flushed.
-abbrev pub WritesFront : Command → Option (List ℕ) → Option Told → Option Told → Plain → Type 0
-WritesFront command left told told' before = (script : List ℕ) (replies : List (List ℕ)) (last : Plain)
+abbrev pub WritesFront : Command → Option (List ℕ) → Option TakenBytes → Option TakenBytes → Plain →
+    Type 0
+WritesFront command left told told' before = (script : List ℕ) (replies : List (List ℕ))
+    (last : Plain)
     → left ≡ Some script → Script command script before replies last
     → (front : List ℕ) × (rest : List ℕ) × (whole replies ≡ front ++ rest) × Takes told told' front
-
--- the number that the process ends with
-abbrev pub number_of : Status → ℕ
-number_of Done = 0
-number_of DoneWithExceptions = 1
-number_of Usage = 2
-number_of ReadFault = 3
-number_of WriteFault = 4
-number_of NoMemory = 5
-number_of ScriptTooLong = 6
-
--- the line for `err`
-abbrev pub line_of : Status → List ℕ
-line_of Done = []
-line_of DoneWithExceptions = []
-line_of Usage = codes "usage: psm run [--plain] [--budget N] [--dump] | psm check | psm demo --seed S --rows N\n"
-line_of ReadFault = codes "psm: read failed\n"
-line_of WriteFault = codes "psm: write failed\n"
-line_of NoMemory = codes "psm: no memory\n"
-line_of ScriptTooLong = codes "psm: script too long\n"
-
--- a front of the line was taken, and all of it where the count did not rise
-pub record Tells (told told' : Option Told) (before now : ℕ) (line : List ℕ) : Type 0 where
-  pub front : (front : List ℕ) × (rest : List ℕ) × (line ≡ front ++ rest) × Takes told told' front
-  pub whole : (Rose before now → ⊥) → Takes told told' line

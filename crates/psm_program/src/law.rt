@@ -8,7 +8,10 @@ ghost use Rattle.psm_words.specs.declared.command.Command.{Command};
 /// To each command each list of bytes is a script with one run, whatever the database before: there
 /// are replies and a database that it leaves, and no others.
 pub fn each_script_has_one_run()
-    ensures some { (command : Command) (bytes : List ℕ) (before : Plain) → (replies : List (List ℕ)) × (after : Plain) × Script command bytes before replies after }
-    ensures no_other { (command : Command) (bytes : List ℕ) (before : Plain) (replies others : List (List ℕ)) (after last : Plain)
-        → Script command bytes before replies after → Script command bytes before others last → (replies ≡ others) × (after ≡ last) }
+    ensures some { (command : Command) (bytes : List ℕ) (before : Plain) →
+        (replies : List (List ℕ)) × (after : Plain) × Script command bytes before replies after }
+    ensures no_other { (command : Command) (bytes : List ℕ) (before : Plain)
+        (replies others : List (List ℕ)) (after last : Plain)
+        → Script command bytes before replies after → Script command bytes before others last →
+        (replies ≡ others) × (after ≡ last) }
 {}

@@ -1,27 +1,21 @@
 //! All that the program does, from words to an answer. Which answer comes, and why, stands in the
 //! clauses of `run_program`; what a script means to a command stands in specs/Session.antt.
-ghost use Rattle.std.specs.Prelude.{◌≡◌, ◌⊎◌, ◌≤◌, ◌+◌, ◌++◌, ℕ, List, length, map, Some, None, true, false};
+ghost use Rattle.std.specs.Prelude.{◌≡◌, ◌⊎◌, ◌≤◌, ◌+◌, ◌++◌, ℕ, List, length, map, Some, None};
+ghost use Rattle.std.specs.Prelude.{true, false};
 ghost use Rattle.io_edges.specs.Causes.{Rose};
 ghost use Rattle.psm_words.specs.Words.{command_of};
-ghost use Rattle.psm_program.specs.Reading.{TakesCount};
-ghost use Rattle.psm_program.specs.Whole.{RunsWhole, IsCutShort, IsFirstFew, SaysExceptions, LeavesTheOnlyRun, WritesFront, ReadsCount, Tells, line_of};
+ghost use Rattle.program_status.specs.Reading.{TakesCount};
+ghost use Rattle.program_status.specs.Statuses.{Tells, line_of};
+ghost use Rattle.psm_program.specs.Whole.{RunsWhole, IsCutShort, IsFirstFew, SaysExceptions};
+ghost use Rattle.psm_program.specs.Whole.{LeavesTheOnlyRun, WritesFront, ReadsCount};
 ghost use Rattle.psm_words.specs.declared.command.Command.{Command};
 
-use crate::read::{LIMIT, ReadEnd, read_script};
 use crate::run::run_script;
-use crate::status::Status;
-use crate::write::write_whole;
 use io_edges::{Sink, Source};
+use program_status::{LIMIT, ReadEnd, Status, read_script, tell};
 use psm_session::Database;
 use psm_words::{Command, read_words};
 use std::alloc::Global;
-
-/// Writes the line of a status. A sink that fails changes nothing else.
-pub fn tell<E: Sink>(err: &mut E, status: Status)
-    ensures { Tells (E.told err.old) (E.told err.new) (E.faults err.old) (E.faults err.new) (line_of status) }
-{
-    let _ = write_whole(err, status.line());
-}
 
 // Reads the script whole, and then runs it.
 fn run_source<S: Source, K: Sink>(
@@ -32,9 +26,11 @@ fn run_source<S: Source, K: Sink>(
     db: &mut Database,
 ) -> Status
     ensures done { result ≡ Status.Done
-        → RunsWhole command (S.left src.old) (S.left src.new) (K.told out.old) (K.told out.new) db.old db.new false }
+        → RunsWhole command (S.left src.old) (S.left src.new) (K.told out.old)
+        (K.told out.new) db.old db.new false }
     ensures exceptions { result ≡ Status.DoneWithExceptions
-        → RunsWhole command (S.left src.old) (S.left src.new) (K.told out.old) (K.told out.new) db.old db.new true }
+        → RunsWhole command (S.left src.old) (S.left src.new) (K.told out.old)
+        (K.told out.new) db.old db.new true }
     ensures usage { result ≡ Status.Usage → ⊥ }
     ensures read_fault { result ≡ Status.ReadFault
         → Rose (S.faults src.old) (S.faults src.new) × (out.new ≡ out.old) × (db.new ≡ db.old) }
@@ -44,10 +40,13 @@ fn run_source<S: Source, K: Sink>(
         ⊎ ((S.empty_reads src.new ≡ S.empty_reads src.old + 1)
         × IsFirstFew command (S.left src.old) (S.left src.new) (K.told out.old) (K.told out.new) db.old db.new) }
     ensures too_long { result ≡ Status.ScriptTooLong
-        → ReadsCount (S.left src.old) (S.left src.new) (LIMIT + 1) × (out.new ≡ out.old) × (db.new ≡ db.old) }
-    ensures within { (result ≡ Status.ScriptTooLong) ⊎ TakesCount (S.left src.old) (S.left src.new) (λ n. n ≤ LIMIT) }
+        → ReadsCount (S.left src.old) (S.left src.new) (LIMIT + 1) × (out.new ≡ out.old) ×
+        (db.new ≡ db.old) }
+    ensures within { (result ≡ Status.ScriptTooLong) ⊎
+        TakesCount (S.left src.old) (S.left src.new) (λ n. n ≤ LIMIT) }
     ensures asks { S.empty_reads src.new ≤ S.empty_reads src.old + 1 }
-    ensures ended { ((result ≡ Status.Done) ⊎ (result ≡ Status.DoneWithExceptions)) ⊎ (result ≡ Status.WriteFault)
+    ensures ended { ((result ≡ Status.Done) ⊎ (result ≡ Status.DoneWithExceptions)) ⊎
+        (result ≡ Status.WriteFault)
         → S.empty_reads src.new ≡ S.empty_reads src.old + 1 }
 {
     match read_script(alloc, src) {
@@ -71,9 +70,11 @@ pub fn run_program<'a, S: Source, K: Sink, E: Sink>(
 ) -> Status
     // 0 and 1: the source was read to its end, and all replies were written and flushed. None
     // begins with `!`, or one does.
-    ensures done { result ≡ Status.Done → (command : Command) × (command_of (map (λ w. w.now) words.entry.now) ≡ Some command)
+    ensures done { result ≡ Status.Done → (command : Command) ×
+        (command_of (map (λ w. w.now) words.entry.now) ≡ Some command)
         × RunsWhole command (S.left src.old) (S.left src.new) (K.told out.old) (K.told out.new) db.old db.new false }
-    ensures exceptions { result ≡ Status.DoneWithExceptions → (command : Command) × (command_of (map (λ w. w.now) words.entry.now) ≡ Some command)
+    ensures exceptions { result ≡ Status.DoneWithExceptions → (command : Command) ×
+        (command_of (map (λ w. w.now) words.entry.now) ≡ Some command)
         × RunsWhole command (S.left src.old) (S.left src.new) (K.told out.old) (K.told out.new) db.old db.new true }
 
     // A script has one run: its replies are what was written, and its database is what is left.
@@ -82,14 +83,16 @@ pub fn run_program<'a, S: Source, K: Sink, E: Sink>(
         → LeavesTheOnlyRun command (S.left src.old) (K.told out.old) (K.told out.new) db.old db.new }
 
     // 1 is exactly where a reply begins with `!` and all was written and flushed.
-    ensures exactly { (command : Command) → command_of (map (λ w. w.now) words.entry.now) ≡ Some command
+    ensures exactly { (command : Command) → command_of (map (λ w. w.now) words.entry.now) ≡
+        Some command
         → SaysExceptions command (S.left src.old) (K.told out.old) (K.told out.new) db.old result }
 
     // 2: only where the command does not take the words, and nothing is touched. Words that it does
     // not take give 2, or there was no memory to read them; nothing is touched then either.
     ensures usage { result ≡ Status.Usage → (command_of (map (λ w. w.now) words.entry.now) ≡ None)
         × (src.new ≡ src.old) × (out.new ≡ out.old) × (db.new ≡ db.old) }
-    ensures not_taken { command_of (map (λ w. w.now) words.entry.now) ≡ None → ((result ≡ Status.Usage) ⊎ (result ≡ Status.NoMemory))
+    ensures not_taken { command_of (map (λ w. w.now) words.entry.now) ≡ None →
+        ((result ≡ Status.Usage) ⊎ (result ≡ Status.NoMemory))
         × (src.new ≡ src.old) × (out.new ≡ out.old) × (db.new ≡ db.old) }
 
     // 3: the source failed, and nothing was run or written.
@@ -116,26 +119,33 @@ pub fn run_program<'a, S: Source, K: Sink, E: Sink>(
 
     // 6: exactly where one byte more than the limit was read, and nothing was run or written.
     ensures too_long { result ≡ Status.ScriptTooLong
-        → ReadsCount (S.left src.old) (S.left src.new) (LIMIT + 1) × (out.new ≡ out.old) × (db.new ≡ db.old) }
-    ensures too_long_there { (bytes rest : List ℕ) → S.left src.old ≡ Some (bytes ++ rest) → S.left src.new ≡ Some rest
+        → ReadsCount (S.left src.old) (S.left src.new) (LIMIT + 1) × (out.new ≡ out.old) ×
+        (db.new ≡ db.old) }
+    ensures too_long_there { (bytes rest : List ℕ) → S.left src.old ≡ Some (bytes ++ rest) →
+        S.left src.new ≡ Some rest
         → length bytes ≡ LIMIT + 1 → result ≡ Status.ScriptTooLong }
 
-    // No more is read than one byte past the limit, and at most one read takes nothing: the one that
-    // finds the end, or that fails. Where a run began, the end was found.
+    // No more is read than one byte past the limit, and at most one read takes nothing: the one
+    // that finds the end, or that fails. Where a run began, the end was found.
     ensures reads { TakesCount (S.left src.old) (S.left src.new) (λ n. n ≤ LIMIT + 1) }
     ensures asks { S.empty_reads src.new ≤ S.empty_reads src.old + 1 }
-    ensures ended { ((result ≡ Status.Done) ⊎ (result ≡ Status.DoneWithExceptions)) ⊎ (result ≡ Status.WriteFault)
+    ensures ended { ((result ≡ Status.Done) ⊎ (result ≡ Status.DoneWithExceptions)) ⊎
+        (result ≡ Status.WriteFault)
         → S.empty_reads src.new ≡ S.empty_reads src.old + 1 }
 
     // With the words of a command, a script within the limit and no fault, all is done, or memory
     // ran out.
-    ensures complete { (command : Command) → command_of (map (λ w. w.now) words.entry.now) ≡ Some command
+    ensures complete { (command : Command) → command_of (map (λ w. w.now) words.entry.now) ≡
+        Some command
         → (bytes : List ℕ) → S.left src.old ≡ Some bytes → length bytes ≤ LIMIT
-        → (Rose (S.faults src.old) (S.faults src.new) → ⊥) → (Rose (K.faults out.old) (K.faults out.new) → ⊥)
-        → ((result ≡ Status.Done) ⊎ (result ≡ Status.DoneWithExceptions)) ⊎ (result ≡ Status.NoMemory) }
+        → (Rose (S.faults src.old) (S.faults src.new) → ⊥) →
+        (Rose (K.faults out.old) (K.faults out.new) → ⊥)
+        → ((result ≡ Status.Done) ⊎ (result ≡ Status.DoneWithExceptions)) ⊎
+        (result ≡ Status.NoMemory) }
 
     // A front of the status's line, and all of it where `err` did not fail.
-    ensures err { Tells (E.told err.old) (E.told err.new) (E.faults err.old) (E.faults err.new) (line_of result) }
+    ensures err { Tells (E.told err.old) (E.told err.new) (E.faults err.old) (E.faults err.new)
+        (line_of result) }
 {
     let status = match read_words(alloc, words) {
         Ok(Some(command)) => run_source(alloc, command, src, out, db),

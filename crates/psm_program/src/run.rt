@@ -2,14 +2,12 @@
 //! next statement, and one flush at the end.
 ghost use Rattle.std.specs.Prelude.{◌≡◌, ◌<◌, ◌≤◌, length, IfOk, IfErr, OnErr, IsErrOf};
 ghost use Rattle.io_edges.specs.Causes.{Rose};
-ghost use Rattle.psm_program.specs.Script.{is_exception};
 ghost use Rattle.psm_program.specs.Session.{Does};
-ghost use Rattle.psm_program.specs.Outcome.{RanTo, Stepped, StepStopped, Stopped, Finishes, Ends};
+ghost use Rattle.psm_program.specs.Outcome.{RanTo, Stepped, StepStopped, Stopped, Ends};
 ghost use Rattle.psm_program.specs.Whole.{EndsOn};
 
-use crate::status::Status;
-use crate::write::write_whole;
 use io_edges::Sink;
+use program_status::{Status, finish, write_reply};
 use psm_session::{Database, Reply, check_next, run_next};
 use psm_words::Command;
 use sql_lex::{Tokens, tokens};
@@ -18,21 +16,11 @@ use std::alloc::Global;
 
 /// Why the statements stopped.
 #[derive(Clone, Copy, Debug, PartialEq, Eq)]
-pub enum Stop {
+pub enum Interruption {
     /// The sink failed.
     Write,
     /// There was no memory for a statement, which was taken back.
     Memory,
-}
-
-// Whether a reply tells of an exception or a fault.
-fn is_exception(reply: &[u8]) -> bool
-    ensures { result ≡ is_exception reply.now }
-{
-    match reply.first() {
-        Some(b) => *b == b'!',
-        None => false,
-    }
 }
 
 // Does what the command does with the statement at a token: its reply, and where the next one
@@ -64,20 +52,22 @@ fn run_statement<K: Sink>(
     at: usize,
     out: &mut K,
     db: &mut Database,
-) -> Result<(usize, bool), Stop>
+) -> Result<(usize, bool), Interruption>
     requires { at < length list.now.tokens }
-    ensures ok { IfOk result (λ r. Stepped (Does command list.now) at r.0 (K.told out.old) (K.told out.new) db.old db.new r.1) }
+    ensures ok { IfOk result (λ r. Stepped (Does command list.now) at r.0 (K.told out.old)
+        (K.told out.new) db.old db.new r.1) }
     ensures goes { IfOk result (λ r. (at < r.0) × (r.0 ≤ length list.now.tokens)) }
-    ensures err { IfErr result (λ stop. StepStopped stop (Does command list.now) at (K.told out.old) (K.told out.new) db.old db.new) }
-    ensures fault { IsErrOf result Stop.Write → Rose (K.faults out.old) (K.faults out.new) }
+    ensures err { IfErr result (λ stop. StepStopped stop (Does command list.now) at (K.told out.old)
+        (K.told out.new) db.old db.new) }
+    ensures fault { IsErrOf result Interruption.Write → Rose (K.faults out.old) (K.faults out.new) }
     ensures later { K.faults out.old ≤ K.faults out.new }
 {
     match do_next(alloc, command, list, at, db) {
-        Ok((reply, next)) => match write_whole(out, reply.as_bytes()) {
-            Ok(()) => Ok((next, is_exception(reply.as_bytes()))),
-            Err(_) => Err(Stop::Write),
+        Ok((reply, next)) => match write_reply(out, reply.as_bytes()) {
+            Ok(is_exception) => Ok((next, is_exception)),
+            Err(_) => Err(Interruption::Write),
         },
-        Err(_) => Err(Stop::Memory),
+        Err(_) => Err(Interruption::Memory),
     }
 }
 
@@ -88,10 +78,12 @@ fn run_statements<K: Sink>(
     list: &Tokens,
     out: &mut K,
     db: &mut Database,
-) -> Result<bool, Stop>
-    ensures ok { IfOk result (λ excepts. RanTo (Does command list.now) (length list.now.tokens) (K.told out.old) (K.told out.new) db.old db.new excepts) }
-    ensures err { IfErr result (λ stop. Stopped stop (Does command list.now) (K.told out.old) (K.told out.new) db.old db.new) }
-    ensures fault { IsErrOf result Stop.Write → Rose (K.faults out.old) (K.faults out.new) }
+) -> Result<bool, Interruption>
+    ensures ok { IfOk result (λ excepts. RanTo (Does command list.now) (length list.now.tokens)
+        (K.told out.old) (K.told out.new) db.old db.new excepts) }
+    ensures err { IfErr result (λ stop. Stopped stop (Does command list.now) (K.told out.old)
+        (K.told out.new) db.old db.new) }
+    ensures fault { IsErrOf result Interruption.Write → Rose (K.faults out.old) (K.faults out.new) }
     ensures later { K.faults out.old ≤ K.faults out.new }
 {
     let mut at = 0;
@@ -108,19 +100,6 @@ fn run_statements<K: Sink>(
     Ok(excepts)
 }
 
-// Flushes what was written.
-fn finish<K: Sink>(excepts: bool, out: &mut K) -> Status
-    ensures ends { Finishes excepts (K.told out.old) (K.told out.new) result }
-    ensures fault { result ≡ Status.WriteFault → Rose (K.faults out.old) (K.faults out.new) }
-    ensures later { K.faults out.old ≤ K.faults out.new }
-{
-    match out.flush() {
-        Ok(()) if excepts => Status::DoneWithExceptions,
-        Ok(()) => Status::Done,
-        Err(_) => Status::WriteFault,
-    }
-}
-
 // Runs the statements of the tokens, and flushes.
 fn run_tokens<K: Sink>(
     alloc: Global,
@@ -129,14 +108,15 @@ fn run_tokens<K: Sink>(
     out: &mut K,
     db: &mut Database,
 ) -> Status
-    ensures ends { Ends (Does command list.now) (length list.now.tokens) (K.told out.old) (K.told out.new) db.old db.new result }
+    ensures ends { Ends (Does command list.now) (length list.now.tokens) (K.told out.old)
+        (K.told out.new) db.old db.new result }
     ensures fault { result ≡ Status.WriteFault → Rose (K.faults out.old) (K.faults out.new) }
     ensures later { K.faults out.old ≤ K.faults out.new }
 {
     match run_statements(alloc, command, list, out, db) {
         Ok(excepts) => finish(excepts, out),
-        Err(Stop::Write) => Status::WriteFault,
-        Err(Stop::Memory) => Status::NoMemory,
+        Err(Interruption::Write) => Status::WriteFault,
+        Err(Interruption::Memory) => Status::NoMemory,
     }
 }
 

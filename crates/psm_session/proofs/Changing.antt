@@ -1,5 +1,5 @@
--- The rows that a change takes are those that it asks for: what an UPDATE or a DELETE meets stands in
--- the table, in its order.
+-- The rows that a change takes are those that it asks for: what an UPDATE or a DELETE meets stands
+-- in the table, in its order.
 use Rattle.std.proofs.Common.{◌≡◌, ℕ, List, [], Option, Some, None, refl, ap, ◌∙◌, subst}
 use Rattle.std.specs.List.{IsDistinct}
 use Rattle.std.specs.Str.{bytes_eq}
@@ -15,8 +15,8 @@ use Rattle.catalog_store.specs.View.{query_of}
 use Rattle.catalog_store.specs.Widths.{width_in}
 use Rattle.data_change.specs.Met.{Meets}
 use Rattle.data_change.proofs.Laws.{met_rows_in_order}
-use Rattle.row_changes.specs.Met.{InOrder, MetInOrder}
-use Rattle.psm_names.specs.Binds.{StatementFits}
+use Rattle.run_changes.specs.Met.{InOrder, MetInOrder}
+use Rattle.bind_statements.specs.Binds.{StatementFits}
 use Rattle.psm_session.specs.declared.change.Change.{Change}
 use Rattle.psm_session.specs.declared.change.Change.TheVariants.{Insert, Update, Delete}
 use Rattle.psm_session.specs.Database.{Plain}
@@ -27,20 +27,27 @@ use Rattle.psm_session.proofs.Widths.{widths_agree}
 abbrev over : Catalog → World → Plain
 over catalog w = record { catalog = catalog; tables = w.tables }
 
-met_here : (name : List ℕ) (q : BoundQuery) (catalog : Catalog) (w w' : World) (rows : List Row) → IsWhole (over catalog w)
-    → IsDistinct bytes_eq (names_of catalog) → AllWellKept w.tables → Meets name (width_in catalog name) (query_of catalog q)
-    → answer (query_of catalog q) no_self [] no_frame w ≡ Gives rows w' → MetInOrder w.tables name rows
+met_here : (name : List ℕ) (q : BoundQuery) (catalog : Catalog) (w w' : World) (rows : List Row) →
+    IsWhole (over catalog w)
+    → IsDistinct bytes_eq (names_of catalog) → AllWellKept w.tables →
+    Meets name (width_in catalog name) (query_of catalog q)
+    → answer (query_of catalog q) no_self [] no_frame w ≡ Gives rows w' →
+    MetInOrder w.tables name rows
 met_here name q catalog w w' rows whole distinct kept meets h = by (table_named name w.tables) refl
   where
     by : (t : Option Table) → table_named name w.tables ≡ t → InOrder t rows
     by None there = tt
     by (Some t) there =
         met_rows_in_order name (query_of catalog q) t w w' rows kept there
-        (subst (λ (n : ℕ). Meets name n (query_of catalog q)) (widths_agree (over catalog w) whole distinct name ∙ ap columns_of there) meets) h
+        (subst (λ (n : ℕ). Meets name n (query_of catalog q))
+        (widths_agree (over catalog w) whole distinct name ∙ ap columns_of there) meets) h
 
-pub takes_here : (change : Change) (catalog : Catalog) (w w' : World) (rows : List Row) → IsWhole (over catalog w)
-    → IsDistinct bytes_eq (names_of catalog) → AllWellKept w.tables → StatementFits catalog (change_statement change)
-    → answer (query_of catalog (rows_query change)) no_self [] no_frame w ≡ Gives rows w' → Takes change w.tables rows
+pub takes_here : (change : Change) (catalog : Catalog) (w w' : World) (rows : List Row) →
+    IsWhole (over catalog w)
+    → IsDistinct bytes_eq (names_of catalog) → AllWellKept w.tables →
+    StatementFits catalog (change_statement change)
+    → answer (query_of catalog (rows_query change)) no_self [] no_frame w ≡ Gives rows w' →
+    Takes change w.tables rows
 takes_here (Insert insert listed) catalog w w' rows whole distinct kept fits h = tt
 takes_here (Update update) catalog w w' rows whole distinct kept fits h =
     met_here update.now.table update.now.rows catalog w w' rows whole distinct kept fits.1 h

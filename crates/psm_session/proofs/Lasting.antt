@@ -1,7 +1,12 @@
 -- A query lasts while the tables stay as they are.
 use Rattle.std.proofs.Common.{ℕ, List, refl}
-use Rattle.rel_algebra.specs.Lasting.{Lasts, LinksLast, AllLast, RoutineLasts, RowsLast, FromLasts, QueryLasts}
-use Rattle.rel_algebra.specs.Tree.{And, Call, CallSelf, Case, CaseOf, Chain, Coalesce, Column, Cross, Derived, Exists, Expr, Exprs, From, Function, Grouped, In, Inner, LeftOuter, Links, Literal, MoreExprs, MoreLinks, MoreRows, NoExpr, NoLink, NoRow, Operate, Or, Ordered, Query, Routine, Rows, Select, Single, Table, Values, Variable}
+use Rattle.rel_algebra.specs.Lasting.{Lasts, LinksLast, AllLast, RoutineLasts, RowsLast, FromLasts}
+use Rattle.rel_algebra.specs.Lasting.{QueryLasts}
+use Rattle.rel_algebra.specs.Tree.{And, Call, CallSelf, Case, CaseOf, Chain, Coalesce, Column}
+use Rattle.rel_algebra.specs.Tree.{Cross, Derived, Exists, Expr, Exprs, From, Function, Grouped, In}
+use Rattle.rel_algebra.specs.Tree.{Inner, LeftOuter, Links, Literal, MoreExprs, MoreLinks, MoreRows}
+use Rattle.rel_algebra.specs.Tree.{NoExpr, NoLink, NoRow, Operate, Or, Ordered, Query, Routine}
+use Rattle.rel_algebra.specs.Tree.{Rows, Select, Single, Table, Values, Variable}
 
 module _ (S : List ℕ → ℕ) where
   mutual
@@ -14,7 +19,12 @@ module _ (S : List ℕ → ℕ) where
     expr_lasts (And es) = all_last es
     expr_lasts (Or es) = all_last es
     expr_lasts (Case arms) = all_last arms
-    expr_lasts (CaseOf x test result arms) = (expr_lasts x, expr_lasts test, expr_lasts result, all_last arms)
+    expr_lasts (CaseOf x test result arms) = (
+      expr_lasts x,
+      expr_lasts test,
+      expr_lasts result,
+      all_last arms,
+    )
     expr_lasts (Coalesce es) = all_last es
     expr_lasts (In x q) = (expr_lasts x, query_lasts q)
     expr_lasts (Exists q) = query_lasts q
@@ -46,6 +56,7 @@ module _ (S : List ℕ → ℕ) where
 
     pub query_lasts : (q : Query) → QueryLasts q S S
     query_lasts (Select items from tests) = (all_last items, from_lasts from, all_last tests)
-    query_lasts (Grouped from tests k items ags having list) = (from_lasts from, all_last tests, all_last items, all_last having, all_last list)
+    query_lasts (Grouped from tests k items ags having list) =
+        (from_lasts from, all_last tests, all_last items, all_last having, all_last list)
     query_lasts (Values rows) = rows_last rows
     query_lasts (Ordered q keys) = query_lasts q

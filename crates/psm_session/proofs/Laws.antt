@@ -10,17 +10,23 @@ use Rattle.psm_session.proofs.One.{one_execution, one_check, Statement-one}
 pub use Rattle.psm_session.proofs.Lasting.{query_lasts}
 
 pub some_statement : (t : Lexing) (at : ℕ) (before : Plain) → at < length t.tokens
-    → (reply : List ℕ) × (to : ℕ) × (after : Plain) × Statement t at before reply to after × (at < to) × (to ≤ length t.tokens)
+    → (reply : List ℕ) × (to : ℕ) × (after : Plain) × Statement t at before reply to after ×
+    (at < to) × (to ≤ length t.tokens)
 some_statement = Statement-some Executes some_execution
 
 pub some_checked : (t : Lexing) (at : ℕ) (before : Plain) → at < length t.tokens
-    → (reply : List ℕ) × (to : ℕ) × (after : Plain) × Checked t at before reply to after × (at < to) × (to ≤ length t.tokens)
+    → (reply : List ℕ) × (to : ℕ) × (after : Plain) × Checked t at before reply to after ×
+    (at < to) × (to ≤ length t.tokens)
 some_checked = Statement-some Checks some_check
 
-pub one_statement : (t : Lexing) (at : ℕ) (before : Plain) (r r' : List ℕ) (to to' : ℕ) (after after' : Plain)
-    → Statement t at before r to after → Statement t at before r' to' after' → (r ≡ r') × (to ≡ to') × (after ≡ after')
+pub one_statement : (t : Lexing) (at : ℕ) (before : Plain) (r r' : List ℕ) (to to' : ℕ)
+    (after after' : Plain)
+    → Statement t at before r to after → Statement t at before r' to' after' → (r ≡ r') ×
+    (to ≡ to') × (after ≡ after')
 one_statement = Statement-one Executes one_execution
 
-pub one_checked : (t : Lexing) (at : ℕ) (before : Plain) (r r' : List ℕ) (to to' : ℕ) (after after' : Plain)
-    → Checked t at before r to after → Checked t at before r' to' after' → (r ≡ r') × (to ≡ to') × (after ≡ after')
+pub one_checked : (t : Lexing) (at : ℕ) (before : Plain) (r r' : List ℕ) (to to' : ℕ)
+    (after after' : Plain)
+    → Checked t at before r to after → Checked t at before r' to' after' → (r ≡ r') × (to ≡ to') ×
+    (after ≡ after')
 one_checked = Statement-one Checks one_check

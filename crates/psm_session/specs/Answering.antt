@@ -1,4 +1,5 @@
--- How the answer of a query's plan tells how the query ends. ISO/IEC 9075-2, 7.17 (query expression).
+-- How the answer of a query's plan tells how the query ends. ISO/IEC 9075-2, 7.17 (query
+-- expression).
 use Rattle.std.specs.Prelude.{◌≡◌, List, length}
 use Rattle.row_types.specs.Rows.{Row}
 use Rattle.row_types.specs.Cells.{value_rows}

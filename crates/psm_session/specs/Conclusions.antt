@@ -5,9 +5,10 @@ use Rattle.sql_texts.specs.declared.memory.NoMemory.{NoMemory}
 use Rattle.table_store.specs.Memory.{Memory}
 use Rattle.catalog_store.specs.Catalog.{Catalog}
 use Rattle.reply_text.specs.Texts.{area_text, spent_text}
-use Rattle.expr_interp.specs.Content.{Content, IsBackAt}
-use Rattle.expr_interp.specs.declared.stop.Stop.{Stop}
-use Rattle.expr_interp.specs.declared.stop.Stop.TheVariants.{Raised, Spent, NoMemory as WantOfMemory}
+use Rattle.run_expressions.specs.Content.{Content, IsBackAt}
+use Rattle.run_choices.specs.declared.stop.Stop.{Stop}
+use Rattle.run_choices.specs.declared.stop.Stop.TheVariants.{Raised, Spent}
+use Rattle.run_choices.specs.declared.stop.Stop.TheVariants.{NoMemory as WantOfMemory}
 use Rattle.psm_session.specs.Database.{Plain}
 use Rattle.psm_session.specs.Effects.{Effect}
 use Rattle.psm_session.specs.Shapes.{shapes_of}

@@ -12,5 +12,6 @@ pub record Plain : Type 0 where
 abbrev pub empty : Plain
 empty = record { catalog = []; tables = [] }
 
+-- the same catalog with other tables
 abbrev pub with_tables : Plain → Tables → Plain
 with_tables db tables = record db { tables = tables }

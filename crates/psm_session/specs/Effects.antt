@@ -6,17 +6,20 @@ use Rattle.std.specs.Prelude.{ℕ, List, [], ◌∷◌, ◌++◌, Some, None}
 use Rattle.row_types.specs.Tables.{Tables, without_table_named}
 use Rattle.rel_algebra.specs.World.{World, Ends, Gives, Raises, RunsOut}
 use Rattle.rel_algebra.specs.Meaning.{ask}
-use Rattle.catalog_store.specs.Catalog.{Entry, Object, TableObject, FunctionObject, InterpretedObject, ProcedureObject}
+use Rattle.catalog_store.specs.Catalog.{Entry, Object, TableObject, FunctionObject}
+use Rattle.catalog_store.specs.Catalog.{InterpretedObject, ProcedureObject}
 use Rattle.catalog_store.specs.Entries.{entry_of}
 use Rattle.catalog_store.specs.Users.{without}
 use Rattle.catalog_store.specs.View.{query_of}
 use Rattle.data_change.specs.Writing.{insert, update, delete}
-use Rattle.psm_names.specs.declared.bound.Bound.{Bound}
-use Rattle.psm_names.specs.declared.bound.Bound.TheVariants.{Create, Drop, Insert, Update, Delete, Query, Explain, Routine}
+use Rattle.bind_statements.specs.declared.bound.Bound.{Bound}
+use Rattle.bind_statements.specs.declared.bound.Bound.TheVariants.{Create, Drop, Insert, Update}
+use Rattle.bind_statements.specs.declared.bound.Bound.TheVariants.{Delete, Query, Explain, Routine}
 use Rattle.reply_text.specs.Texts.{rows_text, done_text, area_text, spent_text}
 use Rattle.psm_session.specs.declared.budget.TheConstants.{DEFAULT_BUDGET}
 use Rattle.psm_session.specs.Database.{Plain, with_tables}
 
+-- what a statement replies, and the database that it leaves
 pub record Effect : Type 0 where
   pub reply : List ℕ
   pub after : Plain
@@ -27,7 +30,15 @@ world_of tables = record { tables = tables; turns = DEFAULT_BUDGET; active = 0 }
 
 -- a new table is empty
 abbrev pub with_table_of : List ℕ → Object → Tables → Tables
-with_table_of name (TableObject row_type) tables = tables ++ record { name = name; table = record { columns = row_type.columns; key = row_type.key; rows = [] } } ∷ []
+with_table_of name (TableObject row_type) tables =
+    tables ++ record {
+      name = name;
+      table = record {
+        columns = row_type.columns;
+        key = row_type.key;
+        rows = [];
+      };
+    } ∷ []
 with_table_of name (FunctionObject f) tables = tables
 with_table_of name (InterpretedObject f) tables = tables
 with_table_of name (ProcedureObject p) tables = tables
@@ -36,7 +47,11 @@ with_table_of name (ProcedureObject p) tables = tables
 abbrev pub created : Entry → Plain → Effect
 created e db = record {
   reply = done_text [] None;
-  after = record { catalog = db.catalog ++ e ∷ []; tables = with_table_of e.name e.object db.tables };
+  after = record {
+    catalog = db.catalog ++ e ∷ [];
+    tables =
+        with_table_of e.name e.object db.tables;
+  };
 }
 
 -- An entry less, with its table where it has one.
@@ -65,10 +80,14 @@ bound_alone db = record { reply = done_text [] None; after = db }
 abbrev pub effect : Bound → Plain → Effect
 effect (Create name object) db = created (entry_of db.catalog name object) db
 effect (Drop name) db = dropped name db
-effect (Insert s listed) db = replied changed_text db (insert s.table listed (query_of db.catalog s.source) (world_of db.tables))
-effect (Update s) db = replied changed_text db (update s.table s.targets (query_of db.catalog s.rows) (world_of db.tables))
-effect (Delete s) db = replied changed_text db (delete s.table (query_of db.catalog s.rows) (world_of db.tables))
-effect (Query query) db = replied rows_text db (ask (query_of db.catalog query) (world_of db.tables))
+effect (Insert s listed) db = replied changed_text db
+    (insert s.table listed (query_of db.catalog s.source) (world_of db.tables))
+effect (Update s) db = replied changed_text db
+    (update s.table s.targets (query_of db.catalog s.rows) (world_of db.tables))
+effect (Delete s) db = replied changed_text db
+    (delete s.table (query_of db.catalog s.rows) (world_of db.tables))
+effect (Query query) db = replied rows_text db
+    (ask (query_of db.catalog query) (world_of db.tables))
 effect (Explain query) db = bound_alone db
 effect (Routine stmt) db = bound_alone db
 

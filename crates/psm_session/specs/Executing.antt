@@ -1,11 +1,11 @@
--- What comes of a statement that was read: where it is valid, its effect, or where it is of a form that
--- is not run, a refusal; else its least fault. And what comes of it where it is checked alone.
+-- What comes of a statement that was read: where it is valid, its effect, or where it is of a form
+-- that is not run, a refusal; else its least fault. And what comes of it where it is checked alone.
 use Rattle.std.specs.Prelude.{ℕ, ◌≡◌, ◌⊎◌, true, false, List, [], Some}
 use Rattle.syntax_trees.specs.declared.anchor.Anchor.{Anchor}
-use Rattle.name_faults.specs.declared.fault.Fault.{Fault}
-use Rattle.name_faults.specs.declared.fault.FaultKind.TheVariants.{NotPermitted}
-use Rattle.name_faults.specs.Faults.{Noted, least}
-use Rattle.psm_names.specs.declared.bound.BoundStatement.{BoundStatement}
+use Rattle.bind_faults.specs.declared.fault.Fault.{Fault}
+use Rattle.bind_faults.specs.declared.fault.FaultKind.TheVariants.{NotPermitted}
+use Rattle.bind_faults.specs.Faults.{Noted, least}
+use Rattle.bind_statements.specs.declared.bound.BoundStatement.{BoundStatement}
 use Rattle.reply_text.specs.declared.fault.FaultText.TheVariants.{Name}
 use Rattle.reply_text.specs.Texts.{fault_text}
 use Rattle.psm_session.specs.Database.{Plain}
@@ -20,21 +20,24 @@ abbrev pub refusal : Anchor → List ℕ
 refusal at = reply_to (record { at = at; kind = NotPermitted })
 
 -- A statement without faults has its effect.
-pub record HasEffect (found : Noted BoundStatement) (before : Plain) (reply : List ℕ) (after : Plain) : Type 0 where
+pub record HasEffect (found : Noted BoundStatement) (before : Plain) (reply : List ℕ)
+    (after : Plain) : Type 0 where
   pub valid : found.faults ≡ []
   pub runs : found.value.runs ≡ true
   pub replies : reply ≡ (effect found.value.bound before).reply
   pub leaves : after ≡ (effect found.value.bound before).after
 
 -- A statement without faults that is of a form that is not run is refused, and nothing changes.
-pub record IsRefused (found : Noted BoundStatement) (at : Anchor) (before : Plain) (reply : List ℕ) (after : Plain) : Type 0 where
+pub record IsRefused (found : Noted BoundStatement) (at : Anchor) (before : Plain) (reply : List ℕ)
+    (after : Plain) : Type 0 where
   pub valid : found.faults ≡ []
   pub not_run : found.value.runs ≡ false
   pub replies : reply ≡ refusal at
   pub leaves : after ≡ before
 
 -- The least of the faults is replied, and nothing changes.
-pub record HasFault (found : Noted BoundStatement) (before : Plain) (reply : List ℕ) (after : Plain) : Type 0 where
+pub record HasFault (found : Noted BoundStatement) (before : Plain) (reply : List ℕ)
+    (after : Plain) : Type 0 where
   pub fault : Fault
   pub is_least : least found.faults ≡ Some fault
   pub replies : reply ≡ reply_to fault
@@ -42,15 +45,19 @@ pub record HasFault (found : Noted BoundStatement) (before : Plain) (reply : Lis
 
 -- what comes of a statement, by its anchor
 abbrev pub Executes : Noted BoundStatement → Anchor → Plain → List ℕ → Plain → Type 0
-Executes found at before reply after = HasEffect found before reply after ⊎ (IsRefused found at before reply after ⊎ HasFault found before reply after)
+Executes found at before reply after = HasEffect found before reply after ⊎
+    (IsRefused found at before reply after ⊎ HasFault found before reply after)
 
 -- ---- where it is checked alone
 
 -- A statement without faults is bound, and a definition is carried out, whatever its form.
-pub record IsValid (found : Noted BoundStatement) (before : Plain) (reply : List ℕ) (after : Plain) : Type 0 where
+pub record IsValid (found : Noted BoundStatement) (before : Plain) (reply : List ℕ)
+    (after : Plain) : Type 0 where
   pub valid : found.faults ≡ []
   pub replies : reply ≡ (checked found.value.bound before).reply
   pub leaves : after ≡ (checked found.value.bound before).after
 
+-- what comes of a statement that is checked alone, whether it has faults or not
 abbrev pub Checks : Noted BoundStatement → Anchor → Plain → List ℕ → Plain → Type 0
-Checks found at before reply after = IsValid found before reply after ⊎ HasFault found before reply after
+Checks found at before reply after = IsValid found before reply after ⊎
+    HasFault found before reply after

@@ -1,5 +1,5 @@
--- What a prepared query is: a plan that gives the query's rows, or its first condition, whatever the
--- tables hold. ISO/IEC 9075-2, 7.17 (query expression) and 20.6 (prepare statement).
+-- What a prepared query is: a plan that gives the query's rows, or its first condition, whatever
+-- the tables hold. ISO/IEC 9075-2, 7.17 (query expression) and 20.6 (prepare statement).
 use Rattle.std.specs.Prelude.{ℕ, ◌≡◌, ◌+◌, true, List, [], length}
 use Rattle.row_types.specs.Tables.{Tables}
 use Rattle.rel_algebra.specs.Tree.{Query}

@@ -1,5 +1,6 @@
--- What is done in a world of tables, and how a change of rows is made of the rows that a query gives.
--- ISO/IEC 9075-2, 14.9 (delete statement), 14.11 (insert statement) and 14.14 (update statement).
+-- What is done in a world of tables, and how a change of rows is made of the rows that a query
+-- gives. ISO/IEC 9075-2, 14.9 (delete statement), 14.11 (insert statement) and 14.14 (update
+-- statement).
 use Rattle.std.specs.Prelude.{ℕ, List, []}
 use Rattle.row_types.specs.Rows.{Row}
 use Rattle.row_types.specs.Tables.{Tables}
@@ -9,10 +10,10 @@ use Rattle.rel_algebra.specs.Meaning.{answer}
 use Rattle.catalog_store.specs.Catalog.{Catalog}
 use Rattle.catalog_store.specs.View.{query_of}
 use Rattle.data_change.specs.Writing.{stored_in, changed, removed}
-use Rattle.row_changes.specs.Met.{MetInOrder}
-use Rattle.psm_names.specs.Binds.{StatementFits}
-use Rattle.psm_names.specs.declared.bound.Bound.{Bound}
-use Rattle.psm_names.specs.declared.bound.Bound.TheVariants as bound
+use Rattle.run_changes.specs.Met.{MetInOrder}
+use Rattle.bind_statements.specs.Binds.{StatementFits}
+use Rattle.bind_statements.specs.declared.bound.Bound.{Bound}
+use Rattle.bind_statements.specs.declared.bound.Bound.TheVariants as bound
 use Rattle.psm_session.specs.declared.change.Change.{Change}
 use Rattle.psm_session.specs.declared.change.Change.TheVariants.{Insert, Update, Delete}
 use Rattle.psm_session.specs.declared.world.Task.{Task}
@@ -36,7 +37,8 @@ made (Delete delete) rows = removed delete.now.table rows
 
 -- All rows are evaluated first.
 abbrev pub change_of : Change → Catalog → Eval ℕ
-change_of change catalog = unit (answer (query_of catalog (rows_query change)) no_self [] no_frame >>= made change)
+change_of change catalog = unit (answer (query_of catalog (rows_query change)) no_self [] no_frame
+    >>= made change)
 
 -- what it asks of the rows: those that it changes or removes stand in the table, in its order
 abbrev pub Takes : Change → Tables → List Row → Type 0
@@ -52,11 +54,14 @@ change_statement (Delete delete) = bound.Delete delete.now
 
 -- ---- tasks
 
+-- What the statement whose task it is asks of the catalog: the query that it answers, or that
+-- gives its rows, has a plan.
 abbrev pub TaskFits : Catalog → Task → Type 0
 TaskFits catalog (Make change) = StatementFits catalog (change_statement change)
 TaskFits catalog (Answer query) = StatementFits catalog (bound.Query query.now)
 
 -- the effect of the statement whose task it is
 abbrev pub task_effect : Task → Plain → Effect
-task_effect (Make change) db = replied changed_text db (change_of change db.catalog (world_of db.tables))
+task_effect (Make change) db = replied changed_text db
+    (change_of change db.catalog (world_of db.tables))
 task_effect (Answer query) db = effect (bound.Query query.now) db

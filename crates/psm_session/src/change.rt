@@ -3,9 +3,9 @@
 ghost use Rattle.std.specs.Prelude.{◌≡◌, IfOk, OnErr};
 ghost use Rattle.row_types.specs.Cells.{value_rows};
 ghost use Rattle.rel_algebra.specs.World.{unit};
-ghost use Rattle.expr_interp.specs.Content.{world_of as plain_world};
-ghost use Rattle.expr_interp.specs.Ending.{Ended};
-ghost use Rattle.psm_names.specs.Binds.{StatementFits};
+ghost use Rattle.run_expressions.specs.Content.{world_of as plain_world};
+ghost use Rattle.run_expressions.specs.Ending.{Ended};
+ghost use Rattle.bind_statements.specs.Binds.{StatementFits};
 ghost use Rattle.psm_session.specs.Conclusions.{database, IsEffect, KeepsShapes};
 ghost use Rattle.psm_session.specs.Effects.{replied, changed_text};
 ghost use Rattle.psm_session.specs.Shapes.{IsWhole};
@@ -15,11 +15,11 @@ use crate::conclude::{conclude, stop_reply};
 use crate::planned::planned_answer;
 use bound_trees::{BoundDelete, BoundInsert, BoundQuery, BoundUpdate};
 use catalog_store::Catalog;
-use expr_interp::{Stop, World};
 use plan_exec::Answer;
 use reply_text::{Reply, done_reply};
-use row_changes::{change_rows, remove_rows, store_rows};
 use row_types::{RowList, Steps};
+use run_changes::{change_rows, remove_rows, store_rows};
+use run_expressions::{Stop, World};
 use sql_values::NoMemory;
 use sqlite_items::Items;
 use std::sync::ledger::Ledger;
@@ -56,7 +56,8 @@ fn make_of<L: Ledger>(
     steps: &mut Steps<L>,
 ) -> Result<u64, Stop>
     requires takes { Takes change world.old.memory.tables (value_rows rows) }
-    ensures { Ended world.old world.new result (unit (made change.entry (value_rows rows)) (plain_world world.old)) }
+    ensures { Ended world.old world.new result
+        (unit (made change.entry (value_rows rows)) (plain_world world.old)) }
 {
     match change {
         Change::Insert(insert, listed) => store_rows(&insert.table, listed, rows, world, steps),
@@ -76,7 +77,8 @@ fn make<L: Ledger>(
 ) -> Result<u64, Stop>
     requires whole { IsWhole (database catalog.now world.old.memory) }
     requires fits { StatementFits catalog.now (change_statement change) }
-    ensures { Ended world.old world.new result (change_of change.entry catalog.now (plain_world world.old)) }
+    ensures { Ended world.old world.new result
+        (change_of change.entry catalog.now (plain_world world.old)) }
 {
     let _entries = catalog.len();
     let _tables = world.tables().len();

@@ -2,12 +2,12 @@
 //! so that the changes are taken back where there is no memory for it.
 
 ghost use Rattle.std.specs.Prelude.{◌≡◌, ◌≤◌, length, OnOk, OnErr};
-ghost use Rattle.expr_interp.specs.Content.{IsBackAt};
+ghost use Rattle.run_expressions.specs.Content.{IsBackAt};
 ghost use Rattle.psm_session.specs.Conclusions.{IsStopped};
 
 use atomic_undo::Mark;
-use expr_interp::{Stop, World};
 use reply_text::{Reply, area_reply, spent_reply};
+use run_expressions::{Stop, World};
 use sql_values::NoMemory;
 
 /// A reply, where there was memory for it; else all changes after the mark are taken back.

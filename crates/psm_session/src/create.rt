@@ -1,5 +1,5 @@
-//! A new entry of the catalog, with its plan or its table. The reply and the plan are made first, and
-//! a table is taken back where there is no memory for its entry.
+//! A new entry of the catalog, with its plan or its table. The reply and the plan are made first,
+//! and a table is taken back where there is no memory for its entry.
 
 ghost use Rattle.std.specs.Prelude.{◌≡◌, ◌++◌, ◌∷◌, [], None, IfOk, OnOk, OnErr};
 ghost use Rattle.row_types.specs.Tables.{table_named, without_table_named};
@@ -10,7 +10,7 @@ ghost use Rattle.psm_session.specs.Conclusions.{database, IsEffect};
 ghost use Rattle.psm_session.specs.Shapes.{IsWhole};
 
 use catalog_store::{Catalog, Object};
-use query_plan::with_plan;
+use plan_queries::with_plan;
 use reply_text::{Reply, done_reply};
 use sql_values::{Name, NoMemory};
 use std::alloc::Global;
@@ -26,7 +26,8 @@ fn add_table(
 ) -> Result<(), NoMemory>
     requires free { table_named name.now tables.old.tables ≡ None }
     requires fits { ObjectFits catalog.now object.now }
-    ensures ok { OnOk result (tables.new.tables ≡ with_table_of name.now (object_of catalog.now object.now) tables.old.tables) }
+    ensures ok { OnOk result (tables.new.tables ≡ with_table_of name.now
+        (object_of catalog.now object.now) tables.old.tables) }
     ensures err { OnErr result (tables.new ≡ tables.old) }
 {
     match object {
@@ -50,7 +51,8 @@ fn add_entry(
     requires planned { IsPlanned catalog.old object }
     ensures added { OnOk result (catalog.new ≡ catalog.old ++ entry_of catalog.old name object ∷ []) }
     ensures stays { OnOk result (tables.new ≡ tables.old) }
-    ensures err { OnErr result ((catalog.new ≡ catalog.old) × (tables.new.tables ≡ without_table_named name tables.old.tables)) }
+    ensures err { OnErr result ((catalog.new ≡ catalog.old) ×
+        (tables.new.tables ≡ without_table_named name tables.old.tables)) }
 {
     match catalog.add(name, object) {
         Ok(()) => Ok(()),
@@ -62,8 +64,8 @@ fn add_entry(
     }
 }
 
-/// Makes an entry of the catalog: a function with its plan, or a table, which has no rows yet. Without
-/// memory nothing changes.
+/// Makes an entry of the catalog: a function with its plan, or a table, which has no rows yet.
+/// Without memory nothing changes.
 pub(crate) fn create(
     alloc: Global,
     name: Name,
@@ -74,7 +76,8 @@ pub(crate) fn create(
     requires free { object_named name catalog.old ≡ None }
     requires fits { ObjectFits catalog.old object }
     requires whole { IsWhole (database catalog.old tables.old) }
-    ensures ok { IfOk result (λ r. IsEffect (created (entry_of catalog.old name object) (database catalog.old tables.old)) r (database catalog.new tables.new)) }
+    ensures ok { IfOk result (λ r. IsEffect (created (entry_of catalog.old name object)
+        (database catalog.old tables.old)) r (database catalog.new tables.new)) }
     ensures err { OnErr result (database catalog.new tables.new ≡ database catalog.old tables.old) }
     ensures whole { IsWhole (database catalog.new tables.new) }
 {

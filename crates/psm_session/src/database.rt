@@ -8,18 +8,18 @@ ghost use Rattle.rel_algebra.specs.Joins.{table_width};
 ghost use Rattle.rel_algebra.specs.Lasting.{QueryLasts};
 ghost use Rattle.rel_algebra.specs.Plain.{planned};
 ghost use Rattle.catalog_store.specs.View.{query_of};
-ghost use Rattle.psm_names.specs.Statements.{judged_statement, anchor_of};
+ghost use Rattle.bind_statements.specs.Statements.{judged_statement, anchor_of};
 ghost use Rattle.psm_session.specs.Answering.{ends_with, HasValues};
 ghost use Rattle.psm_session.specs.Executing.{Executes, Checks, reply_to, refusal};
 ghost use Rattle.psm_session.specs.Preparing.{IsPrepared, plan_in, most_steps};
 
 use crate::effect::{check_bound, run_bound};
 use crate::prepared::{Prepared, prepare_query, run_plan};
+use bind_faults::{Fault, FaultKind};
+use bind_statements::{NameFault, anchor_of, bind_statement};
 use bound_trees::BoundQuery;
 use catalog_store::Catalog;
-use name_faults::{Fault, FaultKind};
 use plan_exec::Answer;
-use psm_names::{NameFault, anchor_of, bind_statement};
 use reply_text::{FaultText, Reply, fault_reply};
 use row_types::Steps;
 use sql_values::NoMemory;
@@ -110,22 +110,27 @@ impl Database {
     /// for every content of the tables.
     pub fn prepare(&self, query: &BoundQuery) -> Result<Prepared, NoMemory>
         requires planned { planned (query_of self.now.catalog query.now) ≡ true }
-        ensures { IfOk result (λ p. IsPrepared (query_of self.now.catalog query.now) (table_width self.now.tables) (plan_in p)) }
+        ensures { IfOk result (λ p. IsPrepared (query_of self.now.catalog query.now)
+            (table_width self.now.tables) (plan_in p)) }
     {
         let _entries = self.catalog.len();
         prepare_query(self.alloc, query, &self.catalog)
     }
 
     /// How a prepared query ends over the tables as they are now: its rows in their order, or the
-    /// first condition, where the tables that it names have as many columns as when it was prepared.
-    /// It takes at most as many steps as the plan's work, and one for each row that the plan gives.
+    /// first condition, where the tables that it names have as many columns as when it was
+    /// prepared. It takes at most as many steps as the plan's work, and one for each row that the
+    /// plan gives.
     pub fn run_prepared<L: Ledger>(
         &self,
         prepared: &Prepared,
         steps: &mut Steps<L>,
     ) -> Result<Answer, NoMemory>
-        ensures ends { IfOk result (λ a. (q : Query) (widths : List ℕ → ℕ) → IsPrepared q widths (plan_in prepared.now) → QueryLasts q widths (table_width self.now.tables)
-            → (w : World) → w.tables ≡ self.now.tables → answer q no_self [] no_frame w ≡ ends_with a w) }
+        ensures ends { IfOk result (λ a. (q : Query) (widths : List ℕ → ℕ) →
+            IsPrepared q widths (plan_in prepared.now) →
+            QueryLasts q widths (table_width self.now.tables)
+            → (w : World) → w.tables ≡ self.now.tables →
+            answer q no_self [] no_frame w ≡ ends_with a w) }
         ensures values { IfOk result (λ a. HasValues a) }
         ensures work { steps.new ≤ steps.old + most_steps (plan_in prepared.now) self.now.tables }
     {
@@ -136,7 +141,8 @@ impl Database {
     /// nothing, and its reply is the least of them; one of a form that is not run changes nothing,
     /// and its reply says so at its anchor. Without memory nothing changes either.
     pub fn exec_statement(&mut self, stmt: &Stmt) -> Result<Reply, NoMemory>
-        ensures ok { IfOk result (λ reply. Executes (judged_statement stmt.now self.old.catalog) (anchor_of stmt.now) self.old reply self.new) }
+        ensures ok { IfOk result (λ reply. Executes (judged_statement stmt.now self.old.catalog)
+            (anchor_of stmt.now) self.old reply self.new) }
         ensures err { OnErr result (self.new ≡ self.old) }
     {
         match bind_statement(self.alloc, stmt, &self.catalog) {
@@ -157,7 +163,8 @@ impl Database {
     /// has any, and nothing changes. Else a definition is carried out, whatever its form, and any
     /// other statement is bound alone. Without memory nothing changes.
     pub fn check_statement(&mut self, stmt: &Stmt) -> Result<Reply, NoMemory>
-        ensures ok { IfOk result (λ reply. Checks (judged_statement stmt.now self.old.catalog) (anchor_of stmt.now) self.old reply self.new) }
+        ensures ok { IfOk result (λ reply. Checks (judged_statement stmt.now self.old.catalog)
+            (anchor_of stmt.now) self.old reply self.new) }
         ensures err { OnErr result (self.new ≡ self.old) }
     {
         match bind_statement(self.alloc, stmt, &self.catalog) {

@@ -13,8 +13,8 @@ use sql_values::{Name, NoMemory};
 use std::alloc::Global;
 use table_store::Tables;
 
-/// Takes an entry that nothing uses out of the catalog, and its table, where it is one. The reply is
-/// made first: without memory nothing changes.
+/// Takes an entry that nothing uses out of the catalog, and its table, where it is one. The reply
+/// is made first: without memory nothing changes.
 pub(crate) fn drop_object(
     alloc: Global,
     name: &Name,
@@ -24,7 +24,8 @@ pub(crate) fn drop_object(
     requires there { IsSome (object_named name.now catalog.old) }
     requires unused { users_of name.now catalog.old ≡ 0 }
     requires whole { IsWhole (database catalog.old tables.old) }
-    ensures ok { IfOk result (λ r. IsEffect (dropped name.now (database catalog.old tables.old)) r (database catalog.new tables.new)) }
+    ensures ok { IfOk result (λ r. IsEffect (dropped name.now (database catalog.old tables.old)) r
+        (database catalog.new tables.new)) }
     ensures err { OnErr result (database catalog.new tables.new ≡ database catalog.old tables.old) }
     ensures whole { IsWhole (database catalog.new tables.new) }
 {

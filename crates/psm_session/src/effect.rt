@@ -1,7 +1,7 @@
 //! What a bound statement does.
 
 ghost use Rattle.std.specs.Prelude.{◌≡◌, IfOk, OnErr};
-ghost use Rattle.psm_names.specs.Binds.{StatementFits};
+ghost use Rattle.bind_statements.specs.Binds.{StatementFits};
 ghost use Rattle.psm_session.specs.Effects.{effect, checked};
 ghost use Rattle.psm_session.specs.Conclusions.{database, IsEffect};
 ghost use Rattle.psm_session.specs.Shapes.{IsWhole};
@@ -10,8 +10,8 @@ use crate::change::Change;
 use crate::create::create;
 use crate::drop::drop_object;
 use crate::world::{Task, do_task};
+use bind_statements::Bound;
 use catalog_store::Catalog;
-use psm_names::Bound;
 use reply_text::{Reply, done_reply};
 use sql_values::NoMemory;
 use std::alloc::Global;
@@ -28,7 +28,8 @@ pub(crate) fn run_bound(
 ) -> Result<Reply, NoMemory>
     requires fits { StatementFits catalog.old stmt }
     requires whole { IsWhole (database catalog.old tables.old) }
-    ensures ok { IfOk result (λ r. IsEffect (effect stmt (database catalog.old tables.old)) r (database catalog.new tables.new)) }
+    ensures ok { IfOk result (λ r. IsEffect (effect stmt (database catalog.old tables.old)) r
+        (database catalog.new tables.new)) }
     ensures err { OnErr result (database catalog.new tables.new ≡ database catalog.old tables.old) }
     ensures whole { IsWhole (database catalog.new tables.new) }
 {
@@ -67,7 +68,8 @@ pub(crate) fn check_bound(
 ) -> Result<Reply, NoMemory>
     requires fits { StatementFits catalog.old stmt }
     requires whole { IsWhole (database catalog.old tables.old) }
-    ensures ok { IfOk result (λ r. IsEffect (checked stmt (database catalog.old tables.old)) r (database catalog.new tables.new)) }
+    ensures ok { IfOk result (λ r. IsEffect (checked stmt (database catalog.old tables.old)) r
+        (database catalog.new tables.new)) }
     ensures err { OnErr result (database catalog.new tables.new ≡ database catalog.old tables.old) }
     ensures whole { IsWhole (database catalog.new tables.new) }
 {

@@ -6,13 +6,13 @@ ghost use Rattle.reply_text.specs.Texts.{fault_text};
 ghost use Rattle.psm_session.specs.Statement.{Statement, Checked};
 
 use crate::Database;
-use psm_parse::parse_statement;
+use grammar_algebra::ParseFault;
+use parse_statements::parse_statement;
 use reply_text::{FaultText, Reply, fault_reply};
 use sql_lex::{Tokens, place};
 use sql_values::NoMemory;
 use std::alloc::Global;
 use std::mem::drop;
-use token_grammar::ParseFault;
 
 // The reply where no statement is read, with the place up to which one begins.
 fn unread(
@@ -22,7 +22,8 @@ fn unread(
     stop: usize,
 ) -> Result<(Reply, usize), NoMemory>
     requires { stop ≤ length tokens.now.tokens }
-    ensures reply { IfOk result (λ r. r.0 ≡ fault_text why (place_at tokens.now stop).0 (place_at tokens.now stop).1) }
+    ensures reply { IfOk result (λ r. r.0 ≡ fault_text why (place_at tokens.now stop).0
+        (place_at tokens.now stop).1) }
     ensures end { IfOk result (λ r. r.1 ≡ length tokens.now.tokens) }
 {
     let (line, column) = place(tokens, stop);

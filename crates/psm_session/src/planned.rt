@@ -30,7 +30,8 @@ pub(crate) fn planned_answer<L: Ledger>(
 ) -> Result<Answer, NoMemory>
     requires whole { IsWhole (database catalog.now tables.now) }
     requires planned { planned_by (query_of catalog.now query.now) ≡ true }
-    ensures ends { IfOk result (λ a. (w : World) → w.tables ≡ tables.now.tables → answer (query_of catalog.now query.now) no_self [] no_frame w ≡ ends_with a w) }
+    ensures ends { IfOk result (λ a. (w : World) → w.tables ≡ tables.now.tables →
+        answer (query_of catalog.now query.now) no_self [] no_frame w ≡ ends_with a w) }
     ensures values { IfOk result (λ a. HasValues a) }
 {
     let _entries = catalog.len();

@@ -15,7 +15,7 @@ ghost use Rattle.psm_session.specs.Preparing.{IsPrepared, plan_in, most_steps};
 use bound_trees::BoundQuery;
 use catalog_store::Catalog;
 use plan_exec::{Answer, collect, execute};
-use query_plan::plan_query;
+use plan_queries::plan_query;
 use rel_algebra::Plan;
 use row_types::Steps;
 use sql_values::NoMemory;
@@ -36,7 +36,8 @@ pub(crate) fn prepare_query(
     catalog: &Catalog,
 ) -> Result<Prepared, NoMemory>
     requires planned { planned_by (query_of catalog.now query.now) ≡ true }
-    ensures { IfOk result (λ p. IsPrepared (query_of catalog.now query.now) (width_in catalog.now) (plan_in p)) }
+    ensures { IfOk result (λ p. IsPrepared (query_of catalog.now query.now) (width_in catalog.now)
+        (plan_in p)) }
 {
     let plan = plan_query(alloc, query, catalog)?;
     Ok(Prepared { plan })
@@ -49,8 +50,11 @@ pub(crate) fn run_plan<L: Ledger>(
     tables: &Tables,
     steps: &mut Steps<L>,
 ) -> Result<Answer, NoMemory>
-    ensures ends { IfOk result (λ a. (q : Query) (widths : List ℕ → ℕ) → IsPrepared q widths (plan_in prepared.now) → QueryLasts q widths (table_width tables.now.tables)
-        → (w : World) → w.tables ≡ tables.now.tables → answer q no_self [] no_frame w ≡ ends_with a w) }
+    ensures ends { IfOk result (λ a. (q : Query) (widths : List ℕ → ℕ) →
+        IsPrepared q widths (plan_in prepared.now) →
+        QueryLasts q widths (table_width tables.now.tables)
+        → (w : World) → w.tables ≡ tables.now.tables →
+        answer q no_self [] no_frame w ≡ ends_with a w) }
     ensures values { IfOk result (λ a. HasValues a) }
     ensures work { steps.new ≤ steps.old + most_steps (plan_in prepared.now) tables.now.tables }
 {

@@ -5,7 +5,7 @@ ghost use Rattle.rel_algebra.specs.Meaning.{ask};
 ghost use Rattle.rel_algebra.specs.Plain.{planned};
 ghost use Rattle.catalog_store.specs.View.{query_of};
 ghost use Rattle.reply_text.specs.Texts.{rows_text};
-ghost use Rattle.expr_interp.specs.Content.{world_of as plain_world};
+ghost use Rattle.run_expressions.specs.Content.{world_of as plain_world};
 ghost use Rattle.psm_session.specs.Effects.{replied};
 ghost use Rattle.psm_session.specs.Shapes.{IsWhole};
 ghost use Rattle.psm_session.specs.Tasks.{task_effect, TaskFits};
@@ -16,10 +16,10 @@ use crate::change::{Change, change_in};
 use crate::planned::planned_answer;
 use bound_trees::BoundQuery;
 use catalog_store::Catalog;
-use expr_interp::World;
 use plan_exec::Answer;
 use reply_text::{Reply, area_reply, rows_reply};
 use row_types::Steps;
+use run_expressions::World;
 use sql_values::NoMemory;
 use std::alloc::Global;
 use std::marker::Brand;
@@ -70,7 +70,8 @@ fn in_world<L: Ledger>(
     requires some { blank.parts ≡ 1 }
     requires whole { IsWhole (database catalog.now tables.old) }
     requires fits { TaskFits catalog.now task }
-    ensures ok { IfOk result (λ r. IsEffect (task_effect task.entry (database catalog.now tables.old)) r (database catalog.now tables.new)) }
+    ensures ok { IfOk result (λ r. IsEffect (task_effect task.entry (database catalog.now tables.old)) r
+        (database catalog.now tables.new)) }
     ensures err { OnErr result (tables.new.tables ≡ tables.old.tables) }
     ensures shapes { KeepsShapes tables.old tables.new }
 {
@@ -94,7 +95,8 @@ pub(crate) fn do_task(
 ) -> Result<Reply, NoMemory>
     requires whole { IsWhole (database catalog.now tables.old) }
     requires fits { TaskFits catalog.now task }
-    ensures ok { IfOk result (λ r. IsEffect (task_effect task.entry (database catalog.now tables.old)) r (database catalog.now tables.new)) }
+    ensures ok { IfOk result (λ r. IsEffect (task_effect task.entry (database catalog.now tables.old)) r
+        (database catalog.now tables.new)) }
     ensures err { OnErr result (tables.new.tables ≡ tables.old.tables) }
     ensures shapes { KeepsShapes tables.old tables.new }
 {

@@ -1,6 +1,7 @@
 -- The command of the program, which words it takes, and as what: clap's rule for one simple
 -- command.
-use Rattle.std.specs.Prelude.{◌≡◌, true, List, [], ◌∷◌, Option, Some, None, codes, option_and_then, if◌then◌else◌}
+use Rattle.std.specs.Prelude.{◌≡◌, true, List, [], ◌∷◌, Option, Some, None, codes, option_and_then}
+use Rattle.std.specs.Prelude.{if◌then◌else◌}
 use Rattle.std.specs.Str.{bytes_eq}
 use Rattle.clap.specs.Words.{App, Text, fault_of, new_app, subcommand_of, with_subcommand}
 use Rattle.clap.specs.Simple.{on_top}
@@ -10,7 +11,11 @@ use Rattle.psm_words.specs.declared.command.Command.TheVariants.{Run, Check}
 
 -- a subcommand is required, and there is no help
 abbrev pub without_help : App → App
-without_help a = on_top (λ s. record s { disable_help_flag = true; disable_help_subcommand = true; subcommand_required = true }) a
+without_help a = on_top (λ s. record s {
+  disable_help_flag = true;
+  disable_help_subcommand = true;
+  subcommand_required = true;
+}) a
 
 -- `run`, with no argument of its own
 abbrev pub run : App
@@ -40,4 +45,5 @@ unless_fault (fault ∷ faults) said = None
 
 -- the command that the words are, and none where they are not taken
 abbrev pub command_of : List Text → Option Command
-command_of words = unless_fault (fault_of psm words) (option_and_then (λ p. command_named p.0) (subcommand_of psm words))
+command_of words = unless_fault (fault_of psm words)
+    (option_and_then (λ p. command_named p.0) (subcommand_of psm words))

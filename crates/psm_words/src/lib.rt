@@ -7,8 +7,6 @@
 mod command;
 mod made;
 mod read;
-#[cfg(test)]
-mod tests;
 
 pub use command::Command;
 pub use made::psm_command;

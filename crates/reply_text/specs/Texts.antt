@@ -1,5 +1,6 @@
 -- The text of replies. Each line ends in LF. States are those of ISO/IEC 9075-2, 24.1 (SQLSTATE).
-use Rattle.std.specs.Prelude.{ℕ, Bool, true, false, List, [], ◌∷◌, ◌++◌, map, length, codes, decimal, ◌==◌, if◌then◌else◌, Option, Some, None}
+use Rattle.std.specs.Prelude.{ℕ, Bool, true, false, List, [], ◌∷◌, ◌++◌, map, length, codes}
+use Rattle.std.specs.Prelude.{decimal, ◌==◌, if◌then◌else◌, Option, Some, None}
 use Rattle.std.specs.List.{flat_map}
 use Rattle.std.specs.Fmt.{signed_decimal}
 use Rattle.std.specs.Str.{encode_utf8_all}
@@ -8,11 +9,14 @@ use Rattle.csv.specs.Writing.{default_writer, with_flexible, row_text}
 use Rattle.sql_values.specs.declared.value.Value.{Value}
 use Rattle.sql_values.specs.declared.value.Value.TheVariants.{Null, Int, Str, Bool as Truth}
 use Rattle.sql_conditions.specs.Conditions.{Condition, Area}
-use Rattle.name_faults.specs.declared.fault.FaultKind.{FaultKind}
-use Rattle.name_faults.specs.declared.fault.FaultKind.TheVariants.{UnknownName, DuplicateName, TypeMismatch, WrongCount, NotPermitted, TooHigh}
+use Rattle.bind_faults.specs.declared.fault.FaultKind.{FaultKind}
+use Rattle.bind_faults.specs.declared.fault.FaultKind.TheVariants.{UnknownName, DuplicateName}
+use Rattle.bind_faults.specs.declared.fault.FaultKind.TheVariants.{TypeMismatch, WrongCount}
+use Rattle.bind_faults.specs.declared.fault.FaultKind.TheVariants.{NotPermitted, TooHigh}
 use Rattle.reply_text.specs.declared.fault.FaultText.{FaultText}
 use Rattle.reply_text.specs.declared.fault.FaultText.TheVariants.{Name, Syntax, TooDeep}
 
+-- a truth value as it is written
 abbrev pub truth_text : Bool → List ℕ
 truth_text true = codes "TRUE"
 truth_text false = codes "FALSE"
@@ -33,17 +37,19 @@ value_text (Int n) = signed_decimal n
 value_text (Str text) = quoted text
 value_text (Truth p) = truth_text p
 
--- Records are those of csv: fields separated by commas, in double quotes where one has a comma, a double quote, CR or LF, and LF last. Records of
--- one reply may differ in length.
+-- Records are those of csv: fields separated by commas, in double quotes where one has a comma, a
+-- double quote, CR or LF, and LF last. Records of one reply may differ in length.
 abbrev pub record_writer : WriterBuilder
 record_writer = with_flexible default_writer true
 
+-- a row as one record of csv, without a header
 abbrev pub record_text : List Value → List ℕ
 record_text values = row_text record_writer (map value_text values)
 
 -- how many rows there were; none is the condition of no data
 abbrev pub count_text : ℕ → List ℕ
-count_text n = if n == 0 then codes "02000 rows 0\n" else codes "00000 rows " ++ decimal n ++ codes "\n"
+count_text n = if n == 0 then codes "02000 rows 0\n" else codes "00000 rows " ++ decimal n ++
+    codes "\n"
 
 -- a query's answer: a record for each row, and how many there are
 abbrev pub rows_text : List (List Value) → List ℕ
@@ -103,4 +109,5 @@ refusal_text TooDeep = codes "nesting too deep"
 -- a fault of the script, with its line and column: the state of a syntax error or access rule
 -- violation
 abbrev pub fault_text : FaultText → ℕ → ℕ → List ℕ
-fault_text fault line column = codes "! 42000 " ++ refusal_text fault ++ codes " at line " ++ decimal line ++ codes " column " ++ decimal column ++ codes "\n"
+fault_text fault line column = codes "! 42000 " ++ refusal_text fault ++ codes " at line " ++
+    decimal line ++ codes " column " ++ decimal column ++ codes "\n"

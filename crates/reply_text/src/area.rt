@@ -2,7 +2,8 @@
 
 ghost use Rattle.std.specs.Prelude.{◌≡◌, ◌++◌, IfOk, OnOk};
 ghost use Rattle.std.specs.List.{flat_map};
-ghost use Rattle.reply_text.specs.Texts.{message_text, condition_line, further_line, area_text, spent_text};
+ghost use Rattle.reply_text.specs.Texts.{message_text, condition_line, further_line, area_text};
+ghost use Rattle.reply_text.specs.Texts.{spent_text};
 
 use crate::Reply;
 use crate::put::put;

@@ -5,7 +5,7 @@ ghost use Rattle.reply_text.specs.Texts.{kind_text, refusal_text, fault_text};
 
 use crate::Reply;
 use crate::put::{put, put_count};
-use name_faults::FaultKind;
+use bind_faults::FaultKind;
 use sql_values::NoMemory;
 use std::alloc::Global;
 

@@ -2,7 +2,8 @@
 
 ghost use Rattle.std.specs.Prelude.{◌≡◌, ◌<◌, ◌+◌, ◌^◌, ℕ, List, [], ◌∷◌, ◌++◌, length, IfOk, OnOk};
 ghost use Rattle.csv.specs.Writing.{row_text};
-ghost use Rattle.reply_text.specs.Texts.{doubled, quoted as quoted_by, value_text, record_text, record_writer as record_writer_by};
+ghost use Rattle.reply_text.specs.Texts.{doubled, quoted as quoted_by, value_text, record_text};
+ghost use Rattle.reply_text.specs.Texts.{record_writer as record_writer_by};
 ghost use Rattle.reply_text.specs.Writers.{written, IsBetween, IsWithin};
 
 use csv::{Writer, WriterBuilder};
@@ -37,7 +38,9 @@ fn quoted(alloc: Global, text: &Text) -> Result<Vec<u8>, NoMemory>
 
 // Writes one more field of a record.
 fn write_field(writer: &mut Writer<Vec<u8>>, field: &[u8]) -> Result<(), NoMemory>
-    ensures { (before : List ℕ) (fields : List (List ℕ)) → IsWithin writer.old before fields → length fields + 1 < 2 ^ 64 → OnOk result (IsWithin writer.new before (fields ++ field.now ∷ [])) }
+    ensures { (before : List ℕ) (fields : List (List ℕ)) → IsWithin writer.old before fields →
+        length fields + 1 < 2 ^ 64 → OnOk result
+        (IsWithin writer.new before (fields ++ field.now ∷ [])) }
 {
     match writer.write_field(field) {
         Ok(()) => Ok(()),
@@ -47,7 +50,9 @@ fn write_field(writer: &mut Writer<Vec<u8>>, field: &[u8]) -> Result<(), NoMemor
 
 // Writes one more value of a record.
 fn write_value(writer: &mut Writer<Vec<u8>>, alloc: Global, value: &Value) -> Result<(), NoMemory>
-    ensures { (before : List ℕ) (fields : List (List ℕ)) → IsWithin writer.old before fields → length fields + 1 < 2 ^ 64 → OnOk result (IsWithin writer.new before (fields ++ value_text value.now ∷ [])) }
+    ensures { (before : List ℕ) (fields : List (List ℕ)) → IsWithin writer.old before fields →
+        length fields + 1 < 2 ^ 64 → OnOk result
+        (IsWithin writer.new before (fields ++ value_text value.now ∷ [])) }
 {
     match value {
         Value::Null => write_field(writer, b"NULL"),
@@ -63,8 +68,10 @@ fn write_value(writer: &mut Writer<Vec<u8>>, alloc: Global, value: &Value) -> Re
 
 // Ends a record.
 fn end_record(writer: &mut Writer<Vec<u8>>) -> Result<(), NoMemory>
-    ensures between { (before : List ℕ) (fields : List (List ℕ)) → IsWithin writer.old before fields → OnOk result (IsBetween writer.new) }
-    ensures text { (before : List ℕ) (fields : List (List ℕ)) → IsWithin writer.old before fields → OnOk result (written writer.new ≡ before ++ row_text record_writer_by fields) }
+    ensures between { (before : List ℕ) (fields : List (List ℕ)) →
+        IsWithin writer.old before fields → OnOk result (IsBetween writer.new) }
+    ensures text { (before : List ℕ) (fields : List (List ℕ)) → IsWithin writer.old before fields →
+        OnOk result (written writer.new ≡ before ++ row_text record_writer_by fields) }
 {
     match writer.end_record() {
         Ok(()) => Ok(()),

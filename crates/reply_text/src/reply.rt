@@ -4,7 +4,8 @@ ghost use Rattle.std.specs.Prelude.{◌≡◌, ◌≤◌, ◌+◌, [], ◌++◌,
 ghost use Rattle.std.specs.List.{flat_map};
 ghost use Rattle.row_types.specs.Cells.{row_end, with_values, value_rows};
 ghost use Rattle.reply_text.specs.Writers.{written, IsBetween};
-ghost use Rattle.reply_text.specs.Texts.{record_text, count_text, rows_text, values_text, end_text, done_text};
+ghost use Rattle.reply_text.specs.Texts.{record_text, count_text, rows_text, values_text, end_text};
+ghost use Rattle.reply_text.specs.Texts.{done_text};
 
 use crate::put::{put, put_count};
 use crate::record::{record_writer, write_record, written_text};
@@ -61,7 +62,8 @@ fn put_total(text: &mut Vec<u8>, count: u64) -> Result<(), NoMemory>
 fn write_row(writer: &mut Writer<Vec<u8>>, alloc: Global, row: PlanRow) -> Result<(), NoMemory>
     requires { IsBetween writer.old }
     ensures between { OnOk result (IsBetween writer.new) }
-    ensures text { OnOk result (written writer.new ≡ written writer.old ++ flat_map record_text (with_values (row_end row) [])) }
+    ensures text { OnOk result (written writer.new ≡ written writer.old ++ flat_map record_text
+        (with_values (row_end row) [])) }
 {
     match row.into_end(alloc)? {
         RowEnd::Values(values) => write_record(writer, alloc, values.as_slice()),

@@ -1,6 +1,7 @@
 //! Worked rows.
 
-ghost use Rattle.routine_form.specs.Examples.{ExpressionsWeigh, StatementsWeigh, CompoundStatementsWeigh};
+ghost use Rattle.routine_form.specs.Examples.{ExpressionsWeigh, StatementsWeigh};
+ghost use Rattle.routine_form.specs.Examples.{CompoundStatementsWeigh};
 
 /// What expressions call counts, each function as often as it is called.
 pub fn expressions_weigh()

@@ -119,7 +119,9 @@ fn actions_weight(actions: &[BoundHandler], outer: u32, catalog: &Catalog) -> u3
 // What stands in a compound statement, in sight of handlers outside it.
 #[cycle(weigh)]
 fn inside(block: &BoundBlock, outer: u32, catalog: &Catalog) -> u32
-    ensures { result ≡ spec.inside catalog.now (out-BoundBlock block.now).variables (map (spec.weight_of_handler catalog.now) (out-BoundBlock block.now).handlers) (map (spec.weight_under catalog.now) (out-BoundBlock block.now).statements) outer }
+    ensures { result ≡ spec.inside catalog.now (out-BoundBlock block.now).variables
+        (map (spec.weight_of_handler catalog.now) (out-BoundBlock block.now).handlers)
+        (map (spec.weight_under catalog.now) (out-BoundBlock block.now).statements) outer }
 {
     let declared = declarations(block.variables.as_slice(), outer, catalog);
     let actions = actions_weight(block.handlers.as_slice(), outer, catalog);

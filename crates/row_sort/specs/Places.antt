@@ -5,6 +5,7 @@ use Rattle.sql_values.specs.declared.value.Value.{Value}
 use Rattle.sql_values.specs.declared.value.Value.TheVariants.{Null}
 use Rattle.row_types.specs.Rows.{Row}
 
+-- the row at a place, counted from 0; one without values past the last
 abbrev pub row_at : List Row → ℕ → Row
 row_at rows place = slice_index_or rows place []
 

@@ -152,7 +152,8 @@ pub(crate) fn places_in_order(
     rows: &[Row],
     keys: &[SortKey],
 ) -> Result<Vec<usize>, NoMemory>
-    ensures { IfOk result (λ v. v.items ≡ in_order (at_places (keys_cmp keys.now) rows.now) (places_from 0 rows.now)) }
+    ensures { IfOk result (λ v. v.items ≡ in_order (at_places (keys_cmp keys.now) rows.now)
+        (places_from 0 rows.now)) }
 {
     let mut places = first_places(alloc, rows)?;
     let mut i = keys.len();

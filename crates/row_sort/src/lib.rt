@@ -9,8 +9,6 @@ ghost use Rattle.row_sort.specs.Places.{rows_at as rows_at_by};
 
 mod columns;
 mod numbers;
-#[cfg(test)]
-mod tests;
 
 use columns::places_in_order;
 use row_types::{Row, SortKey};

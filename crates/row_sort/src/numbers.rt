@@ -3,7 +3,8 @@
 ghost use Rattle.std.specs.Prelude.{◌≡◌, pos, slice_index_or};
 ghost use Rattle.std.specs.List.{list_all};
 ghost use Rattle.sql_values.specs.declared.value.Value.TheVariants.{Null, Bool as Truth};
-ghost use Rattle.row_sort.specs.Numbers.{whole_number, first_number, number_by, is_told as is_told_by, tells};
+ghost use Rattle.row_sort.specs.Numbers.{whole_number, first_number, number_by};
+ghost use Rattle.row_sort.specs.Numbers.{is_told as is_told_by, tells};
 ghost use Rattle.row_sort.specs.Places.{value_at};
 
 use row_types::Row;

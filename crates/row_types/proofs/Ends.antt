@@ -10,7 +10,8 @@ abbrev pub with_values : List Value → Result (List Value) Area → Result (Lis
 with_values [] end = end
 with_values (v ∷ vs) end = with_value v (with_values vs end)
 
-pub with_values_push : (vs : List Value) (v : Value) (end : Result (List Value) Area) → with_values (vs ++ v ∷ []) end ≡ with_values vs (with_value v end)
+pub with_values_push : (vs : List Value) (v : Value) (end : Result (List Value) Area) →
+    with_values (vs ++ v ∷ []) end ≡ with_values vs (with_value v end)
 with_values_push [] v end = refl
 with_values_push (x ∷ vs) v end = ap (with_value x) (with_values_push vs v end)
 

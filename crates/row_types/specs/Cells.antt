@@ -1,12 +1,15 @@
--- Cells, and the rows of plans. ISO/IEC 9075-2, 4.33 (diagnostics area): what a scalar raises stands in its cell.
-use Rattle.std.specs.Prelude.{ℕ, Bool, true, false, slice_index_or, List, [], ◌∷◌, Option, Some, None, Result, Ok, Err}
+-- Cells, and the rows of plans. ISO/IEC 9075-2, 4.33 (diagnostics area): what a scalar raises
+-- stands in its cell.
+use Rattle.std.specs.Prelude.{ℕ, Bool, true, false, slice_index_or, List, [], ◌∷◌, Option, Some}
+use Rattle.std.specs.Prelude.{None, Result, Ok, Err}
 use Rattle.sql_values.specs.declared.value.Value.{Value}
 use Rattle.sql_values.specs.declared.value.Value.TheVariants.{Null}
 use Rattle.sql_conditions.specs.Conditions.{Area}
 use Rattle.row_types.specs.declared.cell.Cell.{Cell}
 use Rattle.row_types.specs.declared.cell.Cell.TheVariants.{Val, Cond}
 
--- a row of a plan's list: its cells, or, where deciding whether the row stays raised, the area of that
+-- a row of a plan's list: its cells, or, where deciding whether the row stays raised, the area of
+-- that
 pub data PlanRow : Type 0 where
   Whole : List Cell → PlanRow
   Poisoned : Area → PlanRow
@@ -19,6 +22,7 @@ cell_at cells i = slice_index_or cells i (Val Null)
 abbrev pub row_of_level : List (List Cell) → ℕ → List Cell
 row_of_level rows level = slice_index_or rows level []
 
+-- the cell has a value; no condition was raised in it
 abbrev pub is_value : Cell → Bool
 is_value (Val v) = true
 is_value (Cond area) = false

@@ -3,7 +3,8 @@ use Rattle.std.specs.Prelude.{List, map, Result, Ok, Err}
 use Rattle.sql_values.specs.declared.value.Value.{Value}
 use Rattle.sql_conditions.specs.Conditions.{Area}
 use Rattle.row_types.specs.declared.plan_row.Form.{Form}
-use Rattle.row_types.specs.declared.plan_row.Form.TheVariants.{Values, Cells, Poisoned as PoisonedBy}
+use Rattle.row_types.specs.declared.plan_row.Form.TheVariants.{Values, Cells}
+use Rattle.row_types.specs.declared.plan_row.Form.TheVariants.{Poisoned as PoisonedBy}
 use Rattle.row_types.specs.declared.plan_row.RowEnd.{RowEnd}
 use Rattle.row_types.specs.declared.plan_row.RowEnd.TheVariants.{Values as ValuesOf, Raised}
 use Rattle.row_types.specs.declared.cell.Cell.TheVariants.{Val}

@@ -1,5 +1,6 @@
 -- Groups of rows. ISO/IEC 9075-2, 7.13 (group by clause).
-use Rattle.std.specs.Prelude.{ℕ, zero, suc, Bool, true, false, ◌&&◌, if◌then◌else◌, List, [], ◌∷◌, ◌++◌, map}
+use Rattle.std.specs.Prelude.{ℕ, zero, suc, Bool, true, false, ◌&&◌, if◌then◌else◌, List, [], ◌∷◌}
+use Rattle.std.specs.Prelude.{◌++◌, map}
 use Rattle.std.specs.Ordering.{is_eq}
 use Rattle.sql_values.specs.declared.value.Value.{Value}
 use Rattle.sql_values.specs.declared.value.Value.TheVariants.{Null}
@@ -15,6 +16,7 @@ value_at (v ∷ vs) (suc i) = value_at vs i
 abbrev pub same_value : Value → Value → Bool
 same_value a b = is_eq (value_cmp a b)
 
+-- rows are the same: as many values, and at each place the same, NULL as NULL
 abbrev pub same_row : Row → Row → Bool
 same_row [] [] = true
 same_row (x ∷ xs) (y ∷ ys) = same_value x y && same_row xs ys
@@ -38,8 +40,10 @@ pub record Group : Type 0 where
 abbrev pub put : Row → Row → List Group → List Group
 put key r [] = record { key = key; members = r ∷ [] } ∷ []
 put key r (g ∷ gs) =
-    if same_row key g.key then record { key = g.key; members = g.members ++ r ∷ [] } ∷ gs else g ∷ put key r gs
+    if same_row key g.key then record { key = g.key; members = g.members ++ r ∷ [] } ∷ gs else g ∷
+    put key r gs
 
+-- rows put into groups one after another, after those that are there
 abbrev pub grouped_from : List ℕ → List Group → List Row → List Group
 grouped_from keys gs [] = gs
 grouped_from keys gs (r ∷ rs) = grouped_from keys (put (values_at r keys) r gs) rs

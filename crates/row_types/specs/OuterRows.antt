@@ -8,4 +8,5 @@ use Rattle.row_types.specs.declared.cell.Cell.TheVariants.{Val}
 -- the rows, the innermost first
 abbrev pub outer_rows : Outer → List (List Cell)
 outer_rows Outermost = []
-outer_rows (Under' values more cells p outer) = (map Val (values.now ++ more.now) ++ cells.now) ∷ outer_rows outer
+outer_rows (Under' values more cells p outer) = (map Val (values.now ++ more.now) ++ cells.now) ∷
+    outer_rows outer

@@ -1,6 +1,7 @@
 -- Rows of values, their keys and the order of keys.
 -- ISO/IEC 9075-2, 4.14 (tables) and 8.2 (comparison predicate).
-use Rattle.std.specs.Prelude.{ℕ, ◌&&◌, Bool, true, false, not, List, [], ◌∷◌, map, slice_index_or, length, nat_le, nat_lt}
+use Rattle.std.specs.Prelude.{ℕ, ◌&&◌, Bool, true, false, not, List, [], ◌∷◌, map, slice_index_or}
+use Rattle.std.specs.Prelude.{length, nat_le, nat_lt}
 use Rattle.std.specs.List.{list_all}
 use Rattle.std.specs.Ordering.{int_cmp, bool_cmp, nat_cmp}
 use Rattle.std.specs.Cmp.Lexicographic.{slice_cmp}
@@ -24,7 +25,8 @@ rank (Truth p) = 1
 rank (Int n) = 2
 rank (Str s) = 3
 
--- All values in one order: those of one kind in the order of the kind, and others by their kinds. No key has NULL.
+-- All values in one order: those of one kind in the order of the kind, and others by their kinds.
+-- No key has NULL.
 abbrev pub value_cmp : Value → Value → Ordering
 value_cmp (Truth p) (Truth q) = bool_cmp p q
 value_cmp (Int m) (Int n) = int_cmp m n

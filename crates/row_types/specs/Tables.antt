@@ -22,6 +22,7 @@ pub record Stored : Type 0 where
 abbrev pub Tables : Type 0
 Tables = List Stored
 
+-- the names of the tables, in the order of their making
 abbrev pub names_of : Tables → List (List ℕ)
 names_of ts = map (λ s. s.name) ts
 
@@ -29,9 +30,11 @@ names_of ts = map (λ s. s.name) ts
 abbrev pub HaveDistinctNames : Tables → Type 0
 HaveDistinctNames ts = IsDistinct bytes_eq (names_of ts)
 
+-- what stands for a table where none is: no columns, no key, no rows
 abbrev pub no_table : Table
 no_table = record { columns = []; key = []; rows = [] }
 
+-- the same table with other rows
 abbrev pub with_rows : List Row → Table → Table
 with_rows rows t = record t { rows = rows }
 
@@ -45,29 +48,34 @@ abbrev pub rows_of : Option Table → List Row
 rows_of None = []
 rows_of (Some t) = t.rows
 
+-- the rows of the table of a name; none where no table has it
 abbrev pub rows_named : List ℕ → Tables → List Row
 rows_named name ts = rows_of (table_named name ts)
 
 -- the tables with another in the place of that of a name
 abbrev pub with_table_named : List ℕ → Table → Tables → Tables
 with_table_named name t [] = []
-with_table_named name t (s ∷ ss) = if bytes_eq s.name name then record { name = s.name; table = t } ∷ ss else s ∷ with_table_named name t ss
+with_table_named name t (s ∷ ss) = if bytes_eq s.name name then record { name = s.name; table = t }
+    ∷ ss else s ∷ with_table_named name t ss
 
 -- the tables with other rows in that of a name
 abbrev pub with_rows_named : List ℕ → List Row → Tables → Tables
 with_rows_named name rows [] = []
 with_rows_named name rows (s ∷ ss) =
-    if bytes_eq s.name name then record { name = s.name; table = with_rows rows s.table } ∷ ss else s ∷ with_rows_named name rows ss
+    if bytes_eq s.name name then record { name = s.name; table = with_rows rows s.table } ∷
+    ss else s ∷ with_rows_named name rows ss
 
 -- the tables without that of a name
 abbrev pub without_table_named : List ℕ → Tables → Tables
 without_table_named name [] = []
-without_table_named name (s ∷ ss) = if bytes_eq s.name name then ss else s ∷ without_table_named name ss
+without_table_named name (s ∷ ss) = if bytes_eq s.name name then ss else s ∷
+    without_table_named name ss
 
 -- where a name stands
 abbrev pub place_named : List ℕ → Tables → Option ℕ
 place_named name [] = None
-place_named name (s ∷ ss) = if bytes_eq s.name name then Some 0 else option_map suc (place_named name ss)
+place_named name (s ∷ ss) = if bytes_eq s.name name then Some 0 else option_map suc
+    (place_named name ss)
 
 -- the table at a place
 abbrev pub table_at : Tables → ℕ → Table

@@ -8,8 +8,6 @@ mod aggregate_column;
 mod cell;
 mod gather;
 mod key;
-#[cfg(test)]
-mod list_tests;
 mod order;
 mod plan_row;
 mod row;

@@ -3,7 +3,8 @@
 ghost use Rattle.std.specs.Prelude.{◌≡◌, map, IfOk};
 ghost use Rattle.std.specs.Option.{option_copied};
 ghost use Rattle.row_types.specs.declared.cell.Cell.TheVariants.{Val};
-ghost use Rattle.row_types.specs.Cells.{Whole, Poisoned, area_in, row_area, row_cells, row_end, cells_end};
+ghost use Rattle.row_types.specs.Cells.{Whole, Poisoned, area_in, row_area, row_cells, row_end};
+ghost use Rattle.row_types.specs.Cells.{cells_end};
 ghost use Rattle.row_types.specs.Forms.{end_of};
 
 use crate::cell::{Cell, copied_area};

@@ -4,7 +4,8 @@ ghost use Rattle.std.specs.Prelude.{◌≡◌, IfOk, length, not, slice_index_or
 ghost use Rattle.std.specs.List.{list_all};
 ghost use Rattle.sql_values.specs.Values.{is_null as is_null_by};
 ghost use Rattle.sql_values.specs.declared.value.Value.TheVariants.{Null};
-ghost use Rattle.row_types.specs.Rows.{is_of as is_of_by, takes as takes_by, take_all as take_all_by, fits as fits_by, key_of};
+ghost use Rattle.row_types.specs.Rows.{is_of as is_of_by, takes as takes_by};
+ghost use Rattle.row_types.specs.Rows.{take_all as take_all_by, fits as fits_by, key_of};
 
 use crate::ColumnType;
 use sql_values::{NoMemory, SqlType, Value};

@@ -198,12 +198,13 @@ fn later_cell(alloc: Global, cells: &[Cell], place: usize) -> Result<Cell, NoMem
 pub enum Outer<'a> {
     /// No row.
     Outermost,
-    /// A row, which is values, perhaps those of a second row, and the cells after these; and the rows
-    /// outside it.
+    /// A row, which is values, perhaps those of a second row, and the cells after these; and the
+    /// rows outside it.
     Under(&'a [Value], &'a [Value], &'a [Cell], &'a Outer<'a>),
 }
 
-/// The cell at a place of the row of a level, the innermost row at level 0; NULL where there is none.
+/// The cell at a place of the row of a level, the innermost row at level 0; NULL where there is
+/// none.
 pub fn outer_cell(
     alloc: Global,
     outer: &Outer,

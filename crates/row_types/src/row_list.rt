@@ -1,6 +1,7 @@
 //! Lists of plan rows.
 
-ghost use Rattle.std.specs.Prelude.{◌≡◌, ◌+◌, ◌<◌, [], ◌∷◌, ◌++◌, length, OnOk, OnErr, slice_index_or, MatchOption, IfOk};
+ghost use Rattle.std.specs.Prelude.{◌≡◌, ◌+◌, ◌<◌, [], ◌∷◌, ◌++◌, length, OnOk, OnErr};
+ghost use Rattle.std.specs.Prelude.{slice_index_or, MatchOption, IfOk};
 
 use crate::plan_row::PlanRow;
 use crate::steps::Steps;
@@ -73,7 +74,8 @@ impl RowList {
 
     /// Takes the first row out; `None` exactly where there is none. It is a step.
     pub fn take_first<L: Ledger>(&mut self, steps: &mut Steps<L>) -> Option<PlanRow>
-        ensures row { MatchOption result ((self.old ≡ []) × (self.new ≡ [])) (λ row. self.old ≡ row ∷ self.new) }
+        ensures row { MatchOption result ((self.old ≡ []) × (self.new ≡ []))
+            (λ row. self.old ≡ row ∷ self.new) }
         ensures step { steps.new ≡ steps.old + 1 }
     {
         steps.tick();

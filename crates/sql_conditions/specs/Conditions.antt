@@ -1,13 +1,22 @@
--- Conditions and areas. ISO/IEC 9075-2, 24.1 (SQLSTATE) and 4.33 (diagnostics area); the texts are this engine's own.
+-- Conditions and areas. ISO/IEC 9075-2, 24.1 (SQLSTATE) and 4.33 (diagnostics area); the texts are
+-- this engine's own.
 use Rattle.std.specs.Prelude.{ℕ, List, [], ◌∷◌, codes, take}
 use Rattle.sql_conditions.specs.declared.condition.EngineCondition.{EngineCondition}
-use Rattle.sql_conditions.specs.declared.condition.EngineCondition.TheVariants.{NumberOutOfRange, DivisionByZero, ConstraintViolated, RecursionTooDeep, SeveralRows, StringTooLong, SubstringError, InvalidTextForCast}
+use Rattle.sql_conditions.specs.declared.condition.EngineCondition.TheVariants.{NumberOutOfRange}
+use Rattle.sql_conditions.specs.declared.condition.EngineCondition.TheVariants.{DivisionByZero}
+use Rattle.sql_conditions.specs.declared.condition.EngineCondition.TheVariants.{ConstraintViolated}
+use Rattle.sql_conditions.specs.declared.condition.EngineCondition.TheVariants.{RecursionTooDeep}
+use Rattle.sql_conditions.specs.declared.condition.EngineCondition.TheVariants.{SeveralRows}
+use Rattle.sql_conditions.specs.declared.condition.EngineCondition.TheVariants.{StringTooLong}
+use Rattle.sql_conditions.specs.declared.condition.EngineCondition.TheVariants.{SubstringError}
+use Rattle.sql_conditions.specs.declared.condition.EngineCondition.TheVariants.{InvalidTextForCast}
 
 -- a state and a message text
 pub record Condition : Type 0 where
   pub state : List ℕ
   pub message : List ℕ
 
+-- the SQLSTATE of each condition that the engine raises: a class of two, a subclass of three
 abbrev pub state_of : EngineCondition → List ℕ
 state_of NumberOutOfRange = codes "22003"
 state_of DivisionByZero = codes "22012"
@@ -18,6 +27,7 @@ state_of StringTooLong = codes "22001"
 state_of SubstringError = codes "22011"
 state_of InvalidTextForCast = codes "22018"
 
+-- the message text of each condition that the engine raises
 abbrev pub text_of : EngineCondition → List ℕ
 text_of NumberOutOfRange = codes "number out of range"
 text_of DivisionByZero = codes "division by zero"
@@ -28,6 +38,7 @@ text_of StringTooLong = codes "string too long"
 text_of SubstringError = codes "substring error"
 text_of InvalidTextForCast = codes "invalid text for cast"
 
+-- the condition that the engine raises, with its state and its text
 abbrev pub own : EngineCondition → Condition
 own c = record { state = state_of c; message = text_of c }
 
@@ -35,6 +46,7 @@ own c = record { state = state_of c; message = text_of c }
 abbrev pub Area : Type 0
 Area = List Condition
 
+-- the area of one condition that the engine raises
 abbrev pub area_of : EngineCondition → Area
 area_of c = own c ∷ []
 

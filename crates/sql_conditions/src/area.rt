@@ -10,7 +10,8 @@ use std::marker::Model;
 /// How many conditions an area keeps at most.
 const MOST_CONDITIONS: usize = 4;
 
-/// A diagnostics area (ISO/IEC 9075-2, 4.33): one to four conditions, the newest first. It takes no memory of its own.
+/// A diagnostics area (ISO/IEC 9075-2, 4.33): one to four conditions, the newest first. It takes no
+/// memory of its own.
 #[derive(Debug, Drop)]
 pub struct Area {
     conditions: ArrayVec<Condition, MOST_CONDITIONS>,

@@ -1,4 +1,5 @@
-//! One condition: its state and its message. Those that the engine raises are constants, and take no memory.
+//! One condition: its state and its message. Those that the engine raises are constants, and take
+//! no memory.
 
 ghost use Rattle.std.specs.Prelude.{◌≡◌};
 ghost use Rattle.sql_conditions.specs.Conditions.{state_of, text_of, own};

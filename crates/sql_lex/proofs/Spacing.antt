@@ -1,5 +1,6 @@
 -- The spans of tokens are in order.
-use Rattle.std.proofs.Common.{ℕ, ◌≡◌, ◌+◌, List, [], ◌∷◌, length, sym, ap, ◌∙◌, subst, arith, inl, inr}
+use Rattle.std.proofs.Common.{ℕ, ◌≡◌, ◌+◌, List, [], ◌∷◌, length, sym, ap, ◌∙◌, subst, arith, inl}
+use Rattle.std.proofs.Common.{inr}
 use Rattle.sql_lex.specs.declared.token.Lexeme.{Lexeme}
 use Rattle.sql_lex.specs.declared.token.Lexeme.TheVariants as lexeme
 use Rattle.sql_lex.specs.declared.token.Token.{Token}
@@ -15,11 +16,14 @@ past-at : (bytes : List ℕ) (p : Position) → (past bytes p).at ≡ p.at + len
 past-at [] p = omega arith
 past-at (b ∷ bs) p = omega (arith, past-at bs (moved b p), moved-at b p)
 
-only_last : (t : Token) (ts : List Token) (number : ℕ) (p : Position) (head rest : List ℕ) → Others t ts number p head rest → t.lexeme ≡ lexeme.Bad → ts ≡ []
-only_last t ts number p head rest (inl h) e = let Is : Lexeme → Type 0 = λ l. IsLexeme l head rest in absurd (subst Is e h.0).0
+only_last : (t : Token) (ts : List Token) (number : ℕ) (p : Position) (head rest : List ℕ) →
+    Others t ts number p head rest → t.lexeme ≡ lexeme.Bad → ts ≡ []
+only_last t ts number p head rest (inl h) e =
+    let Is : Lexeme → Type 0 = λ l. IsLexeme l head rest in absurd (subst Is e h.0).0
 only_last t ts number p head rest (inr h) e = h.1
 
-pub spans : (ts : List Token) (number : ℕ) (p : Position) (bytes : List ℕ) → AreTokens ts number p bytes → AreSpans number p.at ts
+pub spans : (ts : List Token) (number : ℕ) (p : Position) (bytes : List ℕ) →
+    AreTokens ts number p bytes → AreSpans number p.at ts
 spans [] number p bytes h = tt
 spans (t ∷ ts) number p bytes (gap, head, rest, is, (parts, joined, are), token, others) =
     let q : Position = past gap p in
@@ -32,7 +36,8 @@ spans (t ∷ ts) number p bytes (gap, head, rest, is, (parts, joined, are), toke
       omega arith,
       only_last t ts number q head rest others,
       elim others as (λ _. AreSpans (number + 1) t.end ts) [
-        | inl h ↦ subst (λ n. AreSpans (number + 1) n ts) (past-at head q ∙ sym upto) (spans ts (number + 1) (past head q) rest h.1)
+        | inl h ↦ subst (λ n. AreSpans (number + 1) n ts) (past-at head q ∙ sym upto)
+            (spans ts (number + 1) (past head q) rest h.1)
         | inr h ↦ subst (AreSpans (number + 1) t.end) (sym h.1) tt
       ],
     )

@@ -1,5 +1,6 @@
 -- The longest front of some bytes whose bytes pass a test.
-use Rattle.std.proofs.Common.{ℕ, zero, suc, ◌≡◌, ◌<◌, Bool, true, false, List, [], ◌∷◌, ◌++◌, length, take, drop, refl, sym, ap, ◌∙◌, subst, arith, one-add}
+use Rattle.std.proofs.Common.{ℕ, zero, suc, ◌≡◌, ◌<◌, Bool, true, false, List, [], ◌∷◌, ◌++◌}
+use Rattle.std.proofs.Common.{length, take, drop, refl, sym, ap, ◌∙◌, subst, arith, one-add}
 use Rattle.std.proofs.lemmas.Bool.{and_parts, and_from}
 use Rattle.std.specs.List.{list_all, prefix_len}
 use Rattle.std.proofs.lemmas.List.{length-take-le}
@@ -8,12 +9,14 @@ use Rattle.sql_texts.specs.Names.{begins_by}
 
 module _ (p : ℕ → Bool) where
   -- bytes that pass, before one that does not
-  pub prefix_len-whole : (bytes rest : List ℕ) → list_all p bytes ≡ true → begins_by p rest ≡ false → prefix_len p (bytes ++ rest) ≡ length bytes
+  pub prefix_len-whole : (bytes rest : List ℕ) → list_all p bytes ≡ true →
+      begins_by p rest ≡ false → prefix_len p (bytes ++ rest) ≡ length bytes
   prefix_len-whole [] [] h k = refl
   prefix_len-whole [] (c ∷ cs) h k = rw k refl
   prefix_len-whole (b ∷ bs) rest h k =
       let here = (and_parts (p b) (list_all p bs) h).0 in
-      rw here (one-add (prefix_len p (bs ++ rest)) ∙ ap suc (prefix_len-whole bs rest (and_parts (p b) (list_all p bs) h).1 k))
+      rw here (one-add (prefix_len p (bs ++ rest)) ∙
+      ap suc (prefix_len-whole bs rest (and_parts (p b) (list_all p bs) h).1 k))
 
   prefix_yes : (b : ℕ) (bs : List ℕ) → p b ≡ true → prefix_len p (b ∷ bs) ≡ suc (prefix_len p bs)
   prefix_yes b bs e = rw e (one-add (prefix_len p bs))
@@ -26,7 +29,8 @@ module _ (p : ℕ → Bool) where
   list_all-prefix (b ∷ bs) =
       let Goal : ℕ → Type 0 = λ n. list_all p (take n (b ∷ bs)) ≡ true in
       elim (p b) as (λ t. p b ≡ t → Goal (prefix_len p (b ∷ bs))) [
-        | true ↦ λ e. subst Goal (sym (prefix_yes b bs e)) (and_from (p b) (list_all p (take (prefix_len p bs) bs)) e (list_all-prefix bs))
+        | true ↦ λ e. subst Goal (sym (prefix_yes b bs e))
+            (and_from (p b) (list_all p (take (prefix_len p bs) bs)) e (list_all-prefix bs))
         | false ↦ λ e. subst Goal (sym (prefix_no b bs e)) refl
       ] refl
 
@@ -50,6 +54,8 @@ module _ (p : ℕ → Bool) where
   begins_by-front b bs zero h = absurd (omega arith)
   begins_by-front b bs (suc n) h = refl
 
-  pub begins_by-weaker : (q : ℕ → Bool) → ((b : ℕ) → q b ≡ true → p b ≡ true) → (s : List ℕ) → begins_by p s ≡ false → begins_by q s ≡ false
+  pub begins_by-weaker : (q : ℕ → Bool) → ((b : ℕ) → q b ≡ true → p b ≡ true) → (s : List ℕ) →
+      begins_by p s ≡ false → begins_by q s ≡ false
   begins_by-weaker q weak [] h = refl
-  begins_by-weaker q weak (b ∷ bs) h = elim (q b) as (λ t. q b ≡ t → t ≡ false) [ true ↦ λ e. let f = weak b e in cc | false ↦ λ e. refl ] refl
+  begins_by-weaker q weak (b ∷ bs) h = elim (q b) as (λ t. q b ≡ t → t ≡ false)
+      [ true ↦ λ e. let f = weak b e in cc | false ↦ λ e. refl ] refl

@@ -1,9 +1,12 @@
 -- What stands at the head of some bytes, as one function of them: what the scanning functions give.
 -- What tokens are is said in Tokens, and proofs/ shows that both agree.
-use Rattle.std.specs.Prelude.{ℕ, ◌≡◌, ◌+◌, nat_eq, nat_le, pos, ℤ, not, ◌&&◌, Bool, false, if◌then◌else◌, Option, Some, None, List, [], ◌∷◌, ◌++◌, length, take, drop, slice_index}
+use Rattle.std.specs.Prelude.{ℕ, ◌≡◌, ◌+◌, nat_eq, nat_le, pos, ℤ, not, ◌&&◌, Bool, false}
+use Rattle.std.specs.Prelude.{if◌then◌else◌, Option, Some, None, List, [], ◌∷◌, ◌++◌, length, take}
+use Rattle.std.specs.Prelude.{drop, slice_index}
 use Rattle.std.specs.List.{prefix_len, find}
 use Rattle.std.specs.Str.{bytes_eq, is_utf8, chars}
-use Rattle.sql_texts.specs.Names.{is_letter, is_digit, is_name_part, begins_by, folded, most_characters}
+use Rattle.sql_texts.specs.Names.{is_letter, is_digit, is_name_part, begins_by, folded}
+use Rattle.sql_texts.specs.Names.{most_characters}
 use Rattle.sql_lex.specs.declared.token.Lexeme.{Lexeme}
 use Rattle.sql_lex.specs.declared.token.Lexeme.TheVariants as lexeme
 use Rattle.sql_lex.specs.declared.step.Step.{Step}
@@ -13,20 +16,27 @@ use Rattle.sql_lex.specs.declared.word.Word.TheVariants as word
 use Rattle.sql_lex.specs.declared.sign.Sign.{Sign}
 use Rattle.sql_lex.specs.declared.sign.Sign.TheVariants as sign
 use Rattle.sql_lex.specs.Words.{spelling}
-use Rattle.sql_lex.specs.Tokens.{is_blank, is_line_feed, is_quote, digits_value, most_number, most_text}
+use Rattle.sql_lex.specs.Tokens.{is_blank, is_line_feed, is_quote, digits_value, most_number}
+use Rattle.sql_lex.specs.Tokens.{most_text}
 
 -- the reserved words that begin with a capital
 abbrev pub words_of : ℕ → List Word
 words_of b =
     if nat_eq b 65 then word.And ∷ word.As ∷ word.Asc ∷ word.Atomic ∷ word.Avg ∷ [] else
     if nat_eq b 66 then word.Begin ∷ word.Boolean ∷ word.By ∷ [] else
-    if nat_eq b 67 then word.Call ∷ word.Called ∷ word.Case ∷ word.Cast ∷ word.Certificate ∷ word.CharLength ∷ word.Close ∷ word.Coalesce ∷ word.Condition ∷ word.Contains ∷ word.Continue ∷ word.Count ∷ word.Create ∷ word.Cross ∷ word.Current ∷ word.Cursor ∷ [] else
-    if nat_eq b 68 then word.Data ∷ word.Decimal ∷ word.Declare ∷ word.Default ∷ word.Delete ∷ word.Desc ∷ word.Deterministic ∷ word.Diagnostics ∷ word.Do ∷ word.Drop ∷ [] else
-    if nat_eq b 69 then word.Else ∷ word.Elseif ∷ word.End ∷ word.Exists ∷ word.Exit ∷ word.Explain ∷ [] else
-    if nat_eq b 70 then word.False ∷ word.Fetch ∷ word.For ∷ word.Found ∷ word.From ∷ word.Function ∷ [] else
+    if nat_eq b 67 then word.Call ∷ word.Called ∷ word.Case ∷ word.Cast ∷ word.Certificate ∷
+    word.CharLength ∷ word.Close ∷ word.Coalesce ∷ word.Condition ∷ word.Contains ∷
+    word.Continue ∷ word.Count ∷ word.Create ∷ word.Cross ∷ word.Current ∷ word.Cursor ∷ [] else
+    if nat_eq b 68 then word.Data ∷ word.Decimal ∷ word.Declare ∷ word.Default ∷ word.Delete ∷
+    word.Desc ∷ word.Deterministic ∷ word.Diagnostics ∷ word.Do ∷ word.Drop ∷ [] else
+    if nat_eq b 69 then word.Else ∷ word.Elseif ∷ word.End ∷ word.Exists ∷ word.Exit ∷
+    word.Explain ∷ [] else
+    if nat_eq b 70 then word.False ∷ word.Fetch ∷ word.For ∷ word.Found ∷ word.From ∷
+    word.Function ∷ [] else
     if nat_eq b 71 then word.Get ∷ word.Group ∷ [] else
     if nat_eq b 72 then word.Handler ∷ word.Having ∷ [] else
-    if nat_eq b 73 then word.If ∷ word.In ∷ word.Inner ∷ word.Inout ∷ word.Input ∷ word.Insert ∷ word.Int ∷ word.Integer ∷ word.Into ∷ word.Is ∷ word.Iterate ∷ [] else
+    if nat_eq b 73 then word.If ∷ word.In ∷ word.Inner ∷ word.Inout ∷ word.Input ∷ word.Insert ∷
+    word.Int ∷ word.Integer ∷ word.Into ∷ word.Is ∷ word.Iterate ∷ [] else
     if nat_eq b 74 then word.Join ∷ [] else
     if nat_eq b 75 then word.Key ∷ [] else
     if nat_eq b 76 then word.Language ∷ word.Lateral ∷ word.Leave ∷ word.Left ∷ word.Loop ∷ [] else
@@ -34,8 +44,10 @@ words_of b =
     if nat_eq b 78 then word.Next ∷ word.Not ∷ word.Null ∷ word.Number ∷ [] else
     if nat_eq b 79 then word.On ∷ word.Open ∷ word.Or ∷ word.Order ∷ word.Out ∷ word.Outer ∷ [] else
     if nat_eq b 80 then word.Primary ∷ word.Procedure ∷ [] else
-    if nat_eq b 82 then word.Reads ∷ word.Repeat ∷ word.Resignal ∷ word.Restrict ∷ word.Return ∷ word.ReturnedSqlstate ∷ word.Returns ∷ word.RowCount ∷ [] else
-    if nat_eq b 83 then word.Select ∷ word.Set ∷ word.Signal ∷ word.Sql ∷ word.Sqlexception ∷ word.Sqlstate ∷ word.Sqlwarning ∷ word.Stacked ∷ word.Substring ∷ word.Sum ∷ [] else
+    if nat_eq b 82 then word.Reads ∷ word.Repeat ∷ word.Resignal ∷ word.Restrict ∷ word.Return ∷
+    word.ReturnedSqlstate ∷ word.Returns ∷ word.RowCount ∷ [] else
+    if nat_eq b 83 then word.Select ∷ word.Set ∷ word.Signal ∷ word.Sql ∷ word.Sqlexception ∷
+    word.Sqlstate ∷ word.Sqlwarning ∷ word.Stacked ∷ word.Substring ∷ word.Sum ∷ [] else
     if nat_eq b 84 then word.Table ∷ word.Then ∷ word.True ∷ [] else
     if nat_eq b 85 then word.Undo ∷ word.Unknown ∷ word.Until ∷ word.Update ∷ [] else
     if nat_eq b 86 then word.Value ∷ word.Values ∷ word.Varchar ∷ [] else
@@ -61,12 +73,16 @@ lexeme_of (Some w) capitals = lexeme.Word w
 abbrev pub word_step : List ℕ → Step
 word_step bytes =
     let width = prefix_len is_name_part bytes in
-    if nat_le width most_characters then step.Token (lexeme_of (reserved (folded (take width bytes))) (folded (take width bytes))) width else step.Bad
+    if nat_le width most_characters then step.Token
+    (lexeme_of (reserved (folded (take width bytes))) (folded (take width bytes))) width else
+    step.Bad
 
 -- the number that digits write, where it is in range
 abbrev pub number_of : List ℕ → Option ℤ
-number_of digits = if nat_le (digits_value digits) most_number then Some (pos (digits_value digits)) else None
+number_of digits = if nat_le (digits_value digits) most_number then Some (pos (digits_value digits))
+    else None
 
+-- the token of a number that took so many bytes; Bad where it is out of range
 abbrev pub number_token : Option ℤ → ℕ → Step
 number_token None width = step.Bad
 number_token (Some n) width = step.Token (lexeme.Number n) width
@@ -75,12 +91,14 @@ number_token (Some n) width = step.Token (lexeme.Number n) width
 abbrev pub number_step : List ℕ → Step
 number_step bytes =
     let width = prefix_len is_digit bytes in
-    if begins_by is_name_part (drop width bytes) then step.Bad else number_token (number_of (take width bytes)) width
+    if begins_by is_name_part (drop width bytes) then step.Bad else number_token
+    (number_of (take width bytes)) width
 
 -- how many bytes the byte at the head of a text's rest takes; none at the quote that closes the
 -- text
 abbrev pub width_in_text : List ℕ → Option ℕ
-width_in_text bytes = if not (is_quote (slice_index bytes 0)) then Some 1 else if begins_with 39 39 bytes then Some 2 else None
+width_in_text bytes = if not (is_quote (slice_index bytes 0)) then Some 1 else if begins_with 39 39
+    bytes then Some 2 else None
 
 -- with more bytes in front, which took some bytes to write
 abbrev pub with_front : List ℕ → ℕ → Option (List ℕ × ℕ) → Option (List ℕ × ℕ)
@@ -99,7 +117,8 @@ unquoted (b ∷ (c ∷ cs)) =
 -- the width that `unquoted` gives, with its bytes added to a list
 abbrev pub IsUnquoted : Option (List ℕ × ℕ) → List ℕ → List ℕ → Option ℕ → Type 0
 IsUnquoted read old new None = read ≡ None
-IsUnquoted read old new (Some width) = (text : List ℕ) × (read ≡ Some (text, width)) × (new ≡ old ++ text)
+IsUnquoted read old new (Some width) = (text : List ℕ) × (read ≡ Some (text, width)) ×
+    (new ≡ old ++ text)
 
 -- the text of these characters, where they are within the limit
 abbrev pub text_within : List ℕ → Option (List ℕ)
@@ -109,10 +128,12 @@ text_within characters = if nat_le (length characters) most_text then Some chara
 abbrev pub text_of : List ℕ → Option (List ℕ)
 text_of bytes = if is_utf8 bytes then text_within (chars bytes) else None
 
+-- the token of a text that took so many bytes; Bad where it is no text
 abbrev pub text_token : Option (List ℕ) → ℕ → Step
 text_token None width = step.Bad
 text_token (Some text) width = step.Token (lexeme.Text text) width
 
+-- the token of what was read after an opening quote, with that quote; Bad without a closing one
 abbrev pub quoted_token : Option (List ℕ × ℕ) → Step
 quoted_token None = step.Bad
 quoted_token (Some r) = text_token (text_of r.0) (1 + r.1)
@@ -121,6 +142,7 @@ quoted_token (Some r) = text_token (text_of r.0) (1 + r.1)
 abbrev pub text_step : List ℕ → Step
 text_step bytes = quoted_token (unquoted (drop 1 bytes))
 
+-- a number more, where there is a number
 abbrev pub plus : ℕ → Option ℕ → Option ℕ
 plus n None = None
 plus n (Some k) = Some (n + k)
@@ -130,6 +152,7 @@ abbrev pub close_end : List ℕ → Option ℕ
 close_end [] = None
 close_end (b ∷ bs) = if begins_with 42 47 (b ∷ bs) then Some 2 else plus 1 (close_end bs)
 
+-- a gap of so many bytes; Bad where a comment has no end
 abbrev pub gap_of : Option ℕ → Step
 gap_of None = step.Bad
 gap_of (Some width) = step.Gap width
@@ -170,10 +193,12 @@ short_sign b =
     else if nat_eq b 47 then Some sign.Solidus
     else None
 
+-- the token of a sign that takes so many bytes, or else another step
 abbrev pub sign_token : Option Sign → ℕ → Step → Step
 sign_token None width other = other
 sign_token (Some sign) width other = step.Token (lexeme.Sign sign) width
 
+-- at anything else: the longer sign, else the shorter one, else Bad
 abbrev pub sign_step : List ℕ → Step
 sign_step bytes =
     sign_token (long_sign (slice_index bytes 0) (slice_index bytes 1)) 2

@@ -3,6 +3,7 @@ use Rattle.std.specs.Prelude.{ℕ, Bool, false, ◌||◌, nat_eq, List, codes}
 use Rattle.sql_lex.specs.declared.sign.Sign.{Sign}
 use Rattle.sql_lex.specs.declared.sign.Sign.TheVariants as sign
 
+-- how each sign is written
 abbrev pub sign_spelling : Sign → List ℕ
 sign_spelling sign.LeftParen = codes "("
 sign_spelling sign.RightParen = codes ")"

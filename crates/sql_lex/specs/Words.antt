@@ -3,6 +3,7 @@ use Rattle.std.specs.Prelude.{ℕ, List, codes}
 use Rattle.sql_lex.specs.declared.word.Word.{Word}
 use Rattle.sql_lex.specs.declared.word.Word.TheVariants as word
 
+-- how each reserved word is written, in capitals; scripts write it in any case of letters
 abbrev pub spelling : Word → List ℕ
 spelling word.And = codes "AND"
 spelling word.As = codes "AS"

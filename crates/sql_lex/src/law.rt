@@ -7,10 +7,12 @@ ghost use Rattle.sql_lex.specs.Tokens.{IsLexeme, IsTokens, Lexing, Spells};
 /// Each script has one list of tokens, and no other.
 pub fn each_script_has_one_lexing()
     ensures one { (bytes : List ℕ) → (t : Lexing) × IsTokens bytes t }
-    ensures no_other { (bytes : List ℕ) (t u : Lexing) → IsTokens bytes t → IsTokens bytes u → t ≡ u }
+    ensures no_other { (bytes : List ℕ) (t u : Lexing) → IsTokens bytes t → IsTokens bytes u →
+        t ≡ u }
 {}
 
 /// A token is the longest that begins at its place: whatever spells a lexeme there is no longer.
 pub fn each_token_is_the_longest()
-    ensures { (l other : Lexeme) (bytes rest front more : List ℕ) → IsLexeme l bytes rest → bytes ++ rest ≡ front ++ more → Spells other front → length front ≤ length bytes }
+    ensures { (l other : Lexeme) (bytes rest front more : List ℕ) → IsLexeme l bytes rest →
+        bytes ++ rest ≡ front ++ more → Spells other front → length front ≤ length bytes }
 {}

@@ -14,9 +14,6 @@ pub use law::{each_script_has_one_lexing, each_token_is_the_longest};
 pub use lexer::tokens;
 use position::Position;
 pub use sign::Sign;
-pub use token::{Kind, Lexeme, Token};
+pub use token::{Lexeme, Token, TokenKind};
 pub use token_list::{Tokens, opens, place};
 pub use word::Word;
-
-#[cfg(test)]
-mod tests;

@@ -3,9 +3,17 @@
 ghost use Rattle.std.specs.Prelude.{◌≡◌, ◌<◌, true, IfOk, length, not, string_bytes};
 ghost use Rattle.std.specs.List.{list_all, prefix_len};
 ghost use Rattle.std.specs.Str.{chars};
-ghost use Rattle.sql_texts.specs.Names.{is_letter, is_digit, is_name_part as is_part_of_name, begins_by};
+ghost use Rattle.sql_texts.specs.Names.{is_letter, is_digit, is_name_part as is_part_of_name};
+ghost use Rattle.sql_texts.specs.Names.{begins_by};
 ghost use Rattle.sql_lex.specs.Tokens.{is_line_feed};
-ghost use Rattle.sql_lex.specs.Scan.{begins_with as begins_with_both, block_step, close_end as end_of_comment, line_step, long_sign as sign_of_two, number_of as number_of_digits, number_step, short_sign as sign_of_one, sign_step, step_of, text_of as text_of_bytes, text_step, text_token as step_over_text, text_within as text_within_limit, unquoted as text_after, width_in_text as width_in_quotes, word_step, IsUnquoted};
+ghost use Rattle.sql_lex.specs.Scan.{begins_with as begins_with_both, block_step};
+ghost use Rattle.sql_lex.specs.Scan.{close_end as end_of_comment, line_step};
+ghost use Rattle.sql_lex.specs.Scan.{long_sign as sign_of_two, number_of as number_of_digits};
+ghost use Rattle.sql_lex.specs.Scan.{number_step, short_sign as sign_of_one, sign_step, step_of};
+ghost use Rattle.sql_lex.specs.Scan.{text_of as text_of_bytes, text_step};
+ghost use Rattle.sql_lex.specs.Scan.{text_token as step_over_text};
+ghost use Rattle.sql_lex.specs.Scan.{text_within as text_within_limit, unquoted as text_after};
+ghost use Rattle.sql_lex.specs.Scan.{width_in_text as width_in_quotes, word_step, IsUnquoted};
 
 use crate::word::reserved;
 use crate::{Lexeme, Sign};
@@ -133,7 +141,8 @@ fn width_in_text(bytes: &[u8]) -> Option<usize>
 // The bytes of a text whose opening quote stands before, added to what is there, and how many bytes
 // it took with its closing quote; `None` where there is no such quote.
 fn unquoted(bytes: &[u8], text: &mut Vec<u8>) -> Result<Option<usize>, NoMemory>
-    ensures { IfOk result (λ width. IsUnquoted (text_after bytes.now) text.old.items text.new.items width) }
+    ensures { IfOk result (λ width. IsUnquoted (text_after bytes.now) text.old.items text.new.items
+        width) }
 {
     let mut at = 0;
     while at < bytes.len() {

@@ -21,7 +21,7 @@ pub enum Lexeme {
 
 /// What a rule of a grammar asks of a token.
 #[derive(Clone, Copy, Debug, PartialEq, Eq)]
-pub enum Kind {
+pub enum TokenKind {
     Name,
     Word(Word),
     Number,
@@ -49,16 +49,16 @@ impl Token {
     ghost use Rattle.sql_lex.specs.Tokens.{kind_of};
 
     /// What rules ask of it.
-    pub fn kind(&self) -> Kind
+    pub fn kind(&self) -> TokenKind
         ensures { result ≡ kind_of self.now.lexeme }
     {
         match self.lexeme {
-            Lexeme::Name(_) => Kind::Name,
-            Lexeme::Word(word) => Kind::Word(word),
-            Lexeme::Number(_) => Kind::Number,
-            Lexeme::Text(_) => Kind::Text,
-            Lexeme::Sign(sign) => Kind::Sign(sign),
-            Lexeme::Bad => Kind::Bad,
+            Lexeme::Name(_) => TokenKind::Name,
+            Lexeme::Word(word) => TokenKind::Word(word),
+            Lexeme::Number(_) => TokenKind::Number,
+            Lexeme::Text(_) => TokenKind::Text,
+            Lexeme::Sign(sign) => TokenKind::Sign(sign),
+            Lexeme::Bad => TokenKind::Bad,
         }
     }
 }

@@ -2,9 +2,10 @@
 
 ghost use Rattle.std.specs.Prelude.{◌≡◌, ◌≤◌, ◌<◌, ◌==◌, length};
 ghost use Rattle.sql_lex.specs.Tokens.{AreSpans};
-ghost use Rattle.sql_lex.specs.Openings.{opens_at, place_at, is_opening_word, follows_end as follows_end_at};
+ghost use Rattle.sql_lex.specs.Openings.{opens_at, place_at, is_opening_word};
+ghost use Rattle.sql_lex.specs.Openings.{follows_end as follows_end_at};
 
-use crate::{Kind, Position, Sign, Token, Word};
+use crate::{Position, Sign, Token, TokenKind, Word};
 use std::marker::Model;
 
 /// The tokens of a script in their order, and the place of its end. Contracts see both as a
@@ -30,7 +31,12 @@ impl Tokens {
     /// These tokens, and the place of the end.
     pub(crate) fn of(list: Vec<Token>, end: Position) -> Tokens
         requires { AreSpans 0 0 list.items }
-        ensures { result ≡ record { tokens = list.items; end_line = end.line; end_column = end.column } }
+        ensures { result ≡ record {
+          tokens = list.items;
+          end_line = end.line;
+          end_column =
+              end.column;
+        } }
     {
         Tokens {
             list,
@@ -77,9 +83,9 @@ pub fn opens(tokens: &Tokens, at: usize) -> bool
 {
     let list = tokens.as_slice();
     match list[at].kind() {
-        Kind::Sign(sign) => sign == Sign::LeftParen,
-        Kind::Word(word) => opens_by_itself(word) && !follows_end(list, at),
-        Kind::Name | Kind::Number | Kind::Text | Kind::Bad => false,
+        TokenKind::Sign(sign) => sign == Sign::LeftParen,
+        TokenKind::Word(word) => opens_by_itself(word) && !follows_end(list, at),
+        TokenKind::Name | TokenKind::Number | TokenKind::Text | TokenKind::Bad => false,
     }
 }
 
@@ -98,7 +104,7 @@ fn follows_end(list: &[Token], at: usize) -> bool
     requires { at < length list.now }
     ensures { result ≡ follows_end_at list.now at }
 {
-    at > 0 && list[at - 1].kind() == Kind::Word(Word::End)
+    at > 0 && list[at - 1].kind() == TokenKind::Word(Word::End)
 }
 
 /// The line and the column of the token, or, after the last one, of the end of the script.

@@ -4,8 +4,6 @@
 
 mod memory;
 mod name;
-#[cfg(test)]
-mod tests;
 mod text;
 
 pub use memory::NoMemory;

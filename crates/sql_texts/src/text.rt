@@ -11,8 +11,8 @@ use std::cmp::Ordering;
 use std::marker::Model;
 use std::rc::Rc;
 
-/// A text of at most `MOST_TEXT` characters. Contracts see its characters. Its copies share them, so
-/// that a copy takes no memory.
+/// A text of at most `MOST_TEXT` characters. Contracts see its characters. Its copies share them,
+/// so that a copy takes no memory.
 #[derive(Debug, Drop)]
 pub struct Text {
     characters: Rc<String>,
@@ -58,7 +58,7 @@ impl Text {
         })
     }
 
-    /// This text with another one behind it (ISO/IEC 9075-2, 6.29).
+    /// This text with another one after it (ISO/IEC 9075-2, 6.29).
     pub fn joined(&self, alloc: Global, other: &Text) -> Result<Text, NoMemory>
         requires { length self.now + length other.now ≤ MOST_TEXT }
         ensures { IfOk result (λ t. t ≡ self.now ++ other.now) }
@@ -88,8 +88,8 @@ impl Text {
         self.characters.as_ref().as_str().chars().count()
     }
 
-    /// How it stands to another text: the first character in which they differ decides, by code point, and else the
-    /// lengths do (ISO/IEC 9075-2, 8.2).
+    /// How it stands to another text: the first character in which they differ decides, by code
+    /// point, and else the lengths do (ISO/IEC 9075-2, 8.2).
     pub fn order(&self, other: &Text) -> Ordering
         ensures { result ≡ slice_cmp nat_cmp self.now other.now }
     {

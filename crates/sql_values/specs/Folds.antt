@@ -1,5 +1,7 @@
 -- What aggregates give: ISO/IEC 9075-2, 10.9 (aggregate function). Nulls are skipped.
-use Rattle.std.specs.Prelude.{ℕ, suc, ℤ, pos, ◌+ℤ◌, int_div, nat_abs, ◌+◌, ◌*◌, ◌^◌, ◌<◌, ◌≤◌, ◌||◌, nat_eq, Bool, true, false, List, [], ◌∷◌, if◌then◌else◌, Option, Some, Ok}
+use Rattle.std.specs.Prelude.{ℕ, suc, ℤ, pos, ◌+ℤ◌, int_div, nat_abs, ◌+◌, ◌*◌, ◌^◌, ◌<◌, ◌≤◌, ◌||◌}
+use Rattle.std.specs.Prelude.{nat_eq, Bool, true, false, List, [], ◌∷◌, if◌then◌else◌, Option, Some}
+use Rattle.std.specs.Prelude.{Ok}
 use Rattle.std.specs.List.{fold}
 use Rattle.std.specs.declared.cmp.Ordering.{Ordering}
 use Rattle.std.specs.declared.cmp.Ordering.TheVariants.{Less}
@@ -16,10 +18,12 @@ abbrev pub count_of : List Value → ℕ
 count_of [] = 0
 count_of (v ∷ vs) = if is_null v then count_of vs else suc (count_of vs)
 
+-- what a value adds to a sum: an INTEGER itself, and anything else, NULL among it, nothing
 abbrev pub number_in : Value → ℤ
 number_in (Int n) = n
 number_in _ = pos 0
 
+-- the exact sum of the INTEGERs of a list, without a bound; NULLs add nothing
 abbrev pub total_of : List Value → ℤ
 total_of [] = pos 0
 total_of (v ∷ vs) = number_in v +ℤ total_of vs
@@ -28,6 +32,7 @@ total_of (v ∷ vs) = number_in v +ℤ total_of vs
 abbrev pub of_some : (ℕ → ℤ → ℤ) → ℕ → ℤ → Outcome
 of_some f count total = if nat_eq count 0 then Ok Null else ranged (f count total)
 
+-- the order is known and is 'less'; of an unknown one it is false
 abbrev pub is_less : Option Ordering → Bool
 is_less (Some Less) = true
 is_less _ = false
@@ -67,13 +72,20 @@ pub record Taken : Type 0 where
   pub total : ℤ
   pub best : Value
 
+-- what is kept before any value was taken
 abbrev pub nothing : FoldKind → Taken
 nothing kind = record { kind = kind; count = 0; total = pos 0; best = Null }
 
 -- with one value more
 abbrev pub with_value : Taken → Value → Taken
 with_value t v =
-    if is_null v then t else record { kind = t.kind; count = t.count + 1; total = t.total +ℤ number_in v; best = better t.kind t.best v }
+    if is_null v then t else record {
+      kind = t.kind;
+      count = t.count + 1;
+      total =
+          t.total +ℤ number_in v;
+      best = better t.kind t.best v;
+    }
 
 -- with all values of a list, in its order
 abbrev pub taken : FoldKind → List Value → Taken
@@ -87,6 +99,7 @@ finished_by Avg count total best = of_some (λ n z. int_div z (pos n)) count tot
 finished_by Min count total best = Ok best
 finished_by Max count total best = Ok best
 
+-- the aggregate of what was taken, by its kind
 abbrev pub finished : Taken → Outcome
 finished t = finished_by t.kind t.count t.total t.best
 

@@ -5,12 +5,18 @@ use Rattle.std.specs.declared.cmp.Ordering.TheVariants.{Less, Equal, Greater}
 use Rattle.sql_values.specs.declared.value.Value.{Value}
 use Rattle.sql_values.specs.declared.value.Value.TheVariants.{Null, Bool as Truth}
 use Rattle.sql_values.specs.declared.operators.Operator.{Operator}
-use Rattle.sql_values.specs.declared.operators.Operator.TheVariants.{Add, Subtract, Multiply, Divide, Concatenate}
+use Rattle.sql_values.specs.declared.operators.Operator.TheVariants.{Add, Subtract, Multiply}
+use Rattle.sql_values.specs.declared.operators.Operator.TheVariants.{Divide, Concatenate}
 use Rattle.sql_values.specs.declared.operators.Comparison.{Comparison}
-use Rattle.sql_values.specs.declared.operators.Comparison.TheVariants.{Equals, NotEquals, LessThan, LessThanOrEquals, GreaterThan, GreaterThanOrEquals}
-use Rattle.sql_values.specs.Values.{Outcome, sum_of, difference_of, product_of, quotient_of, order_of}
+use Rattle.sql_values.specs.declared.operators.Comparison.TheVariants.{Equals, NotEquals, LessThan}
+use Rattle.sql_values.specs.declared.operators.Comparison.TheVariants.{LessThanOrEquals}
+use Rattle.sql_values.specs.declared.operators.Comparison.TheVariants.{GreaterThan}
+use Rattle.sql_values.specs.declared.operators.Comparison.TheVariants.{GreaterThanOrEquals}
+use Rattle.sql_values.specs.Values.{Outcome, sum_of, difference_of, product_of, quotient_of}
+use Rattle.sql_values.specs.Values.{order_of}
 use Rattle.sql_values.specs.Texts.{concatenation_of}
 
+-- what an operator gives of two values, or its fault
 abbrev pub applied : Operator → Value → Value → Outcome
 applied Add a b = sum_of a b
 applied Subtract a b = difference_of a b

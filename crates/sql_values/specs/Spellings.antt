@@ -1,16 +1,22 @@
--- What texts spell: the numbers and truth values that ISO/IEC 9075-2, 6.13 (cast specification) reads from them, by 5.3 (literal). The relations
--- `SpellsInteger` and `SpellsTruth` say it; the functions below read it off, and the law `reads_what_is_spelled` says that they do.
-use Rattle.std.specs.Prelude.{◌≡◌, ℕ, ℤ, pos, neg_ℤ, ◌+◌, ◌*◌, ◌-◌, ◌||◌, nat_eq, Bool, true, false, List, [], ◌∷◌, ◌++◌, drop, reverse, replicate, codes, if◌then◌else◌, Option, Some, None}
+-- What texts spell: the numbers and truth values that ISO/IEC 9075-2, 6.13 (cast specification)
+-- reads from them, by 5.3 (literal). The relations `SpellsInteger` and `SpellsTruth` say it; the
+-- functions below read it off, and the law `reads_what_is_spelled` says that they do.
+use Rattle.std.specs.Prelude.{◌≡◌, ℕ, ℤ, pos, neg_ℤ, ◌+◌, ◌*◌, ◌-◌, ◌||◌, nat_eq, Bool, true, false}
+use Rattle.std.specs.Prelude.{List, [], ◌∷◌, ◌++◌, drop, reverse, replicate, codes, if◌then◌else◌}
+use Rattle.std.specs.Prelude.{Option, Some, None}
 use Rattle.std.specs.List.{list_all, prefix_len}
 use Rattle.std.specs.Str.{str_to_ascii_lowercase, str_eq_ignore_ascii_case}
 use Rattle.sql_texts.specs.Names.{is_digit}
 
+-- the code of a space, the only blank that CAST and assignment leave out
 abbrev pub is_space : ℕ → Bool
 is_space c = nat_eq c 32
 
+-- all of them are spaces, also where there is none
 abbrev pub are_spaces : List ℕ → Bool
 are_spaces s = list_all is_space s
 
+-- so many spaces
 abbrev pub spaces : ℕ → List ℕ
 spaces n = replicate n 32
 
@@ -21,7 +27,7 @@ abbrev pub are_digits : List ℕ → Bool
 are_digits [] = false
 are_digits (d ∷ ds) = list_all is_digit (d ∷ ds)
 
--- the number of decimal digits, behind what was read so far
+-- the number of decimal digits, after what was read so far
 abbrev pub weighed : ℕ → List ℕ → ℕ
 weighed so_far [] = so_far
 weighed so_far (d ∷ ds) = weighed (so_far * 10 + (d - 48)) ds
@@ -32,11 +38,13 @@ pub data Sign : Type 0 where
   Plus : Sign
   Minus : Sign
 
+-- how a sign is written
 abbrev pub sign_text : Sign → List ℕ
 sign_text Bare = []
 sign_text Plus = codes "+"
 sign_text Minus = codes "-"
 
+-- the number that a sign makes of the digits' number
 abbrev pub with_sign : Sign → ℕ → ℤ
 with_sign Bare n = pos n
 with_sign Plus n = pos n
@@ -58,6 +66,7 @@ pub data TruthWord : Type 0 where
   False : TruthWord
   Unknown : TruthWord
 
+-- how a truth word is spelled, in capitals
 abbrev pub letters : TruthWord → List ℕ
 letters True = codes "TRUE"
 letters False = codes "FALSE"
@@ -73,6 +82,7 @@ pub record SpellsTruth (s : List ℕ) (w : TruthWord) : Type 0 where
 
 -- ---- reading what is spelled
 
+-- without the spaces at the head
 abbrev pub without_leading_spaces : List ℕ → List ℕ
 without_leading_spaces s = drop (prefix_len is_space s) s
 
@@ -80,20 +90,24 @@ without_leading_spaces s = drop (prefix_len is_space s) s
 abbrev pub trimmed : List ℕ → List ℕ
 trimmed s = reverse (without_leading_spaces (reverse (without_leading_spaces s)))
 
+-- the sign at the head; none where another character, or nothing, stands there
 abbrev pub sign_of : List ℕ → Sign
 sign_of [] = Bare
 sign_of (c ∷ s) = if nat_eq c 43 then Plus else if nat_eq c 45 then Minus else Bare
 
+-- what follows the sign at the head; all of it where none stands there
 abbrev pub without_sign : List ℕ → List ℕ
 without_sign [] = []
 without_sign (c ∷ s) = if nat_eq c 43 || nat_eq c 45 then s else c ∷ s
 
 -- the number that a text without spaces at its ends spells
 abbrev pub integer_in : List ℕ → Option ℤ
-integer_in s = if are_digits (without_sign s) then Some (with_sign (sign_of s) (weighed 0 (without_sign s))) else None
+integer_in s = if are_digits (without_sign s) then Some
+    (with_sign (sign_of s) (weighed 0 (without_sign s))) else None
 
 -- the truth value that such a text spells
 abbrev pub truth_in : List ℕ → Option TruthWord
 truth_in s =
-    if str_eq_ignore_ascii_case s (letters True) then Some True else if str_eq_ignore_ascii_case s (letters False) then Some False
+    if str_eq_ignore_ascii_case s (letters True) then Some True else if str_eq_ignore_ascii_case s
+    (letters False) then Some False
     else if str_eq_ignore_ascii_case s (letters Unknown) then Some Unknown else None

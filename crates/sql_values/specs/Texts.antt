@@ -1,6 +1,7 @@
--- What the operations on texts give: ISO/IEC 9075-2, 6.29 (string value expression), 6.28 (length expression) and 6.32 (SUBSTRING).
--- Places in a text are counted from 1.
-use Rattle.std.specs.Prelude.{ℕ, ℤ, pos, ◌+◌, ◌-◌, ◌+ℤ◌, int_lt, nat_le, List, ◌++◌, length, take, drop, max, min, if◌then◌else◌, Option, Some, None, Ok, Err}
+-- What the operations on texts give: ISO/IEC 9075-2, 6.29 (string value expression), 6.28 (length
+-- expression) and 6.32 (SUBSTRING). Places in a text are counted from 1.
+use Rattle.std.specs.Prelude.{ℕ, ℤ, pos, ◌+◌, ◌-◌, ◌+ℤ◌, int_lt, nat_le, List, ◌++◌, length, take}
+use Rattle.std.specs.Prelude.{drop, max, min, if◌then◌else◌, Option, Some, None, Ok, Err}
 use Rattle.sql_texts.specs.declared.TheConstants.{MOST_TEXT}
 use Rattle.sql_values.specs.declared.value.Value.{Value}
 use Rattle.sql_values.specs.declared.value.Value.TheVariants.{Null, Int, Str}
@@ -11,6 +12,7 @@ use Rattle.sql_values.specs.Values.{Outcome}
 abbrev pub joined : List ℕ → List ℕ → Outcome
 joined s t = if nat_le (length s + length t) MOST_TEXT then Ok (Str (s ++ t)) else Err TooLong
 
+-- `||`: two texts joined, or a fault where that is too long; a NULL operand gives NULL
 abbrev pub concatenation_of : Value → Value → Outcome
 concatenation_of (Str s) (Str t) = joined s t
 concatenation_of _ _ = Ok Null
@@ -28,11 +30,13 @@ natural _ = 0
 -- the characters from a place on, up to before another place, as far as the text has them
 abbrev pub characters_between : ℤ → ℤ → List ℕ → List ℕ
 characters_between from end s =
-    let first = max 1 (natural from) in let stop = min (length s + 1) (natural end) in take (stop - first) (drop (first - 1) s)
+    let first = max 1 (natural from) in let stop = min (length s + 1) (natural end) in
+    take (stop - first) (drop (first - 1) s)
 
 -- SUBSTRING(s FROM p FOR l): up to before p + l; a length below 0 is a fault
 abbrev pub part_of : List ℕ → ℤ → ℤ → Outcome
-part_of s from count = if int_lt count (pos 0) then Err BadSubstring else Ok (Str (characters_between from (from +ℤ count) s))
+part_of s from count = if int_lt count (pos 0) then Err BadSubstring else Ok
+    (Str (characters_between from (from +ℤ count) s))
 
 -- SUBSTRING(s FROM p): up to the text's end
 abbrev pub rest_of : List ℕ → ℤ → Outcome

@@ -1,8 +1,11 @@
-//! Arithmetic and comparison of values (ISO/IEC 9075-2, 6.27, 6.28 and 8.2): exact or a fault. A NULL operand gives NULL.
+//! Arithmetic and comparison of values (ISO/IEC 9075-2, 6.27, 6.28 and 8.2): exact or a fault. A
+//! NULL operand gives NULL.
 
 ghost use Rattle.std.specs.Prelude.{◌≡◌, ℤ, SomeIff, FitsSigned};
 ghost use Rattle.std.specs.Int.{w64};
-ghost use Rattle.sql_values.specs.Values.{sum_of, difference_of, product_of, quotient_of, divided, negation_of, order_of, remainder_of, left_over, ranged as ranged_by};
+ghost use Rattle.sql_values.specs.Values.{sum_of, difference_of, product_of, quotient_of, divided};
+ghost use Rattle.sql_values.specs.Values.{negation_of, order_of, remainder_of, left_over};
+ghost use Rattle.sql_values.specs.Values.{ranged as ranged_by};
 
 use crate::{Value, ValueFault};
 use std::cmp::Ordering;
@@ -58,8 +61,8 @@ fn quotient(x: i64, y: i64) -> Result<Value, ValueFault>
     }
 }
 
-/// The quotient, cut towards zero. `DivZero` comes exactly where the divisor is zero and the dividend isn't NULL;
-/// `OutOfRange` exactly for the least INTEGER divided by -1.
+/// The quotient, cut towards zero. `DivZero` comes exactly where the divisor is zero and the
+/// dividend isn't NULL; `OutOfRange` exactly for the least INTEGER divided by -1.
 pub fn div(a: &Value, b: &Value) -> Result<Value, ValueFault>
     ensures { result ≡ quotient_of a.now b.now }
 {
@@ -69,7 +72,8 @@ pub fn div(a: &Value, b: &Value) -> Result<Value, ValueFault>
     }
 }
 
-// What the division of two numbers leaves. No remainder is out of range, also not that of the least number.
+// What the division of two numbers leaves. No remainder is out of range, also not that of the least
+// number.
 fn remainder(x: i64, y: i64) -> Result<Value, ValueFault>
     ensures { result ≡ left_over x y }
 {
@@ -80,8 +84,8 @@ fn remainder(x: i64, y: i64) -> Result<Value, ValueFault>
     }
 }
 
-/// What the division leaves, with the sign of the dividend. `DivZero` comes exactly where the divisor is zero and the
-/// dividend isn't NULL.
+/// What the division leaves, with the sign of the dividend. `DivZero` comes exactly where the
+/// divisor is zero and the dividend isn't NULL.
 pub fn modulo(a: &Value, b: &Value) -> Result<Value, ValueFault>
     ensures { result ≡ remainder_of a.now b.now }
 {

@@ -3,7 +3,9 @@
 ghost use Rattle.std.specs.Prelude.{◌≡◌, take, drop, Ok};
 ghost use Rattle.sql_values.specs.declared.value.Value.TheVariants.{Str};
 ghost use Rattle.sql_values.specs.Values.{UnlessNoMemory};
-ghost use Rattle.sql_values.specs.Casts.{cast_to, assigned, cut_to, word_for as word_for_by, decimal_text as decimal_text_by, word_text as word_text_by};
+ghost use Rattle.sql_values.specs.Casts.{cast_to, assigned, cut_to, word_for as word_for_by};
+ghost use Rattle.sql_values.specs.Casts.{decimal_text as decimal_text_by};
+ghost use Rattle.sql_values.specs.Casts.{word_text as word_text_by};
 ghost use Rattle.sql_values.specs.Spellings.{are_spaces, letters};
 
 use crate::spellings::{spelled_integer, spelled_truth};
@@ -39,9 +41,9 @@ fn word_text(alloc: Global, truth: bool, most: usize) -> Result<Value, ValueFaul
     Ok(Value::Str(Text::of(alloc, String::from_str(alloc, word)?)?))
 }
 
-/// The value as one of a type. `BadCast` comes exactly where a text doesn't spell a value of the type, or the type has
-/// no room for a truth value's word; `OutOfRange` where the number that a text spells is no INTEGER; `TooLong` where the
-/// type has no room for a number's text.
+/// The value as one of a type. `BadCast` comes exactly where a text doesn't spell a value of the
+/// type, or the type has no room for a truth value's word; `OutOfRange` where the number that a
+/// text spells is no INTEGER; `TooLong` where the type has no room for a number's text.
 pub fn cast(alloc: Global, v: &Value, to: SqlType) -> Result<Value, ValueFault>
     ensures { UnlessNoMemory result (result ≡ cast_to to v.now) }
 {
@@ -67,8 +69,8 @@ fn front(alloc: Global, text: &Text, most: usize) -> Result<Value, ValueFault>
     Ok(Value::Str(text.part(alloc, 0, most)?))
 }
 
-// Whether all characters behind the first so many are spaces.
-fn spaces_behind(text: &Text, most: usize) -> bool
+// Whether all characters after the first so many are spaces.
+fn spaces_after(text: &Text, most: usize) -> bool
     ensures { result ≡ are_spaces (drop most text.now) }
 {
     text.as_str().chars().skip(most).all(|c| c == ' ')
@@ -81,14 +83,14 @@ fn cut(alloc: Global, text: Text, most: usize) -> Result<Value, ValueFault>
     if text.len() <= most {
         return Ok(Value::Str(text));
     }
-    if !spaces_behind(&text, most) {
+    if !spaces_after(&text, most) {
         return Err(ValueFault::TooLong);
     }
     Ok(Value::Str(text.part(alloc, 0, most)?))
 }
 
-/// The value that a target of a type takes: a text that is too long is cut where all the excess is spaces. `TooLong`
-/// comes exactly where it isn't. A text that fits is handed on.
+/// The value that a target of a type takes: a text that is too long is cut where all the excess is
+/// spaces. `TooLong` comes exactly where it isn't. A text that fits is handed on.
 pub fn assign(alloc: Global, v: Value, to: SqlType) -> Result<Value, ValueFault>
     ensures { UnlessNoMemory result (result ≡ assigned to v) }
 {

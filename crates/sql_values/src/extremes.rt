@@ -1,7 +1,8 @@
 //! Which of two values an aggregate keeps (ISO/IEC 9075-2, 10.9).
 
 ghost use Rattle.std.specs.Prelude.{◌≡◌};
-ghost use Rattle.sql_values.specs.Folds.{comes_before as comes_before_by, number_in as number_in_by, replaces as replaces_by};
+ghost use Rattle.sql_values.specs.Folds.{comes_before as comes_before_by};
+ghost use Rattle.sql_values.specs.Folds.{number_in as number_in_by, replaces as replaces_by};
 
 use crate::{FoldKind, Value, cmp};
 use std::cmp::Ordering;

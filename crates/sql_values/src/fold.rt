@@ -29,8 +29,9 @@ fn ranged(sum: i128) -> Result<Value, ValueFault>
     }
 }
 
-/// The aggregate of the values that it took so far. Contracts see what it keeps of them; of a list of values that is
-/// `taken kind values`, and the law `folds_are_of_lists` says that it finishes as the aggregate of the list.
+/// The aggregate of the values that it took so far. Contracts see what it keeps of them; of a list
+/// of values that is `taken kind values`, and the law `folds_are_of_lists` says that it finishes as
+/// the aggregate of the list.
 #[derive(Debug, Drop)]
 pub struct Fold {
     kind: FoldKind,

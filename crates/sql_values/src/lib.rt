@@ -1,4 +1,5 @@
-//! The values of SQL: types, whole numbers, texts and truth values with NULL, and the operations on them.
+//! The values of SQL: types, whole numbers, texts and truth values with NULL, and the operations on
+//! them.
 #![tactic(auto)]
 
 mod arithmetic;
@@ -8,8 +9,6 @@ mod fold;
 mod law;
 mod operators;
 mod spellings;
-#[cfg(test)]
-mod tests;
 mod texts;
 mod value;
 

@@ -46,7 +46,8 @@ impl Operator {
 }
 
 impl Comparison {
-    /// The truth value of the comparison of two values; unknown, which is NULL, exactly where one of them is NULL.
+    /// The truth value of the comparison of two values; unknown, which is NULL, exactly where one
+    /// of them is NULL.
     pub fn of(self, a: &Value, b: &Value) -> Value
         ensures { result ≡ compared self a.now b.now }
     {

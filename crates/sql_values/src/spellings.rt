@@ -2,7 +2,9 @@
 
 ghost use Rattle.std.specs.Prelude.{◌≡◌, reverse, IsAscii};
 ghost use Rattle.std.specs.List.{prefix_len};
-ghost use Rattle.sql_values.specs.Spellings.{are_digits as are_digits_by, integer_in, is_space, trimmed as trimmed_by, truth_in, without_sign as without_sign_by};
+ghost use Rattle.sql_values.specs.Spellings.{are_digits as are_digits_by, integer_in, is_space};
+ghost use Rattle.sql_values.specs.Spellings.{trimmed as trimmed_by, truth_in};
+ghost use Rattle.sql_values.specs.Spellings.{without_sign as without_sign_by};
 ghost use Rattle.sql_values.specs.Casts.{integer_or_fault, truth_or_fault};
 
 use crate::{Text, Value, ValueFault};
@@ -61,8 +63,8 @@ fn number_in(word: &str) -> Result<Value, ValueFault>
     }
 }
 
-/// The INTEGER that a text spells. `BadCast` comes exactly where it spells no number, `OutOfRange` where the number is no
-/// INTEGER.
+/// The INTEGER that a text spells. `BadCast` comes exactly where it spells no number, `OutOfRange`
+/// where the number is no INTEGER.
 pub(crate) fn spelled_integer(text: &Text) -> Result<Value, ValueFault>
     ensures { result ≡ integer_or_fault (integer_in (trimmed_by text.now)) }
 {

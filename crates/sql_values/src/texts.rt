@@ -3,7 +3,8 @@
 ghost use Rattle.std.specs.Prelude.{◌≡◌, min};
 ghost use Rattle.std.specs.Option.{option_copied};
 ghost use Rattle.sql_values.specs.Values.{UnlessNoMemory};
-ghost use Rattle.sql_values.specs.Texts.{concatenation_of, joined as joined_by, length_of, natural, part_of, rest_of, substring_of};
+ghost use Rattle.sql_values.specs.Texts.{concatenation_of, joined as joined_by, length_of, natural};
+ghost use Rattle.sql_values.specs.Texts.{part_of, rest_of, substring_of};
 
 use crate::{MOST_TEXT, Text, Value, ValueFault};
 use std::alloc::Global;
@@ -58,9 +59,9 @@ fn part(alloc: Global, text: &Text, from: i64, length: i64) -> Result<Value, Val
     if length < 0 {
         return Err(ValueFault::BadSubstring);
     }
-    let behind = text.len() + 1;
-    let first = place_within(from as i128, behind).max(1);
-    let end = place_within(from as i128 + length as i128, behind);
+    let after = text.len() + 1;
+    let first = place_within(from as i128, after).max(1);
+    let end = place_within(from as i128 + length as i128, after);
     Ok(Value::Str(text.part(alloc, first - 1, end.saturating_sub(first))?))
 }
 
@@ -73,16 +74,17 @@ fn rest(alloc: Global, text: &Text, from: i64) -> Result<Value, ValueFault>
     Ok(Value::Str(text.part(alloc, first - 1, length)?))
 }
 
-/// The characters from a place on, counted from 1: up to before the place that lies the length further, or up to the
-/// text's end. Places before the text and behind it have no character. `BadSubstring` comes exactly where the length is
-/// below 0 and no operand is NULL.
+/// The characters from a place on, counted from 1: up to before the place that lies the length
+/// further, or up to the text's end. Places before the text and after it have no character.
+/// `BadSubstring` comes exactly where the length is below 0 and no operand is NULL.
 pub fn substring(
     alloc: Global,
     text: &Value,
     from: &Value,
     length: Option<&Value>,
 ) -> Result<Value, ValueFault>
-    ensures { UnlessNoMemory result (result ≡ substring_of text.now from.now (option_copied length.entry)) }
+    ensures { UnlessNoMemory result (result ≡ substring_of text.now from.now
+        (option_copied length.entry)) }
 {
     match (text, from, length) {
         (Value::Str(text), Value::Int(from), None) => rest(alloc, text, *from),

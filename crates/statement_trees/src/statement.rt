@@ -130,7 +130,8 @@ pub struct Case {
     pub otherwise: Items<Stmt>,
 }
 
-/// `CREATE FUNCTION name (parameters) RETURNS returns characteristics body` (ISO/IEC 9075-2, 11.60).
+/// `CREATE FUNCTION name (parameters) RETURNS returns characteristics body` (ISO/IEC 9075-2,
+/// 11.60).
 #[cycle(statement)]
 #[derive(Drop)]
 pub struct CreateFunction {

@@ -95,8 +95,8 @@ pub enum Expr {
     Subquery(Boxed<Query>),
     /// EXISTS (8.10). Its anchor is the word.
     Exists(Anchor, Boxed<Query>),
-    /// IN over a query (8.4), or NOT IN: whether NOT stands before it, the left side, and the query.
-    /// Its anchor is IN.
+    /// IN over a query (8.4), or NOT IN: whether NOT stands before it, the left side, and the
+    /// query. Its anchor is IN.
     InQuery(Anchor, bool, Boxed<Expr>, Boxed<Query>),
 }
 

@@ -9,12 +9,15 @@ use Rattle.table_store.specs.Memory.{Memory, memory_of, with_one_more, without_p
 use Rattle.table_store.specs.Blocks.{joined}
 use Rattle.table_store.specs.Places.{removed_all, all_placed_at, places_of, inserted_all}
 
+-- a row of one number
 abbrev one : Row
 one = Int (pos 1) ∷ []
 
+-- a row with a greater number
 abbrev two : Row
 two = Int (pos 2) ∷ []
 
+-- a row with the greatest number
 abbrev three : Row
 three = Int (pos 3) ∷ []
 
@@ -26,33 +29,52 @@ with_these rows = record { columns = []; key = 0 ∷ []; rows = rows }
 abbrev a : Kept
 a = record { table = with_these (one ∷ []); capacity = 2 }
 
+-- one without rows, and without memory for any
 abbrev b : Kept
 b = record { table = with_these []; capacity = 0 }
 
+-- both tables, by their names
 abbrev both : Memory
 both = memory_of ((codes "A", a) ∷ (codes "B", b) ∷ [])
 
-other_rows : holding (one ∷ two ∷ []) a ≡ record { table = with_these (one ∷ two ∷ []); capacity = 2 }
+-- other rows, and memory for as many as before
+other_rows : holding (one ∷ two ∷ []) a ≡ record {
+  table = with_these (one ∷ two ∷ []);
+  capacity =
+      2;
+}
 other_rows = refl
 
+-- the second table with its number
 second : kept_at both 1 ≡ b
 second = refl
 
+-- the numbers beside the tables
 numbers : both.capacities ≡ 2 ∷ 0 ∷ []
 numbers = refl
 
-added_behind : with_one_more (memory_of ((codes "A", a) ∷ [])) (codes "B") b ≡ both
-added_behind = refl
+-- a table more comes last
+added_after : with_one_more (memory_of ((codes "A", a) ∷ [])) (codes "B") b ≡ both
+added_after = refl
 
+-- a table goes, and its number with it
 dropped : without_place (place_named (codes "A") both.tables) both ≡ memory_of ((codes "B", b) ∷ [])
 dropped = refl
 
+-- where no table has the name, none goes
 none_dropped : without_place (place_named (codes "C") both.tables) both ≡ both
 none_dropped = refl
 
-rows_in_the_first : (kept_at (record { tables = with_rows_at 0 (two ∷ []) both.tables; capacities = both.capacities }) 0).table.rows ≡ two ∷ []
+-- rows given to the first table are read there
+rows_in_the_first :
+    (kept_at (record {
+      tables = with_rows_at 0 (two ∷ []) both.tables;
+      capacities =
+          both.capacities;
+    }) 0).table.rows ≡ two ∷ []
 rows_in_the_first = refl
 
+-- rows of two blocks and of an empty one
 in_two_blocks : joined ((one ∷ []) ∷ (two ∷ []) ∷ [] ∷ []) ≡ one ∷ two ∷ []
 in_two_blocks = refl
 
@@ -60,11 +82,17 @@ in_two_blocks = refl
 left : removed_all (0 ∷ 2 ∷ []) (one ∷ two ∷ three ∷ []) ≡ two ∷ []
 left = refl
 
-handed_back : all_placed_at (0 ∷ 2 ∷ []) (one ∷ two ∷ three ∷ []) ≡ record { at = 0; row = one } ∷ record { at = 2; row = three } ∷ []
+-- what went out is handed back with its places
+handed_back : all_placed_at (0 ∷ 2 ∷ []) (one ∷ two ∷ three ∷ []) ≡ record { at = 0; row = one } ∷
+    record { at = 2; row = three } ∷ []
 handed_back = refl
 
-in_again : inserted_all (record { at = 0; row = one } ∷ record { at = 2; row = three } ∷ []) (two ∷ []) ≡ one ∷ two ∷ three ∷ []
+-- it goes in at these places
+in_again : inserted_all (record { at = 0; row = one } ∷ record { at = 2; row = three } ∷ [])
+    (two ∷ []) ≡ one ∷ two ∷ three ∷ []
 in_again = refl
 
-their_places : places_of (record { at = 0; row = one } ∷ record { at = 2; row = three } ∷ []) ≡ 0 ∷ 2 ∷ []
+-- the places alone
+their_places : places_of (record { at = 0; row = one } ∷ record { at = 2; row = three } ∷ []) ≡ 0 ∷
+    2 ∷ []
 their_places = refl

@@ -27,7 +27,7 @@ pub record CanInsert (k : Kept) (at : ℕ) (row : Row) : Type 0 where
   pub room : length k.table.rows < k.capacity
   pub kept : IsTrue (well_kept k.table.columns k.table.key (insert k.table.rows at row))
 
--- rows may stand behind the others: there is memory, each fits, and all stand in key order
+-- rows may stand after the others: there is memory, each fits, and all stand in key order
 pub record CanAppend (k : Kept) (more : List Row) : Type 0 where
   pub room : length k.table.rows + length more ≤ k.capacity
   pub kept : IsTrue (well_kept k.table.columns k.table.key (k.table.rows ++ more))

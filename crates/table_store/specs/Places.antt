@@ -23,6 +23,7 @@ placed_at rows p = record { at = p; row = slice_index_or rows p [] }
 abbrev pub all_placed_at : List ℕ → List Row → List PlacedRow
 all_placed_at ps rows = map (placed_at rows) ps
 
+-- the places alone
 abbrev pub places_of : List PlacedRow → List ℕ
 places_of new = map (λ (q : PlacedRow). q.at) new
 

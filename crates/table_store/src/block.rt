@@ -1,6 +1,7 @@
 //! A block of rows: up to 1,024, for which it has memory from the start.
 
-ghost use Rattle.std.specs.Prelude.{◌≡◌, ◌<◌, ◌≤◌, [], ◌∷◌, ◌++◌, length, slice_index_or, slice_set, IfOk};
+ghost use Rattle.std.specs.Prelude.{◌≡◌, ◌<◌, ◌≤◌, [], ◌∷◌, ◌++◌, length, slice_index_or};
+ghost use Rattle.std.specs.Prelude.{slice_set, IfOk};
 ghost use Rattle.std.specs.List.{insert, remove};
 
 use row_types::Row;
@@ -10,6 +11,7 @@ use std::collections::VecDeque;
 use std::marker::Model;
 use std::mem;
 
+/// A block of a table's rows, with memory for 1,024 of them, which it never gives up.
 #[derive(Drop)]
 pub struct Block {
     held: VecDeque<Row>,
@@ -28,6 +30,7 @@ impl Model for Block {
 }
 
 impl Block {
+    /// A block without rows, with memory for all that it can have.
     pub fn new(alloc: Global) -> Result<Block, NoMemory>
         ensures { IfOk result (λ b. b ≡ []) }
     {
@@ -35,12 +38,14 @@ impl Block {
         Ok(Block { held })
     }
 
+    /// The number of rows.
     pub fn len(&self) -> usize
         ensures { result ≡ length self.now }
     {
         self.held.len()
     }
 
+    /// The row at a place.
     pub fn row_at(&self, at: usize) -> &Row
         requires { at < length self.now }
         ensures { result.now ≡ slice_index_or self.now at result.now }
@@ -48,6 +53,7 @@ impl Block {
         &self.held[at]
     }
 
+    /// Puts a row in at a place; those after it move on. The block isn't full.
     pub fn insert_at(&mut self, at: usize, row: Row)
         requires room { length self.old < 1024 }
         requires place { at ≤ length self.old }
@@ -59,6 +65,7 @@ impl Block {
         }
     }
 
+    /// Takes the row at a place out; those after it move up.
     pub fn remove_at(&mut self, at: usize) -> Row
         requires { at < length self.old }
         ensures row { result ≡ slice_index_or self.old at result }
@@ -70,6 +77,7 @@ impl Block {
         }
     }
 
+    /// Puts a row in the place of another, and hands that back.
     pub fn replace_at(&mut self, at: usize, row: Row) -> Row
         requires { at < length self.old }
         ensures row { result ≡ slice_index_or self.old at result }
@@ -78,6 +86,7 @@ impl Block {
         mem::replace(&mut self.held[at], row)
     }
 
+    /// Puts a row before all others. The block isn't full.
     pub fn push_front(&mut self, row: Row)
         requires { length self.old < 1024 }
         ensures { self.new ≡ row ∷ self.old }
@@ -88,6 +97,7 @@ impl Block {
         }
     }
 
+    /// Puts a row after all others. The block isn't full.
     pub fn push_back(&mut self, row: Row)
         requires { length self.old < 1024 }
         ensures { self.new ≡ self.old ++ row ∷ [] }
@@ -98,6 +108,7 @@ impl Block {
         }
     }
 
+    /// Takes the first row out.
     pub fn pop_front(&mut self) -> Row
         requires { 0 < length self.old }
         ensures { self.old ≡ result ∷ self.new }
@@ -108,6 +119,7 @@ impl Block {
         }
     }
 
+    /// Takes the last row out.
     pub fn pop_back(&mut self) -> Row
         requires { 0 < length self.old }
         ensures { self.old ≡ self.new ++ result ∷ [] }

@@ -1,11 +1,14 @@
 //! Rows by their places. This alone knows how they lie in memory: in blocks of 1,024, all full but
 //! the last that has rows. So an insert or a removal moves at most half the rows of a block and one
-//! row of each block behind it, and a place is found by a division. Many rows go in or out in one
+//! row of each block after it, and a place is found by a division. Many rows go in or out in one
 //! pass, in which a row without values, which takes no memory, stands where a row was moved away.
 
-ghost use Rattle.std.specs.Prelude.{◌≡◌, ◌<◌, ◌≤◌, ◌+◌, ◌-◌, ◌^◌, [], ◌∷◌, ◌++◌, length, take, slice_get, slice_index, slice_index_or, slice_set, vec_len, vec_capacity, OnOk, OnErr, IfOk, IsTrue, Some, ◌↔◌};
+ghost use Rattle.std.specs.Prelude.{◌≡◌, ◌<◌, ◌≤◌, ◌+◌, ◌-◌, ◌^◌, [], ◌∷◌, ◌++◌, length, take};
+ghost use Rattle.std.specs.Prelude.{slice_get, slice_index, slice_index_or, slice_set, vec_len};
+ghost use Rattle.std.specs.Prelude.{vec_capacity, OnOk, OnErr, IfOk, IsTrue, Some, ◌↔◌};
 ghost use Rattle.std.specs.List.{insert, remove};
-ghost use Rattle.table_store.specs.Places.{Climb, removed_all, all_placed_at, places_of, inserted_all};
+ghost use Rattle.table_store.specs.Places.{Climb, removed_all, all_placed_at, places_of};
+ghost use Rattle.table_store.specs.Places.{inserted_all};
 
 use crate::block::Block;
 use crate::blocks::{insert_in, push_in, remove_in, replace_in, row_in};
@@ -20,6 +23,8 @@ use std::marker::Model;
 // More blocks than these are not made.
 const MOST: usize = 1 << 40;
 
+/// A table's rows in blocks, all of them full but the last that has rows, so that a place is found
+/// by a division.
 #[derive(Drop)]
 pub struct Rows {
     blocks: Vec<Block>,
@@ -57,6 +62,7 @@ fn last_place(rows: &[PlacedRow]) -> usize
 }
 
 impl Rows {
+    /// No rows, and no memory for any.
     pub fn new(alloc: Global) -> Rows
         ensures { result.rows ≡ [] }
     {
@@ -66,6 +72,7 @@ impl Rows {
         }
     }
 
+    /// The number of rows.
     pub fn len(&self) -> usize
         ensures value { result ≡ length self.now.rows }
         ensures memory { length self.now.rows ≤ self.now.capacity }
@@ -74,6 +81,7 @@ impl Rows {
         self.count
     }
 
+    /// The row at a place.
     pub fn row_at(&self, at: usize) -> &Row
         requires { at < length self.now.rows }
         ensures { result.now ≡ slice_index_or self.now.rows at result.now }
@@ -81,6 +89,7 @@ impl Rows {
         row_in(&self.blocks, at / 1024, at % 1024)
     }
 
+    /// Puts a row in at a place; those after it move on. There is memory for it.
     pub fn insert_at(&mut self, at: usize, row: Row)
         requires room { length self.old.rows < self.old.capacity }
         requires place { at ≤ length self.old.rows }
@@ -91,7 +100,7 @@ impl Rows {
         self.count += 1;
     }
 
-    // One row more, behind the others.
+    // One row more, after the others.
     fn push(&mut self, row: Row)
         requires { length self.old.rows < self.old.capacity }
         ensures rows { self.new.rows ≡ self.old.rows ++ row ∷ [] }
@@ -101,6 +110,7 @@ impl Rows {
         self.count += 1;
     }
 
+    /// Puts rows after the others. There is memory for them.
     pub fn append(&mut self, more: Vec<Row>)
         requires { length self.old.rows + length more.items ≤ self.old.capacity }
         ensures rows { self.new.rows ≡ self.old.rows ++ more.items }
@@ -112,6 +122,7 @@ impl Rows {
         }
     }
 
+    /// Takes the row at a place out and hands it back; its memory is kept.
     pub fn remove_at(&mut self, at: usize) -> Row
         requires { at < length self.old.rows }
         ensures row { result ≡ slice_index_or self.old.rows at result }
@@ -122,6 +133,7 @@ impl Rows {
         remove_in(&mut self.blocks, at / 1024, at % 1024)
     }
 
+    /// Puts a row in the place of another, and hands that back.
     pub fn replace_at(&mut self, at: usize, row: Row) -> Row
         requires { at < length self.old.rows }
         ensures row { result ≡ slice_index_or self.old.rows at result }
@@ -131,7 +143,7 @@ impl Rows {
         replace_in(&mut self.blocks, at / 1024, at % 1024, row)
     }
 
-    // Takes all rows from a place on out.
+    /// Takes all rows from a place on out.
     pub fn truncate(&mut self, at: usize)
         ensures rows { self.new.rows ≡ take at self.old.rows }
         ensures capacity { self.new.capacity ≡ self.old.capacity }
@@ -156,7 +168,8 @@ impl Rows {
     fn move_row(&mut self, from: usize, to: usize)
         requires from { from < length self.old.rows }
         requires to { to < length self.old.rows }
-        ensures rows { self.new.rows ≡ slice_set (slice_set self.old.rows from []) to (slice_index_or self.old.rows from []) }
+        ensures rows { self.new.rows ≡ slice_set (slice_set self.old.rows from []) to
+            (slice_index_or self.old.rows from []) }
         ensures capacity { self.new.capacity ≡ self.old.capacity }
     {
         let row = self.vacate(from);
@@ -180,7 +193,7 @@ impl Rows {
     }
 
     // Moves the rows from a place on that are not at places down over those that are, and cuts off
-    // what stands behind them then.
+    // what stands after them then.
     fn close_up(&mut self, places: &[usize], first: usize)
         requires places { Climb first places.now (length self.old.rows) }
         requires there { first ≤ length self.old.rows }
@@ -228,7 +241,7 @@ impl Rows {
         }
     }
 
-    // Rows without values behind the others.
+    // Rows without values after the others.
     fn lengthen(&mut self, n: usize)
         requires { length self.old.rows + n ≤ self.old.capacity }
         ensures rows { take (length self.old.rows) self.new.rows ≡ self.old.rows }
@@ -265,6 +278,7 @@ impl Rows {
         }
     }
 
+    /// For how many more rows there is memory.
     pub fn spare(&self) -> usize
         ensures value { result ≡ self.now.capacity - length self.now.rows }
         ensures sum { length self.now.rows + result ≡ self.now.capacity }
@@ -286,6 +300,8 @@ impl Rows {
         Ok(())
     }
 
+    /// Memory for so many more rows. Without it the rows stay, with as much memory as there was, or
+    /// more.
     pub fn reserve(&mut self, n: usize) -> Result<(), NoMemory>
         ensures rows { self.new.rows ≡ self.old.rows }
         ensures room { OnOk result (length self.new.rows + n ≤ self.new.capacity) }

@@ -9,7 +9,7 @@ use row_types::{Row, order_by_key, order_to_key};
 use sql_values::Value;
 use std::cmp::Ordering;
 
-// Where the key of a row stands among rows in key order, or the place to put the row.
+/// Where the key of a row stands among rows in key order, or the place to put the row.
 pub fn place_of(rows: &Rows, row: &Row, key: &[usize]) -> Result<usize, usize>
     requires { IsTrue (rises (by_key key.now) rows.now.rows) }
     ensures { result ≡ searched (λ r. by_key key.now r row.now) rows.now.rows }
@@ -27,7 +27,7 @@ pub fn place_of(rows: &Rows, row: &Row, key: &[usize]) -> Result<usize, usize>
     Err(low)
 }
 
-// Where a key stands among rows in key order, or the place to put a row with it.
+/// Where a key stands among rows in key order, or the place to put a row with it.
 pub fn find(rows: &Rows, sought: &[Value], key: &[usize]) -> Result<usize, usize>
     requires order { IsTrue (rises (by_key key.now) rows.now.rows) }
     requires whole { length key.now ≡ length sought.now }

@@ -1,6 +1,7 @@
 //! One table.
 
-ghost use Rattle.std.specs.Prelude.{◌≡◌, ◌<◌, ◌≤◌, ◌+◌, ◌-◌, ◌^◌, [], ◌++◌, length, take, slice_index_or, slice_set, OnOk, OnErr, IfOk, IsTrue};
+ghost use Rattle.std.specs.Prelude.{◌≡◌, ◌<◌, ◌≤◌, ◌+◌, ◌-◌, ◌^◌, [], ◌++◌, length, take};
+ghost use Rattle.std.specs.Prelude.{slice_index_or, slice_set, OnOk, OnErr, IfOk, IsTrue};
 ghost use Rattle.std.specs.List.{insert, remove};
 ghost use Rattle.std.specs.Ordering.{is_eq};
 ghost use Rattle.row_types.specs.Ordered.{searched};
@@ -44,7 +45,12 @@ impl Table {
     /// A table without rows.
     pub fn new(alloc: Global, row_type: RowType) -> Table
         requires { IsTrue (has_key_columns row_type.columns row_type.key) }
-        ensures { result.table ≡ record { columns = row_type.columns; key = row_type.key; rows = [] } }
+        ensures { result.table ≡ record {
+          columns = row_type.columns;
+          key = row_type.key;
+          rows =
+              [];
+        } }
     {
         Table {
             row_type,
@@ -96,7 +102,8 @@ impl Table {
 
     /// Where the key of a row stands; `Err` is the place to insert the row.
     pub fn place_of(&self, row: &Row) -> Result<usize, usize>
-        ensures place { result ≡ searched (λ r. by_key self.now.table.key r row.now) self.now.table.rows }
+        ensures place { result ≡ searched (λ r. by_key self.now.table.key r row.now)
+            self.now.table.rows }
         ensures kept { IsKept self.now }
     {
         let _rows = self.stored.len();
@@ -114,7 +121,8 @@ impl Table {
     /// Whether a row has the key of the row at a place.
     pub fn has_key_at(&self, at: usize, row: &Row) -> bool
         requires { at < length self.now.table.rows }
-        ensures { result ≡ is_eq (by_key self.now.table.key row.now (slice_index_or self.now.table.rows at row.now)) }
+        ensures { result ≡ is_eq (by_key self.now.table.key row.now
+            (slice_index_or self.now.table.rows at row.now)) }
     {
         match order_by_key(row, self.stored.row_at(at), self.row_type.key.as_slice()) {
             Ordering::Equal => true,
@@ -132,7 +140,7 @@ impl Table {
         self.stored.insert_at(at, row);
     }
 
-    /// Puts rows behind the others, with which they stand in key order. There is memory for them.
+    /// Puts rows after the others, with which they stand in key order. There is memory for them.
     pub fn append(&mut self, more: Vec<Row>)
         requires { CanAppend self.old more.items }
         ensures rows { self.new.table ≡ with_rows (self.old.table.rows ++ more.items) self.old.table }
@@ -145,7 +153,8 @@ impl Table {
     /// There is memory for them.
     pub fn insert_all(&mut self, new: Items<PlacedRow>)
         requires { CanInsertAll self.old new }
-        ensures rows { self.new.table ≡ with_rows (inserted_all new self.old.table.rows) self.old.table }
+        ensures rows { self.new.table ≡ with_rows (inserted_all new self.old.table.rows)
+            self.old.table }
         ensures capacity { self.new.capacity ≡ self.old.capacity }
     {
         self.stored.insert_all(new);
@@ -167,7 +176,8 @@ impl Table {
     pub fn remove_all(&mut self, places: &[usize]) -> Result<Vec<PlacedRow>, NoMemory>
         requires { Climb 0 places.now (length self.old.table.rows) }
         ensures taken { IfOk result (λ v. v.items ≡ all_placed_at places.now self.old.table.rows) }
-        ensures rows { OnOk result (self.new.table ≡ with_rows (removed_all places.now self.old.table.rows) self.old.table) }
+        ensures rows { OnOk result (self.new.table ≡ with_rows
+            (removed_all places.now self.old.table.rows) self.old.table) }
         ensures unchanged { OnErr result (self.new.table ≡ self.old.table) }
         ensures capacity { self.new.capacity ≡ self.old.capacity }
     {
@@ -178,7 +188,8 @@ impl Table {
     /// kept. It takes no memory.
     pub fn drop_all(&mut self, places: &[usize])
         requires { Climb 0 places.now (length self.old.table.rows) }
-        ensures rows { self.new.table ≡ with_rows (removed_all places.now self.old.table.rows) self.old.table }
+        ensures rows { self.new.table ≡ with_rows (removed_all places.now self.old.table.rows)
+            self.old.table }
         ensures capacity { self.new.capacity ≡ self.old.capacity }
     {
         self.stored.drop_all(places);
@@ -196,7 +207,8 @@ impl Table {
     pub fn replace_at(&mut self, at: usize, row: Row) -> Row
         requires { CanReplace self.old at row }
         ensures row { result ≡ slice_index_or self.old.table.rows at result }
-        ensures rows { self.new.table ≡ with_rows (slice_set self.old.table.rows at row) self.old.table }
+        ensures rows { self.new.table ≡ with_rows (slice_set self.old.table.rows at row)
+            self.old.table }
         ensures capacity { self.new.capacity ≡ self.old.capacity }
     {
         self.stored.replace_at(at, row)

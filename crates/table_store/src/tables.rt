@@ -1,12 +1,15 @@
 //! All tables, by their names.
 
-ghost use Rattle.std.specs.Prelude.{◌≡◌, ◌<◌, ◌≤◌, ◌+◌, [], ◌++◌, length, take, slice_index, slice_index_or, slice_set, OnOk, OnErr, IfOk, None};
+ghost use Rattle.std.specs.Prelude.{◌≡◌, ◌<◌, ◌≤◌, ◌+◌, [], ◌++◌, length, take, slice_index};
+ghost use Rattle.std.specs.Prelude.{slice_index_or, slice_set, OnOk, OnErr, IfOk, None};
 ghost use Rattle.std.specs.Option.{option_copied, option_map};
 ghost use Rattle.std.specs.List.{insert, remove};
-ghost use Rattle.row_types.specs.Tables.{table_at, table_named, with_rows_at, without_table_named, place_named, HaveDistinctNames};
+ghost use Rattle.row_types.specs.Tables.{table_at, table_named, with_rows_at, without_table_named};
+ghost use Rattle.row_types.specs.Tables.{place_named, HaveDistinctNames};
 ghost use Rattle.table_store.specs.Kept.{CanInsert, CanAppend, CanInsertAll, CanReplace};
 ghost use Rattle.table_store.specs.Places.{Climb, removed_all, all_placed_at, inserted_all};
-ghost use Rattle.table_store.specs.Memory.{with_one_more, without_place, kept_at, table_of, NoLess, AllWellKept};
+ghost use Rattle.table_store.specs.Memory.{with_one_more, without_place, kept_at, table_of, NoLess};
+ghost use Rattle.table_store.specs.Memory.{AllWellKept};
 
 use crate::placed_row::PlacedRow;
 use crate::table::Table;
@@ -63,13 +66,15 @@ impl Tables {
 
     /// The table of a name; `None` exactly where none has it.
     pub fn table(&self, name: &Name) -> Option<&Table>
-        ensures kept { option_copied result ≡ option_map (kept_at self.now) (place_named name.now self.now.tables) }
-        ensures table { option_map table_of (option_copied result) ≡ table_named name.now self.now.tables }
+        ensures kept { option_copied result ≡ option_map (kept_at self.now)
+            (place_named name.now self.now.tables) }
+        ensures table { option_map table_of (option_copied result) ≡
+            table_named name.now self.now.tables }
     {
         self.entries.get(name)
     }
 
-    /// A table more of a free name, behind the others. Without memory nothing changes.
+    /// A table more of a free name, after the others. Without memory nothing changes.
     pub fn add_table(&mut self, name: Name, table: Table) -> Result<(), NoMemory>
         requires { table_named name self.old.tables ≡ None }
         ensures ok { OnOk result (self.new ≡ with_one_more self.old name table) }
@@ -103,18 +108,20 @@ impl Tables {
     pub fn insert_at(&mut self, t: usize, at: usize, row: Row)
         requires there { t < length self.old.tables }
         requires can { CanInsert (kept_at self.old t) at row }
-        ensures tables { self.new.tables ≡ with_rows_at t (insert (table_at self.old.tables t).rows at row) self.old.tables }
+        ensures tables { self.new.tables ≡ with_rows_at t
+            (insert (table_at self.old.tables t).rows at row) self.old.tables }
         ensures capacities { NoLess self.old.capacities self.new.capacities }
     {
         self.entries[t].insert_at(at, row);
     }
 
-    /// Puts rows behind those of the table at a place, with which they stand in key order. There is
+    /// Puts rows after those of the table at a place, with which they stand in key order. There is
     /// memory for them.
     pub fn append(&mut self, t: usize, more: Vec<Row>)
         requires there { t < length self.old.tables }
         requires can { CanAppend (kept_at self.old t) more.items }
-        ensures tables { self.new.tables ≡ with_rows_at t ((table_at self.old.tables t).rows ++ more.items) self.old.tables }
+        ensures tables { self.new.tables ≡ with_rows_at t
+            ((table_at self.old.tables t).rows ++ more.items) self.old.tables }
         ensures capacities { NoLess self.old.capacities self.new.capacities }
     {
         self.entries[t].append(more);
@@ -125,7 +132,8 @@ impl Tables {
     pub fn insert_all(&mut self, t: usize, new: Items<PlacedRow>)
         requires there { t < length self.old.tables }
         requires can { CanInsertAll (kept_at self.old t) new }
-        ensures tables { self.new.tables ≡ with_rows_at t (inserted_all new (table_at self.old.tables t).rows) self.old.tables }
+        ensures tables { self.new.tables ≡ with_rows_at t
+            (inserted_all new (table_at self.old.tables t).rows) self.old.tables }
         ensures capacities { NoLess self.old.capacities self.new.capacities }
     {
         self.entries[t].insert_all(new);
@@ -136,7 +144,8 @@ impl Tables {
         requires there { t < length self.old.tables }
         requires place { at < length (table_at self.old.tables t).rows }
         ensures row { result ≡ slice_index_or (table_at self.old.tables t).rows at result }
-        ensures tables { self.new.tables ≡ with_rows_at t (remove (table_at self.old.tables t).rows at) self.old.tables }
+        ensures tables { self.new.tables ≡ with_rows_at t
+            (remove (table_at self.old.tables t).rows at) self.old.tables }
         ensures capacities { NoLess self.old.capacities self.new.capacities }
     {
         self.entries[t].remove_at(at)
@@ -148,8 +157,10 @@ impl Tables {
     pub fn remove_all(&mut self, t: usize, places: &[usize]) -> Result<Vec<PlacedRow>, NoMemory>
         requires there { t < length self.old.tables }
         requires places { Climb 0 places.now (length (table_at self.old.tables t).rows) }
-        ensures taken { IfOk result (λ v. v.items ≡ all_placed_at places.now (table_at self.old.tables t).rows) }
-        ensures tables { OnOk result (self.new.tables ≡ with_rows_at t (removed_all places.now (table_at self.old.tables t).rows) self.old.tables) }
+        ensures taken { IfOk result (λ v. v.items ≡ all_placed_at places.now
+            (table_at self.old.tables t).rows) }
+        ensures tables { OnOk result (self.new.tables ≡ with_rows_at t
+            (removed_all places.now (table_at self.old.tables t).rows) self.old.tables) }
         ensures unchanged { OnErr result (self.new.tables ≡ self.old.tables) }
         ensures capacities { NoLess self.old.capacities self.new.capacities }
     {
@@ -161,7 +172,8 @@ impl Tables {
     pub fn drop_all(&mut self, t: usize, places: &[usize])
         requires there { t < length self.old.tables }
         requires places { Climb 0 places.now (length (table_at self.old.tables t).rows) }
-        ensures tables { self.new.tables ≡ with_rows_at t (removed_all places.now (table_at self.old.tables t).rows) self.old.tables }
+        ensures tables { self.new.tables ≡ with_rows_at t
+            (removed_all places.now (table_at self.old.tables t).rows) self.old.tables }
         ensures capacities { NoLess self.old.capacities self.new.capacities }
     {
         self.entries[t].drop_all(places);
@@ -170,7 +182,8 @@ impl Tables {
     /// Takes all rows from a place on out of the table at a place; their memory is kept.
     pub fn truncate(&mut self, t: usize, at: usize)
         requires { t < length self.old.tables }
-        ensures tables { self.new.tables ≡ with_rows_at t (take at (table_at self.old.tables t).rows) self.old.tables }
+        ensures tables { self.new.tables ≡ with_rows_at t
+            (take at (table_at self.old.tables t).rows) self.old.tables }
         ensures capacities { NoLess self.old.capacities self.new.capacities }
     {
         self.entries[t].truncate(at);
@@ -181,7 +194,8 @@ impl Tables {
         requires there { t < length self.old.tables }
         requires can { CanReplace (kept_at self.old t) at row }
         ensures row { result ≡ slice_index_or (table_at self.old.tables t).rows at result }
-        ensures tables { self.new.tables ≡ with_rows_at t (slice_set (table_at self.old.tables t).rows at row) self.old.tables }
+        ensures tables { self.new.tables ≡ with_rows_at t
+            (slice_set (table_at self.old.tables t).rows at row) self.old.tables }
         ensures capacities { NoLess self.old.capacities self.new.capacities }
     {
         self.entries[t].replace_at(at, row)
@@ -191,7 +205,8 @@ impl Tables {
     pub fn reserve(&mut self, t: usize, n: usize) -> Result<(), NoMemory>
         requires { t < length self.old.tables }
         ensures tables { self.new.tables ≡ self.old.tables }
-        ensures room { OnOk result (length (table_at self.new.tables t).rows + n ≤ slice_index self.new.capacities t) }
+        ensures room { OnOk result (length (table_at self.new.tables t).rows + n ≤
+            slice_index self.new.capacities t) }
         ensures capacities { NoLess self.old.capacities self.new.capacities }
     {
         self.entries[t].reserve(n)

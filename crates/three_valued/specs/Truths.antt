@@ -1,4 +1,5 @@
--- The truth tables of ISO/IEC 9075-2, 6.39 (boolean value expression). A truth value that isn't known is the BOOLEAN NULL.
+-- The truth tables of ISO/IEC 9075-2, 6.39 (boolean value expression). A truth value that isn't
+-- known is the BOOLEAN NULL.
 use Rattle.std.specs.Prelude.{true, false}
 use Rattle.sql_values.specs.declared.value.Value.{Value}
 use Rattle.sql_values.specs.declared.value.Value.TheVariants.{Null, Bool as Truth_value}

@@ -1,8 +1,6 @@
 //! Three-valued logic: AND, OR and NOT over TRUE, FALSE and UNKNOWN.
 #![tactic(auto)]
 
-#[cfg(test)]
-mod tests;
 mod truth;
 
 pub use truth::{Truth, and, not, or};

@@ -1,7 +1,8 @@
 //! Truth values and their connectives (ISO/IEC 9075-2, 6.39). Total, and without memory.
 
 ghost use Rattle.std.specs.Prelude.{◌≡◌};
-ghost use Rattle.three_valued.specs.Truths.{conjunction, disjunction, negation, truth_of_value, value_of_truth};
+ghost use Rattle.three_valued.specs.Truths.{conjunction, disjunction, negation, truth_of_value};
+ghost use Rattle.three_valued.specs.Truths.{value_of_truth};
 
 use sql_values::Value;
 

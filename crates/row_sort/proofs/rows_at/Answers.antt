@@ -1,4 +1,5 @@
-use Rattle.std.proofs.Common.{ap, ◌∙◌, ◌++◌, ◌+◌, ◌<◌, [], List, arith, drop, set, length, get_or, length-set}
+use Rattle.std.proofs.Common.{ap, ◌∙◌, ◌++◌, ◌+◌, ◌<◌, [], List, arith, drop, set, length, get_or}
+use Rattle.std.proofs.Common.{length-set}
 use Rattle.std.proofs.lemmas.List.{get_or_default}
 use Rattle.row_types.specs.Rows.{Row}
 use Rattle.row_sort.specs.Places.{rows_at}
@@ -15,9 +16,12 @@ loop-place-preserved c =
     let at = get_or ps i 0 in
     let there : at < length c.args.rows.items = c.requires.there i 0 here in
     record {
-      rows = ap (λ (xs : List Row). xs ++ rows_at (set left at c.replace-row.new.dest) (drop (i + 1) ps)) c.push_reserved.ensures.items
-          ∙ goes_out c.loop-place.taken.items left ps i 0 c.replace-row.result c.replace-row.new.dest c.requires.once here
-          (c.replace-row.ensures.value ∙ c.index_mut.ensures.value ∙ get_or_default left at _ [] (omega (arith, there, long)))
+      rows = ap (λ (xs : List Row). xs ++ rows_at (set left at c.replace-row.new.dest)
+          (drop (i + 1) ps)) c.push_reserved.ensures.items
+          ∙ goes_out c.loop-place.taken.items left ps i 0 c.replace-row.result
+          c.replace-row.new.dest c.requires.once here
+          (c.replace-row.ensures.value ∙ c.index_mut.ensures.value ∙
+          get_or_default left at _ [] (omega (arith, there, long)))
           ∙ c.loop-place.invariant.rows;
       long = length-set left at c.replace-row.new.dest ∙ long;
       count = omega arith;

@@ -4,7 +4,8 @@ use Rattle.atomic_undo.proofs.between.with_places.Given as goal
 
 abbrev pub invariant-loop-row : goal.invariant-loop-row
 invariant-loop-row l = record {
-  placed : l.placed.items ++ with_places (drop l.i l.fn.places) l.left.items ≡ with_places l.fn.places l.fn.new.items;
+  placed : l.placed.items ++ with_places (drop l.i l.fn.places) l.left.items ≡
+      with_places l.fn.places l.fn.new.items;
   count : deque_len l.left + l.i ≡ length l.fn.places;
   noted : vec_len l.placed ≡ l.i;
   memory : length l.fn.places ≤ vec_capacity l.placed;

@@ -4,7 +4,8 @@ use Rattle.atomic_undo.proofs.delete.remove_each.Given as goal
 
 abbrev pub invariant-loop-at : goal.invariant-loop-at
 invariant-loop-at l = record {
-  out : Going_out l.initial.tables l.tables l.table l.fn.places.items l.rest.items l.initial.edits.items l.edits.items;
+  out : Going_out l.initial.tables l.tables l.table l.fn.places.items l.rest.items
+      l.initial.edits.items l.edits.items;
   noted : vec_len l.edits + vec_len l.rest ≡ vec_len l.initial.edits + vec_len l.fn.places;
   capacity : vec_capacity l.edits ≡ vec_capacity l.initial.edits;
 }

@@ -10,10 +10,13 @@ use Rattle.atomic_undo.proofs.insert.insert_rows.Goals as goal
 pub insert_or_refuse-requires-clause-fit : goal.insert_or_refuse-requires-clause-fit
 insert_or_refuse-requires-clause-fit c =
     let t = table_at c.args.tables.now.tables c.args.table in
-    all_moved (fits t.columns t.key) c.args.new.items c.in-Ok.sorted.rows.items c.in-Ok.ensures.moved c.requires.fit
+    all_moved (fits t.columns t.key) c.args.new.items c.in-Ok.sorted.rows.items
+    c.in-Ok.ensures.moved c.requires.fit
 
 pub returns-in-Ok : goal.returns-in-Ok
 returns-in-Ok c =
-    answer_alike c.args.tables.now c.insert_or_refuse.new.tables c.args.table c.in-Ok.sorted.rows.items c.args.new.items c.insert_or_refuse.result
-    (subst (λ (k : Kept). PutAlike (by_key k.table.key) k.table.rows c.in-Ok.sorted.rows.items c.args.new.items) c.table_at.ensures c.in-Ok.ensures.alike)
+    answer_alike c.args.tables.now c.insert_or_refuse.new.tables c.args.table
+    c.in-Ok.sorted.rows.items c.args.new.items c.insert_or_refuse.result
+    (subst (λ (k : Kept). PutAlike (by_key k.table.key) k.table.rows c.in-Ok.sorted.rows.items
+    c.args.new.items) c.table_at.ensures c.in-Ok.ensures.alike)
     c.insert_or_refuse.ensures

@@ -9,6 +9,8 @@ use Rattle.atomic_undo.proofs.rekey.judge.Goals as goal
 pub find_repeat-requires : goal.find_repeat-requires
 find_repeat-requires c =
     let p = fits c.args.table.now.table.columns c.args.table.now.table.key in
-    ap (list_all p) (c.with_rows_at.ensures ∙ ap (λ (xs : List Row). set_all c.args.places.items c.args.new.items xs) c.in-Ok.ensures)
+    ap (list_all p) (c.with_rows_at.ensures ∙
+    ap (λ (xs : List Row). set_all c.args.places.items c.args.new.items xs) c.in-Ok.ensures)
     ∙ all_set_all p c.args.places.items c.args.new.items c.args.table.now.table.rows c.requires.fit
-    (kept_fits c.args.table.now.table.columns c.args.table.now.table.key c.args.table.now.table.rows (c.len-kept.ensures.kept).rows)
+    (kept_fits c.args.table.now.table.columns c.args.table.now.table.key c.args.table.now.table.rows
+    (c.len-kept.ensures.kept).rows)

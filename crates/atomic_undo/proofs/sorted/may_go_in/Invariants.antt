@@ -9,7 +9,8 @@ abbrev pub invariant-loop-i : goal.invariant-loop-i
 invariant-loop-i l = record {
   within : l.i ≤ length l.placed;
   up : rises (by_key l.fn.table.table.key) (rows_at l.fn.rows (drop l.i l.placed)) ≡ true;
-  free : list_all (λ (x : Row). not (stands (by_key l.fn.table.table.key) x l.fn.table.table.rows)) (rows_at l.fn.rows (drop l.i l.placed)) ≡ true;
+  free : list_all (λ (x : Row). not (stands (by_key l.fn.table.table.key) x l.fn.table.table.rows))
+      (rows_at l.fn.rows (drop l.i l.placed)) ≡ true;
 }
 
 abbrev pub decreases-loop-i : goal.decreases-loop-i

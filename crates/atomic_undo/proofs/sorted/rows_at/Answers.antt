@@ -1,4 +1,5 @@
-use Rattle.std.proofs.Common.{ap, ◌∙◌, ◌++◌, ◌+◌, ◌<◌, [], List, pos, arith, drop, set, length, get_or, length-set}
+use Rattle.std.proofs.Common.{ap, ◌∙◌, ◌++◌, ◌+◌, ◌<◌, [], List, pos, arith, drop, set, length}
+use Rattle.std.proofs.Common.{get_or, length-set}
 use Rattle.std.proofs.lemmas.List.{get_or_default}
 use Rattle.row_types.specs.Rows.{Row}
 use Rattle.atomic_undo.specs.declared.sorted.Placed.{Placed}
@@ -17,9 +18,12 @@ loop-one-preserved c =
     let at = (get_or ps i none).place in
     let there : at < length c.args.rows.items = c.requires.there i none here in
     record {
-      rows = ap (λ (xs : List Row). xs ++ rows_at (set left at c.replace-row.new.dest) (drop (i + 1) ps)) c.push_reserved.ensures.items
-          ∙ goes_out c.loop-one.taken.items left ps i none c.replace-row.result c.replace-row.new.dest c.requires.once here
-          (c.replace-row.ensures.value ∙ c.index_mut.ensures.value ∙ get_or_default left at _ [] (omega (arith, there, long)))
+      rows = ap (λ (xs : List Row). xs ++ rows_at (set left at c.replace-row.new.dest)
+          (drop (i + 1) ps)) c.push_reserved.ensures.items
+          ∙ goes_out c.loop-one.taken.items left ps i none c.replace-row.result
+          c.replace-row.new.dest c.requires.once here
+          (c.replace-row.ensures.value ∙ c.index_mut.ensures.value ∙
+          get_or_default left at _ [] (omega (arith, there, long)))
           ∙ c.loop-one.invariant.rows;
       long = length-set left at c.replace-row.new.dest ∙ long;
       count = omega arith;

@@ -8,7 +8,8 @@ abbrev pub invariant-loop-edit : goal.invariant-loop-edit
 invariant-loop-edit l = record {
   there : l.table < length l.tables.tables;
   can : CanUndo (kept_at l.tables l.table) l.edits;
-  rows : with_rows_at l.table (rows_before l.edits (table_at l.tables.tables l.table).rows) l.tables.tables ≡ undo_entry l.fn.entry l.initial.tables.tables;
+  rows : with_rows_at l.table (rows_before l.edits (table_at l.tables.tables l.table).rows)
+      l.tables.tables ≡ undo_entry l.fn.entry l.initial.tables.tables;
   capacities : NoLess l.initial.tables.capacities l.tables.capacities;
 }
 

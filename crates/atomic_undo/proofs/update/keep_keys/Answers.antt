@@ -10,8 +10,12 @@ has_key_at-requires c =
 
 pub loop-i-preserved : goal.loop-i-preserved
 loop-i-preserved c =
-    sym (stay_step (by_key c.args.table.now.table.key) c.args.places.now c.args.new.now c.args.table.now.table.rows c.loop-i.i c.index-new-i.result c.loop-i-test.true c.requires.both c.index-new-i.is
+    sym (stay_step (by_key c.args.table.now.table.key) c.args.places.now c.args.new.now
+    c.args.table.now.table.rows c.loop-i.i c.index-new-i.result c.loop-i-test.true c.requires.both
+    c.index-new-i.is
     (sym c.has_key_at.ensures ∙ c.if-not-has_key_at.false)) ∙ c.loop-i.invariant
 
 pub returns : goal.returns
-returns c = λ _. sym c.loop-i.invariant ∙ stay_end (by_key c.args.table.now.table.key) c.args.places.now c.args.new.now c.args.table.now.table.rows c.loop-i.i c.loop-i-test.false c.requires.both
+returns c = λ _. sym c.loop-i.invariant ∙ stay_end (by_key c.args.table.now.table.key)
+    c.args.places.now c.args.new.now c.args.table.now.table.rows c.loop-i.i c.loop-i-test.false
+    c.requires.both

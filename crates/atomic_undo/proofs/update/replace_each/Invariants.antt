@@ -4,7 +4,8 @@ use Rattle.atomic_undo.proofs.update.replace_each.Given as goal
 
 abbrev pub invariant-loop-at : goal.invariant-loop-at
 invariant-loop-at l = record {
-  going : Replacing l.initial.tables l.tables l.table l.initial.places.items l.initial.new.items l.places.items l.new.items l.edits.items;
+  going : Replacing l.initial.tables l.tables l.table l.initial.places.items l.initial.new.items
+      l.places.items l.new.items l.edits.items;
   noted : vec_len l.edits + vec_len l.places ≤ vec_capacity l.edits;
 }
 

@@ -4,4 +4,5 @@ use Rattle.group_index.specs.Indexed.{cells_at_places}
 use Rattle.group_index.proofs.groups.key_of_cells.Given as goal
 
 abbrev pub invariant-loop-column : goal.invariant-loop-column
-invariant-loop-column l = map Val l.key ++ cells_at_places l.row (drop l.column-index l.columns) ≡ cells_at_places l.row l.columns
+invariant-loop-column l = map Val l.key ++ cells_at_places l.row (drop l.column-index l.columns) ≡
+    cells_at_places l.row l.columns

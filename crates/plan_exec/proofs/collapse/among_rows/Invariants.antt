@@ -5,4 +5,5 @@ use Rattle.rel_algebra.specs.Endings.{among}
 use Rattle.plan_exec.proofs.collapse.among_rows.Given as goal
 
 abbrev pub invariant-loop-row : goal.invariant-loop-row
-invariant-loop-row l = among l.so_far l.value (values_of_column 0 (drop l.row-index l.rows)) ≡ among (TruthValue false) l.value (values_of_column 0 l.rows)
+invariant-loop-row l = among l.so_far l.value (values_of_column 0 (drop l.row-index l.rows)) ≡ among
+    (TruthValue false) l.value (values_of_column 0 l.rows)

@@ -11,8 +11,10 @@ use Rattle.plan_exec.proofs.ends.rows_passed.Goals as goal
 
 pub returns-then-takes_whole : goal.returns-then-takes_whole
 returns-then-takes_whole c =
-    given_whole c.args.nodes.now (outer_rows c.args.outer.now) c.args.args.now c.args.into c.in_ok-list.list (shown_rows c.args.rows)
-    (c.takes_whole.ensures.nodes c.if-takes_whole.true) (c.takes_whole.ensures.list c.if-takes_whole.true) c.in_ok-list.ensures
+    given_whole c.args.nodes.now (outer_rows c.args.outer.now) c.args.args.now c.args.into
+    c.in_ok-list.list (shown_rows c.args.rows)
+    (c.takes_whole.ensures.nodes c.if-takes_whole.true)
+    (c.takes_whole.ensures.list c.if-takes_whole.true) c.in_ok-list.ensures
 
 pub loop-row-preserved : goal.loop-row-preserved
 loop-row-preserved c =
@@ -20,7 +22,11 @@ loop-row-preserved c =
     let args = c.args.args.now in
     let vs = c.of-values.result in
     let cs = c.clear.new.self.cells.items in
-    row_passed c.args.nodes.now o args c.as_slice-row-items.result.now c.loop-row.row-index c.row-item.result c.loop-row.received c.add_passed.new.received (received c.args.into (passed c.args.nodes.now o args (shown_rows c.args.rows)))
+    row_passed c.args.nodes.now o args c.as_slice-row-items.result.now c.loop-row.row-index
+    c.row-item.result c.loop-row.received c.add_passed.new.received
+    (received c.args.into (passed c.args.nodes.now o args (shown_rows c.args.rows)))
     (way_fate c.through-way.result (map Val vs ++ cs) o args) c.loop-row-test.true c.row-item.is
-    (way_is c.args.nodes.now c.through-way.result o args vs c.row-item.result cs (λ r. c.through-way.ensures r o args) c.clear.ensures (c.of-values.ensures ∙ c.as_slice.ensures))
+    (way_is c.args.nodes.now c.through-way.result o args vs c.row-item.result cs
+    (λ r. c.through-way.ensures r o args) c.clear.ensures
+    (c.of-values.ensures ∙ c.as_slice.ensures))
     c.in_ok-add_passed.ensures c.loop-row.invariant

@@ -10,6 +10,8 @@ pub returns-then-branch : goal.returns-then-branch
 returns-then-branch c =
     on_ok_weaker c.take.result
     (λ h. folded_values c.args.received.now c.in-Folds.folding c.take.new.self c.as_slice.result.now
-    (last_cells c.args.last.now (map Val c.args.front.now ++ c.args.scratch.now.cells.items) (outer_rows c.args.outer.now) c.args.args.now)
-    c.in-Folds.is (ap (map Val) c.as_slice.ensures.value ∙ c.in_ok-work_out.ensures.values c.if-branch.true) h)
+    (last_cells c.args.last.now (map Val c.args.front.now ++ c.args.scratch.now.cells.items)
+    (outer_rows c.args.outer.now) c.args.args.now)
+    c.in-Folds.is (ap (map Val) c.as_slice.ensures.value ∙
+    c.in_ok-work_out.ensures.values c.if-branch.true) h)
     c.take.ensures

@@ -2,7 +2,7 @@ use Rattle.std.proofs.Common.{◌≡◌, ◌++◌, [], drop}
 use Rattle.row_types.specs.OuterRows.{outer_rows}
 use Rattle.rel_algebra.specs.Plan.{list_rows}
 use Rattle.rel_algebra.specs.PlanView.{lists_of}
-use Rattle.scalar_eval.specs.Sights.{sight_of}
+use Rattle.plan_scalars.specs.Sights.{sight_of}
 use Rattle.plan_exec.proofs.lists.listed.Given as goal
 
 abbrev pub invariant-loop-list : goal.invariant-loop-list

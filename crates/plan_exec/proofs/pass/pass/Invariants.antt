@@ -6,5 +6,6 @@ use Rattle.plan_exec.proofs.pass.pass.Given as goal
 
 abbrev pub invariant-loop-node : goal.invariant-loop-node
 invariant-loop-node l =
-    fate (drop l.node-index l.nodes) (map Val l.front ++ l.scratch.cells.items) (outer_rows l.outer) l.args
+    fate (drop l.node-index l.nodes) (map Val l.front ++ l.scratch.cells.items) (outer_rows l.outer)
+    l.args
     ≡ fate l.nodes (map Val l.values ++ l.fn.scratch.cells.items) (outer_rows l.outer) l.args

@@ -14,4 +14,5 @@ plain catalog tables = record { catalog = catalog; tables = tables }
 pub returns-clause-whole : goal.returns-clause-whole
 returns-clause-whole c =
     subst IsWhole (sym (ap₂ plain c.drop_entry.ensures.entries c.drop_table.ensures.tables))
-    (dropped_is_whole c.args.name.now (database c.args.catalog.now c.args.tables.now) c.len-entries.ensures.names c.requires.whole)
+    (dropped_is_whole c.args.name.now (database c.args.catalog.now c.args.tables.now)
+    c.len-entries.ensures.names c.requires.whole)

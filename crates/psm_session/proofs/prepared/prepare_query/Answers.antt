@@ -8,4 +8,5 @@ use Rattle.psm_session.proofs.prepared.prepare_query.Goals as goal
 pub returns : goal.returns
 returns c =
     let known = c.args.catalog.now in
-    own_plan (query_of known c.args.query.now) (width_in known) (tree_of c.in_ok-plan.plan) c.requires.planned c.in_ok-plan.ensures
+    own_plan (query_of known c.args.query.now) (width_in known) (tree_of c.in_ok-plan.plan)
+    c.requires.planned c.in_ok-plan.ensures

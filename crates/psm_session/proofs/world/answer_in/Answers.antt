@@ -3,7 +3,7 @@ use Rattle.std.proofs.Common.{ap, sym, ◌∙◌}
 use Rattle.table_store.specs.Memory.{Memory}
 use Rattle.catalog_store.specs.View.{query_of}
 use Rattle.plan_exec.specs.declared.collecting.Answer.{Answer}
-use Rattle.expr_interp.specs.Content.{world_of}
+use Rattle.run_expressions.specs.Content.{world_of}
 use Rattle.psm_session.specs.Answering.{ends_with}
 use Rattle.psm_session.proofs.Answering.{rows_effect, area_effect}
 use Rattle.psm_session.proofs.world.answer_in.Goals as goal
@@ -11,13 +11,17 @@ use Rattle.psm_session.proofs.world.answer_in.Goals as goal
 pub returns-in-Rows-clause-ok : goal.returns-in-Rows-clause-ok
 returns-in-Rows-clause-ok g c =
     let w = c.args.world.now in
-    rows_effect c.args.catalog.now w (query_of c.args.catalog.now c.args.query.now) c.in-Rows.rows c.rows_reply.result
-    (c.in_ok-rows.ensures.ends (world_of w) (sym (ap (λ (m : Memory). m.tables) c.tables.ensures)) ∙ ap (λ (a : Answer). ends_with a (world_of w)) c.in-Rows.is)
+    rows_effect c.args.catalog.now w (query_of c.args.catalog.now c.args.query.now) c.in-Rows.rows
+    c.rows_reply.result
+    (c.in_ok-rows.ensures.ends (world_of w) (sym (ap (λ (m : Memory). m.tables) c.tables.ensures)) ∙
+    ap (λ (a : Answer). ends_with a (world_of w)) c.in-Rows.is)
     c.rows_reply.ensures.reply
 
 pub returns-in-Raised-clause-ok : goal.returns-in-Raised-clause-ok
 returns-in-Raised-clause-ok g c =
     let w = c.args.world.now in
-    area_effect c.args.catalog.now w (query_of c.args.catalog.now c.args.query.now) c.in-Raised.area c.area_reply.result
-    (c.in_ok-rows.ensures.ends (world_of w) (sym (ap (λ (m : Memory). m.tables) c.tables.ensures)) ∙ ap (λ (a : Answer). ends_with a (world_of w)) c.in-Raised.is)
+    area_effect c.args.catalog.now w (query_of c.args.catalog.now c.args.query.now) c.in-Raised.area
+    c.area_reply.result
+    (c.in_ok-rows.ensures.ends (world_of w) (sym (ap (λ (m : Memory). m.tables) c.tables.ensures)) ∙
+    ap (λ (a : Answer). ends_with a (world_of w)) c.in-Raised.is)
     c.area_reply.ensures

@@ -8,7 +8,8 @@ use Rattle.reply_text.proofs.reply.records_text.Given as goal
 -- what stands written and what is still to come are all records
 abbrev pub invariant-loop-alloc : goal.invariant-loop-alloc
 invariant-loop-alloc g l =
-    (written l.writer ++ flat_map record_text (value_rows l.rows) ≡ flat_map record_text (value_rows l.initial.rows))
+    (written l.writer ++ flat_map record_text (value_rows l.rows) ≡ flat_map record_text
+    (value_rows l.initial.rows))
     × (l.steps + length l.rows ≤ l.initial.steps + length l.initial.rows) × IsBetween l.writer
 
 abbrev pub decreases-loop-alloc : goal.decreases-loop-alloc

@@ -6,6 +6,7 @@ use Rattle.routine_form.proofs.weighing.declarations.Given as goal
 
 abbrev pub invariant-loop-declared : goal.invariant-loop-declared
 invariant-loop-declared l = record {
-  counted : add l.weight (declarations l.catalog l.handlers (drop l.declared-index l.variables)) ≡ declarations l.catalog l.handlers l.variables;
+  counted : add l.weight (declarations l.catalog l.handlers (drop l.declared-index l.variables)) ≡
+      declarations l.catalog l.handlers l.variables;
   most : l.weight ≤ HEAVIEST;
 }

@@ -6,6 +6,7 @@ use Rattle.routine_form.proofs.weighing.tests_weight.Given as goal
 
 abbrev pub invariant-loop-branch : goal.invariant-loop-branch
 invariant-loop-branch l = record {
-  counted : add l.calls (tests (map (weight_of_branch l.catalog) (drop l.branch-index l.branches))) ≡ tests (map (weight_of_branch l.catalog) l.branches);
+  counted : add l.calls (tests (map (weight_of_branch l.catalog) (drop l.branch-index l.branches)))
+      ≡ tests (map (weight_of_branch l.catalog) l.branches);
   most : l.calls ≤ HEAVIEST;
 }

@@ -13,7 +13,9 @@ loop-i-init c =
     let keys = c.args.keys.now in
     let none = drop_all (length keys) keys (omega arith) in
     record {
-      order = c.in_ok-places.ensures ∙ no_pass rows (places_from 0 rows) ∙ ap (λ (ks : List SortKey). in_order (at_places (keys_cmp ks) rows) (places_from 0 rows)) (sym none);
+      order = c.in_ok-places.ensures ∙ no_pass rows (places_from 0 rows) ∙
+          ap (λ (ks : List SortKey). in_order (at_places (keys_cmp ks) rows) (places_from 0 rows))
+          (sym none);
       within = omega arith;
     }
 
@@ -26,7 +28,9 @@ loop-i-preserved c =
     let some : 0 < i = c.loop-i-test.true in
     let there : i - 1 < length keys = omega (arith, within, some) in
     record {
-      order = pass_step rows keys (places_from 0 rows) i _ c.loop-i.places.items c.in-Ok.sorted.items some within (get_or_default keys (i - 1) _ _ there) c.loop-i.invariant.order
+      order = pass_step rows keys (places_from 0 rows) i _ c.loop-i.places.items
+          c.in-Ok.sorted.items some within (get_or_default keys (i - 1) _ _ there)
+          c.loop-i.invariant.order
           (c.in-Ok.ensures ∙ ap (in_order _) c.as_slice.ensures.value);
       within = omega (arith, within);
     }
@@ -36,4 +40,5 @@ returns c =
     let rows = c.args.rows.now in
     let keys = c.args.keys.now in
     let first : c.loop-i.i ≡ 0 = (let f = c.loop-i-test.false in omega (arith, f)) in
-    c.loop-i.invariant.order ∙ ap (λ (n : ℕ). in_order (at_places (keys_cmp (drop n keys)) rows) (places_from 0 rows)) first
+    c.loop-i.invariant.order ∙ ap (λ (n : ℕ). in_order (at_places (keys_cmp (drop n keys)) rows)
+    (places_from 0 rows)) first

@@ -6,7 +6,8 @@ use Rattle.row_sort.proofs.columns.places_in_order.Given as goal
 
 abbrev pub invariant-loop-i : goal.invariant-loop-i
 invariant-loop-i l = record {
-  order : l.places.items ≡ in_order (at_places (keys_cmp (drop l.i l.fn.keys)) l.fn.rows) (places_from 0 l.fn.rows);
+  order : l.places.items ≡ in_order (at_places (keys_cmp (drop l.i l.fn.keys)) l.fn.rows)
+      (places_from 0 l.fn.rows);
   within : l.i ≤ length l.fn.keys;
 }
 

@@ -9,5 +9,7 @@ pub returns : goal.returns
 returns c =
     let R = by_value c.args.key c.args.rows.now in
     let o = by_value_total c.args.key c.args.rows.now in
-    stable_is_in_order R o _ _ (c.in_ok-sort_by.ensures.sorted (below R o) (weak R o) (always_returns_same _ _ _ (λ a r q k. search rules)))
-    (c.sort_by.ensures.stable (below R o) (weak R o) (always_returns_same _ _ _ (λ a r q k. search rules)))
+    stable_is_in_order R o _ _ (c.in_ok-sort_by.ensures.sorted (below R o) (weak R o)
+    (always_returns_same _ _ _ (λ a r q k. search rules)))
+    (c.sort_by.ensures.stable (below R o) (weak R o)
+    (always_returns_same _ _ _ (λ a r q k. search rules)))

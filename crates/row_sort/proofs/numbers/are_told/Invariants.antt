@@ -5,4 +5,6 @@ use Rattle.row_sort.specs.Numbers.{is_told}
 use Rattle.row_sort.proofs.numbers.are_told.Given as goal
 
 abbrev pub invariant-loop-row : goal.invariant-loop-row
-invariant-loop-row l = list_all (λ row. is_told l.fn.truths (slice_index_or row l.fn.column Null)) (drop l.row-index l.fn.rows) ≡ list_all (λ row. is_told l.fn.truths (slice_index_or row l.fn.column Null)) l.fn.rows
+invariant-loop-row l = list_all (λ row. is_told l.fn.truths (slice_index_or row l.fn.column Null))
+    (drop l.row-index l.fn.rows) ≡ list_all (λ row. is_told l.fn.truths
+    (slice_index_or row l.fn.column Null)) l.fn.rows

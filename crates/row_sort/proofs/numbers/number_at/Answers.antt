@@ -6,4 +6,5 @@ use Rattle.row_sort.proofs.numbers.number_at.Goals as goal
 
 pub returns-in-None : goal.returns-in-None
 returns-in-None c =
-    subst (λ (v : Value). to_z w64 (of_z w64 c.number.result) ≡ number_by c.args.alone v) (no_row c.args.rows.now c.args.column c.args.place (search rules)) (search rules)
+    subst (λ (v : Value). to_z w64 (of_z w64 c.number.result) ≡ number_by c.args.alone v)
+    (no_row c.args.rows.now c.args.column c.args.place (search rules)) (search rules)

@@ -6,4 +6,5 @@ use Rattle.row_sort.proofs.numbers.number_in.Goals as goal
 
 pub returns-in-None : goal.returns-in-None
 returns-in-None c =
-    subst (λ (v : Value). to_z w64 (of_z w64 c.number-in-None.result) ≡ number_by c.args.alone v) (no_value c.args.row.now c.args.column c.in-None.ensures.value) (search rules)
+    subst (λ (v : Value). to_z w64 (of_z w64 c.number-in-None.result) ≡ number_by c.args.alone v)
+    (no_value c.args.row.now c.args.column c.in-None.ensures.value) (search rules)

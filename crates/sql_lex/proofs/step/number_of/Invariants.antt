@@ -7,5 +7,6 @@ use Rattle.sql_lex.proofs.step.number_of.Given as goal
 abbrev pub invariant-loop-b : goal.invariant-loop-b
 invariant-loop-b l = record {
   in_range : l.number ≤ most_number;
-  value : fold (λ n b. 10 * n + (b - 48)) l.number (drop l.b-index l.digits) ≡ digits_value l.digits;
+  value : fold (λ n b. 10 * n + (b - 48)) l.number (drop l.b-index l.digits) ≡
+      digits_value l.digits;
 }

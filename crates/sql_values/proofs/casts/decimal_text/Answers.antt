@@ -7,10 +7,14 @@ use Rattle.sql_values.proofs.casts.decimal_text.Goals as goal
 
 pub of-requires : goal.of-requires
 of-requires c =
-    let made : chars (string_bytes c.in_ok-digits.digits) ≡ signed_decimal c.args.number = chars-decimal _ c.args.number c.ranges.number.sfits (search rules) in
-    subst (λ (s : List ℕ). length s ≤ 4096) (sym made) (decimal-short c.args.number c.ranges.number.sfits)
+    let made : chars (string_bytes c.in_ok-digits.digits) ≡ signed_decimal c.args.number =
+    chars-decimal _ c.args.number c.ranges.number.sfits (search rules) in
+    subst (λ (s : List ℕ). length s ≤ 4096) (sym made)
+    (decimal-short c.args.number c.ranges.number.sfits)
 
 pub returns : goal.returns
 returns c =
-    let made : chars (string_bytes c.in_ok-digits.digits) ≡ signed_decimal c.args.number = chars-decimal _ c.args.number c.ranges.number.sfits (search rules) in
-    roomy TooLong c.in_ok-of.field-0 (signed_decimal c.args.number) c.args.most (c.in_ok-of.ensures ∙ made) (search rules)
+    let made : chars (string_bytes c.in_ok-digits.digits) ≡ signed_decimal c.args.number =
+    chars-decimal _ c.args.number c.ranges.number.sfits (search rules) in
+    roomy TooLong c.in_ok-of.field-0 (signed_decimal c.args.number) c.args.most
+    (c.in_ok-of.ensures ∙ made) (search rules)

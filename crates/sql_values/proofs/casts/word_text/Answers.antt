@@ -8,10 +8,14 @@ use Rattle.sql_values.proofs.casts.word_text.Goals as goal
 
 pub of-requires : goal.of-requires
 of-requires c =
-    let bytes : string_bytes c.in_ok-from_str.field-0 ≡ letters (word_for c.args.truth) = search rules in
-    subst (λ (s : List ℕ). length s ≤ 4096) (sym (ap chars bytes ∙ chars-letters (word_for c.args.truth))) (letters-short (word_for c.args.truth))
+    let bytes : string_bytes c.in_ok-from_str.field-0 ≡ letters (word_for c.args.truth) =
+    search rules in
+    subst (λ (s : List ℕ). length s ≤ 4096) (sym (ap chars bytes ∙
+    chars-letters (word_for c.args.truth))) (letters-short (word_for c.args.truth))
 
 pub returns : goal.returns
 returns c =
-    let bytes : string_bytes c.in_ok-from_str.field-0 ≡ letters (word_for c.args.truth) = search rules in
-    roomy BadCast c.in_ok-of.field-0 (letters (word_for c.args.truth)) c.args.most (c.in_ok-of.ensures ∙ ap chars bytes ∙ chars-letters (word_for c.args.truth)) (search rules)
+    let bytes : string_bytes c.in_ok-from_str.field-0 ≡ letters (word_for c.args.truth) =
+    search rules in
+    roomy BadCast c.in_ok-of.field-0 (letters (word_for c.args.truth)) c.args.most
+    (c.in_ok-of.ensures ∙ ap chars bytes ∙ chars-letters (word_for c.args.truth)) (search rules)

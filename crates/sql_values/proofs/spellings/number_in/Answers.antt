@@ -13,4 +13,5 @@ returns-in-Ok c =
 pub returns-in-Err : goal.returns-in-Err
 returns-in-Err c =
     let digits : are_digits (without_sign c.args.word.now) ≡ true = search rules in
-    read_too_great c.args.word.now digits (parsed c.args.word.now (Err c.in-Err.field-0) digits c.in-Err.ensures.value.0)
+    read_too_great c.args.word.now digits (parsed c.args.word.now (Err c.in-Err.field-0) digits
+    c.in-Err.ensures.value.0)

@@ -9,7 +9,8 @@ push_back-requires c =
     let bs = c.args.blocks.now.items in
     let k = c.args.at in
     let l : k < length bs = (let s = c.requires.start in let r = c.requires.room in omega arith) in
-    has_room bs k 0 c.index_mut.result.now l (full_before bs k c.requires.packed c.requires.start) c.index_mut.ensures.value c.requires.end
+    has_room bs k 0 c.index_mut.result.now l (full_before bs k c.requires.packed c.requires.start)
+    c.index_mut.ensures.value c.requires.end
 
 pub returns-clause-rows : goal.returns-clause-rows
 returns-clause-rows c =
@@ -17,7 +18,8 @@ returns-clause-rows c =
     let k = c.args.at in
     let l : k < length bs = (let s = c.requires.start in let r = c.requires.room in omega arith) in
     ap (λ (xs : List Row). joined (set bs k xs)) c.push_back.ensures
-    ∙ pushed bs k 0 c.index_mut.result.now l (full_before bs k c.requires.packed c.requires.start) c.index_mut.ensures.value c.args.row c.requires.packed c.requires.end
+    ∙ pushed bs k 0 c.index_mut.result.now l (full_before bs k c.requires.packed c.requires.start)
+    c.index_mut.ensures.value c.args.row c.requires.packed c.requires.end
 
 pub returns-clause-packed : goal.returns-clause-packed
 returns-clause-packed c =
@@ -25,4 +27,6 @@ returns-clause-packed c =
     let k = c.args.at in
     let l : k < length bs = (let s = c.requires.start in let r = c.requires.room in omega arith) in
     subst (λ (xs : List Row). Packed (set bs k xs)) (sym c.push_back.ensures)
-    (packed_pushed bs k 0 c.index_mut.result.now l (full_before bs k c.requires.packed c.requires.start) c.index_mut.ensures.value c.args.row c.requires.packed c.requires.end)
+    (packed_pushed bs k 0 c.index_mut.result.now l
+    (full_before bs k c.requires.packed c.requires.start) c.index_mut.ensures.value c.args.row
+    c.requires.packed c.requires.end)

@@ -7,7 +7,8 @@ invariant-loop-low l = record {
   between : l.low ≤ l.high;
   within : l.high ≤ length l.rows.rows;
   below : (k : ℕ) (d : Row) → k < l.low → to_key l.key l.sought (get_or l.rows.rows k d) ≡ Less;
-  above : (k : ℕ) (d : Row) → l.high ≤ k → k < length l.rows.rows → to_key l.key l.sought (get_or l.rows.rows k d) ≡ Greater;
+  above : (k : ℕ) (d : Row) → l.high ≤ k → k < length l.rows.rows →
+      to_key l.key l.sought (get_or l.rows.rows k d) ≡ Greater;
 }
 
 abbrev pub decreases-loop-low : goal.decreases-loop-low

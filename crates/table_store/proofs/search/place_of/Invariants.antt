@@ -7,7 +7,8 @@ invariant-loop-low l = record {
   between : l.low ≤ l.high;
   within : l.high ≤ length l.rows.rows;
   below : (k : ℕ) (d : Row) → k < l.low → by_key l.key (get_or l.rows.rows k d) l.row ≡ Less;
-  above : (k : ℕ) (d : Row) → l.high ≤ k → k < length l.rows.rows → by_key l.key (get_or l.rows.rows k d) l.row ≡ Greater;
+  above : (k : ℕ) (d : Row) → l.high ≤ k → k < length l.rows.rows →
+      by_key l.key (get_or l.rows.rows k d) l.row ≡ Greater;
 }
 
 abbrev pub decreases-loop-low : goal.decreases-loop-low

@@ -9,21 +9,30 @@ use Rattle.catalog_store.proofs.Lasting.{none_lasting, planned_in_all}
 use Rattle.catalog_store.proofs.catalog.Catalog.get.Goals as goal
 
 -- what holds of what is found holds of what is lent
-if_some : {A : Type 0} (P : A → Type 0) (r : Option (Bor A)) (x : Option A) → option_copied r ≡ x → ((o : A) → x ≡ Some o → P o) → IfSome r (λ o. P o.now)
+if_some : {A : Type 0} (P : A → Type 0) (r : Option (Bor A)) (x : Option A) → option_copied r ≡ x →
+    ((o : A) → x ≡ Some o → P o) → IfSome r (λ o. P o.now)
 if_some P None x e h = tt
 if_some P (Some r) x e h = h r.now (sym e)
 
 pub returns-clause-value : goal.returns-clause-value
 returns-clause-value c =
-    let value = named_in_all c.args.name.now [] c.self.inside.objects.entries c.self.invariant refl in
-    subst (λ (k : Catalog). object_named c.args.name.now k ≡ option_map (object_of k) (option_copied c.get.result)) c.self.view_is (rw c.get.ensures.value value)
+    let value = named_in_all c.args.name.now [] c.self.inside.objects.entries c.self.invariant refl
+    in
+    subst (λ (k : Catalog). object_named c.args.name.now k ≡ option_map (object_of k)
+    (option_copied c.get.result)) c.self.view_is (rw c.get.ensures.value value)
 
 pub returns-clause-fits : goal.returns-clause-fits
 returns-clause-fits c =
-    if_some (ObjectFits c.args.self.now) c.get.result (lookup (bytes_eq c.args.name.now) c.self.inside.objects.entries) c.get.ensures.value
-    (λ o q. subst (λ (k : Catalog). ObjectFits k o) c.self.view_is (fits_in_all (bytes_eq c.args.name.now) [] c.self.inside.objects.entries o c.self.invariant q))
+    if_some (ObjectFits c.args.self.now) c.get.result
+    (lookup (bytes_eq c.args.name.now) c.self.inside.objects.entries) c.get.ensures.value
+    (λ o q. subst (λ (k : Catalog). ObjectFits k o) c.self.view_is
+    (fits_in_all (bytes_eq c.args.name.now) [] c.self.inside.objects.entries o c.self.invariant
+    q))
 
 pub returns-clause-planned : goal.returns-clause-planned
 returns-clause-planned c =
-    if_some (IsPlanned c.args.self.now) c.get.result (lookup (bytes_eq c.args.name.now) c.self.inside.objects.entries) c.get.ensures.value
-    (λ o q. subst (λ (k : Catalog). IsPlanned k o) c.self.view_is (planned_in_all (bytes_eq c.args.name.now) [] c.self.inside.objects.entries o none_lasting c.self.invariant q))
+    if_some (IsPlanned c.args.self.now) c.get.result
+    (lookup (bytes_eq c.args.name.now) c.self.inside.objects.entries) c.get.ensures.value
+    (λ o q. subst (λ (k : Catalog). IsPlanned k o) c.self.view_is
+    (planned_in_all (bytes_eq c.args.name.now) [] c.self.inside.objects.entries o none_lasting
+    c.self.invariant q))

@@ -8,11 +8,19 @@ use Rattle.catalog_store.proofs.Planned.{all_planned, all_distinct, none_alike}
 use Rattle.catalog_store.proofs.catalog.Catalog.len.Goals as goal
 
 pub returns-clause-value : goal.returns-clause-value
-returns-clause-value c = omega (arith, c.len.ensures.len, length-with_all [] c.self.inside.objects.entries, ap (λ (k : Catalog). length k) c.self.view_is)
+returns-clause-value c = omega (
+  arith,
+  c.len.ensures.len,
+  length-with_all []
+      c.self.inside.objects.entries,
+  ap (λ (k : Catalog). length k) c.self.view_is,
+)
 
 pub returns-clause-names : goal.returns-clause-names
 returns-clause-names c =
-    subst (λ (k : Catalog). IsDistinct bytes_eq (names_of k)) c.self.view_is (all_distinct [] c.self.inside.objects.entries c.self.invariant none_alike)
+    subst (λ (k : Catalog). IsDistinct bytes_eq (names_of k)) c.self.view_is
+    (all_distinct [] c.self.inside.objects.entries c.self.invariant none_alike)
 
 pub returns-clause-planned : goal.returns-clause-planned
-returns-clause-planned c = subst AllPlanned c.self.view_is (all_planned [] c.self.inside.objects.entries (λ name. refl) c.self.invariant)
+returns-clause-planned c = subst AllPlanned c.self.view_is
+    (all_planned [] c.self.inside.objects.entries (λ name. refl) c.self.invariant)

@@ -1,5 +1,5 @@
 use Rattle.std.proofs.Common.{take}
-use Rattle.io_edges.specs.Told.{Takes}
+use Rattle.io_edges.specs.TakenBytes.{Takes}
 use Rattle.io_edges.specs.Events.{sure_told}
 use Rattle.io_edges.proofs.sure.SureSinkSink.write.Given as goal
 

@@ -9,5 +9,6 @@ pub returns-in-Some : goal.returns-in-Some
 returns-in-Some c row outer args =
     let ps = c.in-Some.places.now in
     kept_last c.args.nodes.now ps row outer args c.in-Some.ensures
-    ∙ (ap (λ (ms : List Node). go_on (fate ms row outer args) (λ r. Stays (cells_at r ps))) (sym c.without_last.ensures)
+    ∙ (ap (λ (ms : List Node). go_on (fate ms row outer args) (λ r. Stays (cells_at r ps)))
+    (sym c.without_last.ensures)
     ∙ c.before_keep.ensures row outer args)

@@ -5,7 +5,8 @@ use Rattle.table_store.proofs.rows.Rows.close_up.Given as goal
 
 abbrev pub invariant-loop-from : goal.invariant-loop-from
 invariant-loop-from l = record {
-  closing : Closing l.places l.self.rows (removed_all l.places l.initial.self.rows) l.from l.passed l.count;
+  closing : Closing l.places l.self.rows (removed_all l.places l.initial.self.rows) l.from l.passed
+      l.count;
   capacity : l.self.capacity ≡ l.initial.self.capacity;
 }
 

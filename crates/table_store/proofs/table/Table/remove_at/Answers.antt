@@ -6,6 +6,8 @@ use Rattle.table_store.proofs.table.Table.remove_at.Goals as goal
 pub invariant_of-self : goal.invariant_of-self
 invariant_of-self c = (
   c.self.invariant.0,
-  subst (λ (rows : List Row). IsTrue (well_kept c.self.inside.row_type.columns c.self.inside.row_type.key rows)) (sym c.remove_at.ensures.rows)
-      (well_kept-remove c.self.inside.row_type.columns c.self.inside.row_type.key c.self.inside.stored.rows c.args.at c.self.invariant.1),
+  subst (λ (rows : List Row). IsTrue (well_kept c.self.inside.row_type.columns
+      c.self.inside.row_type.key rows)) (sym c.remove_at.ensures.rows)
+      (well_kept-remove c.self.inside.row_type.columns c.self.inside.row_type.key
+      c.self.inside.stored.rows c.args.at c.self.invariant.1),
 )

@@ -1,0 +1,5 @@
+pub mod Tables
+pub mod Characteristics
+pub mod Routines
+pub mod Removals
+pub mod Making

@@ -1,0 +1,8 @@
+-- The laws on which upper crates stand.
+pub use Rattle.bind_queries.proofs.Sets.{has, front_nil, back_nil, no_fault}
+pub use Rattle.bind_queries.proofs.Fits.{fitting, expr_used, query_planned, query_fitting}
+pub use Rattle.bind_queries.proofs.Fits.{query_used, ordered_planned, ordered_typed_planned}
+pub use Rattle.bind_queries.proofs.Fits.{ordered_used, select_of, parts_as_query, conjuncts_planned}
+pub use Rattle.bind_queries.proofs.Fits.{conjuncts_uses}
+pub use Rattle.bind_queries.proofs.Rows.{plain, plains, expr_plain, exprs_plain, plain_query}
+pub use Rattle.bind_queries.proofs.Rows.{query_plain}

@@ -1,0 +1,17 @@
+use Rattle.std.proofs.Common.{ap, []}
+use Rattle.bind_faults.specs.Faults.{Noted}
+use Rattle.bind_sight.specs.Sight.{at_top}
+use Rattle.bind_parts.specs.declared.typed.TypedQuery.{TypedQuery}
+use Rattle.bind_queries.specs.Examples.{catalog, two_and_one, counted, once}
+use Rattle.bind_queries.proofs.Rows.{query_plain}
+use Rattle.bind_queries.proofs.binds_by_place_in_group.Goals as goal
+
+pub returns : goal.returns
+returns c = record {
+  tree = ap (λ (x : Noted TypedQuery). x.value.tree) (query_plain two_and_one [] (at_top catalog));
+  names = ap (λ (x : Noted TypedQuery). x.value.columns)
+      (query_plain two_and_one [] (at_top catalog));
+  of_one_group = ap (λ (x : Noted TypedQuery). x.value.tree)
+      (query_plain counted [] (at_top catalog));
+  of_no_group = ap (λ (x : Noted TypedQuery). x.value.tree) (query_plain once [] (at_top catalog));
+}

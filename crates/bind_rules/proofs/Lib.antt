@@ -1,0 +1,3 @@
+pub mod Unrolled
+pub mod Repeated
+pub mod Laws

@@ -1,0 +1,12 @@
+pub mod Names
+pub mod Keys
+pub mod Drops
+pub mod Heights
+pub mod Definitions
+pub mod Labels
+pub mod Arguments
+pub mod Targets
+pub mod Handlers
+pub mod Structures
+pub mod Access
+pub mod Examples

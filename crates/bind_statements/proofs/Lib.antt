@@ -1,0 +1,6 @@
+pub mod Meeting
+pub mod Made
+pub mod Runs
+pub mod Rows
+pub mod Typed
+pub mod Laws

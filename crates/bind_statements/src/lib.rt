@@ -1,0 +1,81 @@
+//! Names of statements: whether those of a statement stand for something, and the statement with
+//! its names resolved.
+#![tactic(auto, using(bind_faults::proofs::Laws::noted_append))]
+
+ghost use Rattle.bind_statements.specs.Binds.{FaultlessFits};
+ghost use Rattle.bind_statements.specs.Runs.{FaultlessRuns};
+ghost use Rattle.bind_statements.specs.Types.{FaultlessTyped};
+ghost use Rattle.bind_statements.specs.Examples.{EachFaultAtItsPlace, KeysOfTables, DropsOfEntries};
+ghost use Rattle.bind_statements.specs.Examples.{FormsBoundAlone, FaultsOfWriting, KindsFit};
+ghost use Rattle.bind_statements.specs.Examples.{BindsByPlaceAndName, BindsWriting};
+
+mod bound;
+mod function;
+mod statement;
+
+pub use bind_parts::NameFault;
+pub use bind_rules::MOST_HEIGHT;
+pub use bound::{Bound, BoundStatement};
+pub use statement::{anchor_of, bind_statement};
+
+/// A statement without faults makes what fits the catalog: a name that is free, a key of columns,
+/// calls of functions that stand there and are lower, with as many arguments as parameters; what is
+/// dropped stands there unused; and what is asked or met has a plan.
+pub fn faultless_fits()
+    ensures { FaultlessFits }
+{}
+
+/// What is bound without faults is well typed: each column, slot, cursor and label that it names is
+/// there, and each operand, argument and value is of a kind that fits. In each compound statement
+/// the handlers stand after all other declarations, as a script has them.
+pub fn faultless_typed()
+    ensures { FaultlessTyped }
+{}
+
+/// Where all functions have plans, a statement without faults is run if it is of a form that is
+/// run: CREATE TABLE, CREATE FUNCTION without characteristics whose body is RETURN and does not
+/// call the function itself, DROP, INSERT, UPDATE, DELETE or a query.
+pub fn faultless_runs()
+    ensures { FaultlessRuns }
+{}
+
+/// Each kind of fault, at its place.
+pub fn each_fault_at_its_place()
+    ensures { EachFaultAtItsPlace }
+{}
+
+/// Keys of several columns, and second ones: each fault at its place.
+pub fn keys_of_tables()
+    ensures { KeysOfTables }
+{}
+
+/// What is dropped is of the sort that is written, and nothing uses it.
+pub fn drops_of_entries()
+    ensures { DropsOfEntries }
+{}
+
+/// Which statements are run, and which are bound alone.
+pub fn forms_bound_alone()
+    ensures { FormsBoundAlone }
+{}
+
+/// Lists of columns, assignments and WHERE of what writes a table: each fault at its place.
+pub fn faults_of_writing()
+    ensures { FaultsOfWriting }
+{}
+
+/// What is asked of kinds: each fault at its place, and no second one above it.
+pub fn kinds_fit()
+    ensures { KindsFit }
+{}
+
+/// A column is bound by its place, a call by its name.
+pub fn binds_by_place_and_name()
+    ensures { BindsByPlaceAndName }
+{}
+
+/// A column that is written is bound by its place, the rows that are met by a query of these, and a
+/// key by the places of its columns in their order.
+pub fn binds_writing()
+    ensures { BindsWriting }
+{}

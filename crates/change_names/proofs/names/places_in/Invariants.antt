@@ -1,6 +1,0 @@
-use Rattle.std.proofs.Common.{◌≡◌, ◌++◌, drop}
-use Rattle.change_names.specs.Names.{places_in}
-use Rattle.change_names.proofs.names.places_in.Given as goal
-
-abbrev pub invariant-loop-ident : goal.invariant-loop-ident
-invariant-loop-ident l = l.places ++ places_in l.columns (drop l.ident-index l.idents) ≡ places_in l.columns l.idents

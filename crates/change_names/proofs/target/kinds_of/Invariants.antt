@@ -1,6 +1,0 @@
-use Rattle.std.proofs.Common.{◌≡◌, map, take}
-use Rattle.name_kinds.specs.Kinds.{kind_of_type}
-use Rattle.change_names.proofs.target.kinds_of.Given as goal
-
-abbrev pub invariant-loop-column : goal.invariant-loop-column
-invariant-loop-column l = l.kinds ≡ map (λ c. kind_of_type c.data_type) (take l.column-index l.columns)

@@ -1,8 +1,0 @@
-pub mod Stays
-pub mod Going
-pub mod Trees
-pub mod Steps
-pub mod Cases
-pub mod Words
-pub mod Firsts
-pub mod Laws

@@ -1,7 +1,0 @@
-use Rattle.std.proofs.Common.{sym, ap, ◌∙◌}
-use Rattle.token_grammar.specs.Reading.{begins}
-use Rattle.expr_parse.proofs.Lone.{closers, lone_literal}
-use Rattle.expr_parse.proofs.words.is_lone_literal.Goals as goal
-
-pub returns-then-sees_any-clause-alone : goal.returns-then-sees_any-clause-alone
-returns-then-sees_any-clause-alone c begun n = lone_literal n c.args.input.now.rest.now (sym c.begins_literal.ensures ∙ begun) (ap (begins closers) (sym c.take.ensures) ∙ sym c.sees_any.ensures ∙ c.if-sees_any.true)

@@ -1,5 +1,0 @@
-use Rattle.expr_plan.proofs.Nodes.{tree_of-parts}
-use Rattle.expr_plan.proofs.draft.Draft.into_plan.Goals as goal
-
-pub returns : goal.returns
-returns c = tree_of-parts c.args.self.plan

@@ -1,7 +1,0 @@
-use Rattle.std.proofs.Common.{Bool, ◌||◌, sym, ap, ◌∙◌}
-use Rattle.rel_algebra.specs.Emit.{computed}
-use Rattle.catalog_store.specs.View.{tree_of}
-use Rattle.expr_plan.proofs.guards.is_guarded.Goals as goal
-
-pub returns-else-refused : goal.returns-else-refused
-returns-else-refused c = λ known. c.is_computed.ensures known ∙ ap (λ (b : Bool). b || computed (tree_of known c.args.argument.now)) (sym c.if-refused.false)

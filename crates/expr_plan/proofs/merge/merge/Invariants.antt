@@ -1,6 +1,0 @@
-use Rattle.expr_plan.specs.Merging.{move_of}
-use Rattle.expr_plan.proofs.Moving.{Merging}
-use Rattle.expr_plan.proofs.merge.merge.Given as goal
-
-abbrev pub invariant-loop-node : goal.invariant-loop-node
-invariant-loop-node l = Merging (move_of l.shift) l.plan.nodes l.node-index l.initial.draft l.draft

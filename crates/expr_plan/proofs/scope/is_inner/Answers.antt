@@ -1,8 +1,0 @@
-use Rattle.expr_plan.proofs.Places.{zero_is, zero_not}
-use Rattle.expr_plan.proofs.scope.is_inner.Goals as goal
-
-pub returns-then-level-eq0 : goal.returns-then-level-eq0
-returns-then-level-eq0 c = zero_is c.args.level c.if-level-eq0.true
-
-pub returns-else-level-eq0 : goal.returns-else-level-eq0
-returns-else-level-eq0 c = zero_not c.args.level c.if-level-eq0.false

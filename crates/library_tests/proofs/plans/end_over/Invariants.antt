@@ -1,4 +1,0 @@
-use Rattle.library_tests.proofs.plans.end_over.Given as goal
-
-abbrev pub ghosts-end_of : goal.ghosts-end_of
-ghosts-end_of a = record { name = a.blank.name; parts = a.blank.parts }

@@ -1,4 +1,0 @@
-use Rattle.library_tests.proofs.tables.read_at.Given as goal
-
-abbrev pub ghosts-read : goal.ghosts-read
-ghosts-read a = record { name = a.blank.name; parts = a.blank.parts }

@@ -1,8 +1,0 @@
-use Rattle.std.proofs.Common.{◌≡◌, drop}
-use Rattle.name_faults.specs.Faults.{noted}
-use Rattle.name_kinds.specs.declared.kind.Kind.TheVariants.{Null}
-use Rattle.name_kinds.specs.Operations.{arms, no_test}
-use Rattle.name_kinds.proofs.cases.arms.Given as goal
-
-abbrev pub invariant-loop-head : goal.invariant-loop-head
-invariant-loop-head l = noted l.least (arms l.wanted l.kind l.waiting (drop l.head-index l.heads)) ≡ noted l.initial.least (arms l.wanted Null no_test l.heads)

@@ -1,6 +1,0 @@
-use Rattle.std.proofs.Common.{◌≡◌, drop}
-use Rattle.names_in_sight.specs.Sight.{among, among_from}
-use Rattle.names_in_sight.proofs.item.among.Given as goal
-
-abbrev pub invariant-loop-item : goal.invariant-loop-item
-invariant-loop-item l = among_from l.wanted l.base l.hit (drop l.item-index l.items) ≡ among l.wanted l.base l.items

@@ -1,2 +1,0 @@
-//! That parts of expressions and queries without faults are bound to well typed trees.
-#![tactic(auto)]

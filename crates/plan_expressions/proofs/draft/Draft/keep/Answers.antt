@@ -1,0 +1,12 @@
+use Rattle.std.proofs.Common.{◌∙◌}
+use Rattle.rel_algebra.specs.declared.plan.Node.TheVariants.{Keep}
+use Rattle.rel_algebra.specs.PlanView.{leaf_of, with_nodes}
+use Rattle.plan_expressions.proofs.Nodes.{one_after, with-Keep}
+use Rattle.plan_expressions.proofs.draft.Draft.keep.Goals as goal
+
+pub returns-clause-tree : goal.returns-clause-tree
+returns-clause-tree c =
+    let plan = c.args.self.now.plan in
+    let input = leaf_of plan.leaf in
+    one_after plan.nodes _ (Keep c.args.places) input c.in_ok-push.ensures.ok ∙
+    with-Keep c.args.places (with_nodes plan.nodes input)

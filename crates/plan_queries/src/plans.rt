@@ -1,0 +1,62 @@
+//! The plans of queries.
+
+ghost use Rattle.std.specs.Prelude.{◌≡◌, IfOk};
+ghost use Rattle.rel_algebra.specs.Emit.{top, plan};
+ghost use Rattle.rel_algebra.specs.Plan.{sort};
+ghost use Rattle.rel_algebra.specs.PlanView.{tree_of};
+ghost use Rattle.catalog_store.specs.View.{query_of};
+ghost use Rattle.catalog_store.specs.Widths.{width_in};
+ghost use Rattle.plan_expressions.specs.Scopes.{env_of};
+
+use crate::selects::plan_select;
+use crate::tables::columns_of;
+use crate::values::plan_values;
+use bound_trees::BoundQuery;
+use catalog_store::Catalog;
+use plan_expressions::{Draft, NameSources};
+use rel_algebra::Plan;
+use row_types::SortKey;
+use sql_values::NoMemory;
+use sqlite_items::Items;
+use std::alloc::Global;
+
+/// The plan of a query that no query stands around (ISO/IEC 9075-2, 7.17), with the body of each
+/// function that it calls in the place of the call. Tables are as wide as the catalog says. It can
+/// fail for want of memory alone.
+pub fn plan_query(alloc: Global, query: &BoundQuery, catalog: &Catalog) -> Result<Plan, NoMemory>
+    ensures { IfOk result (λ p. tree_of p ≡ plan (query_of catalog.now query.now)
+        (width_in catalog.now) (top 0)) }
+{
+    let scope = NameSources::top(alloc, 0);
+    Ok(plan_within(alloc, query, &scope, catalog)?)
+}
+
+/// The plan of a query within these names.
+#[cycle(query)]
+pub fn plan_within(
+    alloc: Global,
+    query: &BoundQuery,
+    scope: &NameSources,
+    catalog: &Catalog,
+) -> Result<Plan, NoMemory>
+    ensures { IfOk result (λ p. tree_of p ≡ plan (query_of catalog.now query.now)
+        (width_in catalog.now) (env_of scope.now)) }
+{
+    match query {
+        BoundQuery::Select(select) => Ok(plan_select(alloc, select, scope, catalog)?),
+        BoundQuery::Values(rows) => Ok(plan_values(alloc, rows.as_slice(), scope, catalog)?),
+        BoundQuery::Ordered(query, keys) => {
+            let plan = plan_within(alloc, query.get(), scope, catalog)?;
+            Ok(sorted(alloc, plan, columns_of(query.get()), keys.as_slice())?)
+        }
+    }
+}
+
+// The rows of a plan, which have so many columns, in the order of these columns (14.3).
+fn sorted(alloc: Global, plan: Plan, columns: usize, keys: &[SortKey]) -> Result<Plan, NoMemory>
+    ensures { IfOk result (λ p. tree_of p ≡ sort keys.now (tree_of plan)) }
+{
+    let mut draft = Draft::of_plan(alloc, plan, columns);
+    draft.sort(Items::from_slice(alloc, keys)?)?;
+    Ok(draft.into_plan())
+}

@@ -1,0 +1,10 @@
+pub mod Among
+pub mod Collapsing
+pub mod Collected
+pub mod Copies
+pub mod FirstValues
+pub mod Laws
+pub mod Operands
+pub mod Outcomes
+pub mod Places
+pub mod TruthTables

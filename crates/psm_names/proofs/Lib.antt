@@ -1,8 +1,0 @@
-pub mod Access
-pub mod Elements
-pub mod Meeting
-pub mod Made
-pub mod Runs
-pub mod Rows
-pub mod Typed
-pub mod Laws

@@ -1,8 +1,0 @@
-use Rattle.std.proofs.Common.{◌≡◌, drop}
-use Rattle.std.specs.List.{flat_map}
-use Rattle.name_faults.specs.Faults.{noted}
-use Rattle.name_kinds.specs.Types.{type_faults}
-use Rattle.psm_names.proofs.routine.note_types.Given as goal
-
-abbrev pub invariant-loop-parameter : goal.invariant-loop-parameter
-invariant-loop-parameter l = noted l.least (flat_map (λ c. type_faults c.data_type) (drop l.parameter-index l.parameters)) ≡ noted l.initial.least (flat_map (λ c. type_faults c.data_type) l.parameters)

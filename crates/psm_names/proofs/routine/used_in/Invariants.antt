@@ -1,6 +1,0 @@
-use Rattle.std.proofs.Common.{◌≡◌, ◌++◌, drop}
-use Rattle.psm_names.specs.Routines.{used_in}
-use Rattle.psm_names.proofs.routine.used_in.Given as goal
-
-abbrev pub invariant-loop-name : goal.invariant-loop-name
-invariant-loop-name l = l.used ++ used_in l.catalog (drop l.name-index l.names) ≡ used_in l.catalog l.names

@@ -1,6 +1,0 @@
-use Rattle.std.proofs.Common.{◌≡◌, ◌++◌, drop}
-use Rattle.psm_names.specs.Tables.{column_idents}
-use Rattle.psm_names.proofs.table.column_idents.Given as goal
-
-abbrev pub invariant-loop-element : goal.invariant-loop-element
-invariant-loop-element l = l.idents ++ column_idents (drop l.element-index l.elements) ≡ column_idents l.elements

@@ -1,9 +1,0 @@
-use Rattle.std.proofs.Common.{◌∙◌, arith}
-use Rattle.psm_names.specs.Tables.{key_list_faults}
-use Rattle.psm_names.proofs.Elements.{faults-more}
-use Rattle.psm_names.proofs.table.note_key_lists.Goals as goal
-
-pub loop-element-preserved : goal.loop-element-preserved
-loop-element-preserved c =
-    faults-more (key_list_faults c.args.names.now) c.args.elements.now c.loop-element.element-index c.element-item.result c.loop-element.least _
-    (omega arith) c.element-item.is c.in_ok-note_key_list.ensures ∙ c.loop-element.invariant

@@ -1,9 +1,0 @@
-pub mod Tables
-pub mod Characteristics
-pub mod Routines
-pub mod Functions
-pub mod Statements
-pub mod Binds
-pub mod Types
-pub mod Runs
-pub mod Examples

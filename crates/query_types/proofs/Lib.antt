@@ -1,9 +1,0 @@
-pub mod Judged
-pub mod Growing
-pub mod Forms
-pub mod Lists
-pub mod Froms
-pub mod Selects
-pub mod Values
-pub mod Induction
-pub mod Laws

@@ -1,0 +1,5 @@
+pub mod Faults
+pub mod Ending
+pub mod Sight
+pub mod Words
+pub mod Units

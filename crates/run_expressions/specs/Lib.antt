@@ -1,0 +1,5 @@
+pub mod Content
+pub mod Ending
+pub mod Cost
+pub mod Units
+pub mod Words

@@ -1,0 +1,360 @@
+-- FROM made from left to right gives what the nested joins give. ISO/IEC 9075-2, 7.5 (from clause)
+-- and 7.10 (joined table).
+use Rattle.std.proofs.Common.{ℕ, ◌≡◌, ◌<◌, ◌+◌, ◌∷◌, [], List, Option, Some, None, length, drop}
+use Rattle.std.proofs.Common.{get_or, map, refl, sym, ap, ◌∙◌, Result, Ok, Err}
+use Rattle.std.specs.Option.{option_map}
+use Rattle.bound_trees.specs.declared.expr.BoundExpr.{BoundExpr}
+use Rattle.bound_trees.specs.declared.query.BoundFromItem.{BoundFromItem}
+use Rattle.bound_trees.specs.declared.query.BoundFromItem.TheVariants.{Left}
+use Rattle.bound_trees.specs.declared.query.BoundSource.{BoundSource}
+use Rattle.bound_trees.specs.declared.query.BoundSelect.{BoundSelect, out-BoundSelect}
+use Rattle.bound_trees.specs.declared.query.BoundGrouping.{BoundGrouping}
+use Rattle.row_types.specs.Rows.{Row}
+use Rattle.rel_algebra.specs.Tree.{Exprs, From, Cross, Inner, LeftOuter, Query}
+use Rattle.rel_algebra.specs.World.{World, Frame, Ends, Eval, after, give, no_self}
+use Rattle.rel_algebra.specs.Meaning.{from_rows, answer}
+use Rattle.rel_algebra.specs.Joins.{pairs, from_width, table_width}
+use Rattle.catalog_store.specs.Catalog.{Catalog}
+use Rattle.catalog_store.specs.View.{Joining, after_comma, crossing, matching, matching_or_nulls}
+use Rattle.catalog_store.specs.View.{itself, Joined, beside, closed, grown, all_grown, begun}
+use Rattle.catalog_store.specs.View.{from_of, item_of, source_of, exprs_of, select_of, selected}
+use Rattle.catalog_store.specs.View.{grouping_of}
+use Rattle.run_queries.specs.declared.from.JoinedRows.{JoinedRows}
+use Rattle.run_choices.specs.declared.stop.Stop.{Stop}
+use Rattle.run_expressions.specs.Content.{Content, world_of}
+use Rattle.run_expressions.specs.Ending.{Ended}
+use Rattle.run_queries.specs.Groups.{records_by, grouped_by}
+use Rattle.run_queries.specs.Joins.{matched, beside_rows, closed_rows, with_current, joined_to}
+use Rattle.run_queries.specs.Joins.{one_joined, all_joined}
+use Rattle.catalog_store.proofs.Laws.{select_of-parts, item_of-Left}
+use Rattle.run_queries.proofs.Grouping.{one_by_one_or_grouped, selected_is}
+use Rattle.run_queries.proofs.RowByRow.{row_by_row}
+use Rattle.run_expressions.proofs.Laws.{Going, going, goes_on, stops, gives, ends_as, after_give}
+use Rattle.run_expressions.proofs.Laws.{after_after, deep, rest}
+
+abbrev joined : Option (List Row) → List Row → JoinedRows
+joined before current = record { before = before; current = current }
+
+abbrev rows_by : From → List Row → Frame → Eval (List Row)
+rows_by g outer f = from_rows g no_self outer f
+
+-- the rows of what stands before the last comma, and then of what stands after it
+abbrev so_far : Option From → From → List Row → Frame → Eval JoinedRows
+so_far None c outer f w = after (rows_by c outer f w) (λ x. give (joined None x))
+so_far (Some b) c outer f w = after (rows_by b outer f w)
+    (λ l v. after (rows_by c outer f v) (λ x. give (joined (Some l) x)))
+
+-- ---- one item more, by what it makes of the rows on its two sides
+
+abbrev Part : Type 0
+Part = List Row → List Row → Eval (List Row)
+
+abbrev further : From → Part → List Row → Frame → (JoinedRows → Eval (List Row)) → JoinedRows →
+    Eval (List Row)
+further g part outer f next j u = after (rows_by g outer f u)
+    (λ r v. after (after (part j.current r v) (λ x. give (with_current j x))) next)
+
+-- the join of what stands left and right of it
+abbrev IsJoin : From → From → From → Part → List Row → Frame → Type 0
+IsJoin whole c g part outer f = (v : World) → rows_by whole outer f v ≡ after (rows_by c outer f v)
+    (λ x u. after (rows_by g outer f u) (λ r. part x r))
+
+joins_within : (before : Option (List Row)) (c g : From) (part : Part) (outer : List Row)
+    (f : Frame) (next : JoinedRows → Eval (List Row)) (v : World) →
+    after (rows_by c outer f v) (λ x u. further g part outer f next (joined before x) u) ≡ after
+    (rows_by c outer f v) (λ x u. after (rows_by g outer f u)
+    (λ r z. after (part x r z) (λ y. next (joined before y))))
+joins_within before c g part outer f next v =
+    λ i. after (rows_by c outer f v) (λ x u. after (rows_by g outer f u)
+    (λ r z. after_after (part x r z) (λ y. give (joined before y)) next i))
+
+joins_after : (before : Option (List Row)) (whole c g : From) (part : Part) (outer : List Row)
+    (f : Frame) → IsJoin whole c g part outer f →
+    (next : JoinedRows → Eval (List Row)) (v : World) →
+    after (rows_by c outer f v) (λ x u. further g part outer f next (joined before x) u) ≡ after
+    (rows_by whole outer f v) (λ y. next (joined before y))
+joins_after before whole c g part outer f is next v =
+    joins_within before c g part outer f next v
+    ∙ sym (ap (λ e. after e (λ y. next (joined before y))) (is v) ∙
+    deep (rows_by c outer f v) (λ x. rows_by g outer f) (λ x r. part x r)
+    (λ y. next (joined before y)))
+
+joins_all : (b whole c g : From) (part : Part) (outer : List Row) (f : Frame) →
+    IsJoin whole c g part outer f → (next : JoinedRows → Eval (List Row)) (w : World) →
+    after (rows_by b outer f w) (λ l v. after (rows_by c outer f v)
+    (λ x u. further g part outer f next (joined (Some l) x) u)) ≡ after (rows_by b outer f w)
+    (λ l v. after (rows_by whole outer f v) (λ y. next (joined (Some l) y)))
+joins_all b whole c g part outer f is next w =
+    λ i. after (rows_by b outer f w) (λ l v. joins_after (Some l) whole c g part outer f is next v
+    i)
+
+joins : (b : Option From) (whole c g : From) (part : Part) (outer : List Row) (f : Frame) →
+    IsJoin whole c g part outer f → (next : JoinedRows → Eval (List Row)) (w : World) →
+    after (so_far b c outer f w) (further g part outer f next) ≡ after (so_far b whole outer f w)
+    next
+joins None whole c g part outer f is next w =
+    after_after (rows_by c outer f w) (λ x. give (joined None x)) (further g part outer f next) ∙
+    joins_after None whole c g part outer f is next w
+    ∙ sym (after_after (rows_by whole outer f w) (λ y. give (joined None y)) next)
+joins (Some b) whole c g part outer f is next w =
+    deep (rows_by b outer f w) (λ l. rows_by c outer f) (λ l x. give (joined (Some l) x))
+    (further g part outer f next) ∙ joins_all b whole c g part outer f is next w
+    ∙ sym (deep (rows_by b outer f w) (λ l. rows_by whole outer f) (λ l y. give (joined (Some l) y))
+    next)
+
+-- a comma: all that stands before it is one side
+abbrev past_comma : From → List Row → Frame → (JoinedRows → Eval (List Row)) → JoinedRows →
+    Eval (List Row)
+past_comma g outer f next j u = after (rows_by g outer f u)
+    (λ r. next (joined (Some (beside_rows j.before j.current)) r))
+
+commas : (b : Option From) (c g : From) (outer : List Row) (f : Frame)
+    (next : JoinedRows → Eval (List Row)) (w : World) →
+    after (so_far b c outer f w) (past_comma g outer f next) ≡ after
+    (so_far (Some (beside b c)) g outer f w) next
+commas None c g outer f next w =
+    after_after (rows_by c outer f w) (λ x. give (joined None x)) (past_comma g outer f next) ∙
+    sym (deep (rows_by c outer f w) (λ x. rows_by g outer f) (λ x r. give (joined (Some x) r))
+    next)
+commas (Some b) c g outer f next w =
+    deep (rows_by b outer f w) (λ l. rows_by c outer f) (λ l x. give (joined (Some l) x))
+    (past_comma g outer f next)
+    ∙ sym (deep (rows_by (Cross b c) outer f w) (λ x. rows_by g outer f)
+    (λ x r. give (joined (Some x) r)) next
+    ∙ deep (rows_by b outer f w) (λ l. rows_by c outer f) (λ l r. give (pairs l r))
+    (λ x u. after (rows_by g outer f u) (λ r. next (joined (Some x) r))))
+
+-- JOIN goes left row by left row
+inner_is : (c g : From) (on : Exprs) (outer : List Row) (f : Frame) (v : World) →
+    rows_by (Inner c g on) outer f v ≡ after (rows_by c outer f v)
+    (λ x u. after (rows_by g outer f u) (λ r. matched on None outer f x r))
+inner_is c g on outer f v = λ i. after (rows_by c outer f v)
+    (λ x u. after (rows_by g outer f u) (λ r z. row_by_row on outer f x r z i))
+
+-- ---- all items
+
+grows : (j : Joined) (i : Joining) (outer : List Row) (f : Frame)
+    (next : JoinedRows → Eval (List Row)) (w : World) →
+    after (so_far j.before j.current outer f w)
+    (λ x u. after (rows_by (itself i) outer f u)
+    (λ r v. after (joined_to x i outer f r v) next)) ≡ after
+    (so_far (grown j i).before (grown j i).current outer f w) next
+grows j (after_comma g) outer f next w = commas j.before j.current g outer f next w
+grows j (crossing g) outer f next w = joins j.before (Cross j.current g) j.current g
+    (λ l r. give (pairs l r)) outer f (λ v. refl) next w
+grows j (matching g on) outer f next w = joins j.before (Inner j.current g on) j.current g
+    (λ l r. matched on None outer f l r) outer f (λ v. inner_is j.current g on outer f v) next w
+grows j (matching_or_nulls g on) outer f next w =
+    joins j.before (LeftOuter j.current g on) j.current g
+    (λ l r v. matched on (Some (from_width g (table_width v.tables))) outer f l r v) outer f
+    (λ v. refl) next w
+
+closes : (b : Option From) (c : From) (outer : List Row) (f : Frame) (w : World) →
+    rows_by (beside b c) outer f w ≡ after (so_far b c outer f w) (λ x. give (closed_rows (Some x)))
+closes None c outer f w = sym (after_after (rows_by c outer f w) (λ x. give (joined None x))
+    (λ x. give (closed_rows (Some x))) ∙ after_give (rows_by c outer f w))
+closes (Some b) c outer f w = sym (deep (rows_by b outer f w) (λ l. rows_by c outer f)
+    (λ l x. give (joined (Some l) x)) (λ x. give (closed_rows (Some x))))
+
+from_there : (is : List Joining) (j : Joined) (outer : List Row) (f : Frame) (w : World) →
+    rows_by (closed (all_grown j is)) outer f w ≡ after (so_far j.before j.current outer f w)
+    (λ x. all_joined is outer f (Some x))
+from_there [] j outer f w = closes j.before j.current outer f w
+from_there (i ∷ is) j outer f w = from_there is (grown j i) outer f w ∙
+    sym (grows j i outer f (λ x. all_joined is outer f (Some x)) w)
+
+-- from the first item on
+pub from_left : (is : List Joining) (outer : List Row) (f : Frame) (w : World) →
+    from_rows (from_of is) no_self outer f w ≡ all_joined is outer f None w
+from_left [] outer f w = refl
+from_left (i ∷ is) outer f w = from_there is (begun i) outer f w ∙
+    after_after (rows_by (itself i) outer f w) (λ x. give (joined None x))
+    (λ x. all_joined is outer f (Some x))
+
+-- ---- LEFT JOIN, whose right side is one item
+
+module _ (k : Catalog) (item : BoundFromItem) (source : BoundSource) (on xs : List BoundExpr)
+    (nulls : Option ℕ) (o : Option JoinedRows) (j : JoinedRows) (left right rows : List Row)
+    (outer : List Row) (f : Frame) (old : Content)
+    (there : o ≡ Some j) (is : item ≡ Left source on) (on_is : xs ≡ on)
+    (left_same : left ≡ j.current) (right_is : right ≡ rows)
+    (nulls_are : nulls ≡ Some (from_width (source_of k source) (table_width old.memory.tables)))
+  where
+    left_is : one_joined o (item_of k item) outer f rows (world_of old) ≡ after
+        (matched (exprs_of k xs) nulls outer f left right (world_of old))
+        (λ x. give (with_current j x))
+    left_is =
+        let w = world_of old in
+        ap (λ (p : Option JoinedRows). one_joined p (item_of k item) outer f rows w) there
+        ∙ ap (λ (i : Joining). joined_to j i outer f rows w)
+        (ap (item_of k) is ∙ item_of-Left k source on)
+        ∙ ap (λ n. after (matched (exprs_of k on) n outer f j.current rows w)
+        (λ x. give (with_current j x))) (sym nulls_are)
+        ∙ ap (λ (es : List BoundExpr). after (matched (exprs_of k es) nulls outer f j.current rows w)
+        (λ x. give (with_current j x))) (sym on_is)
+        ∙ ap (λ (ls : List Row). after (matched (exprs_of k xs) nulls outer f ls rows w)
+        (λ x. give (with_current j x))) (sym left_same)
+        ∙ ap (λ (rs : List Row). after (matched (exprs_of k xs) nulls outer f left rs w)
+        (λ x. give (with_current j x))) (sym right_is)
+
+    pub left_stops : (new : Content) (s : Stop) (r : Result JoinedRows Stop) →
+        Ended {A = List Row} old new (Err s) (matched (exprs_of k xs) nulls outer f left right
+        (world_of old)) → r ≡ Err s →
+        Ended old new r (one_joined o (item_of k item) outer f rows (world_of old))
+    left_stops new s r d answer =
+        let whole = one_joined o (item_of k item) outer f rows (world_of old) in
+        stops old old new s (matched (exprs_of k xs) nulls outer f left right (world_of old))
+        (λ x. give (with_current j x)) whole whole r left_is (going old whole whole refl) d answer
+
+    pub left_joins : (new : Content) (current : List Row) (more : JoinedRows) →
+        Ended old new (Ok current) (matched (exprs_of k xs) nulls outer f left right (world_of old)) →
+        more ≡ with_current j current →
+        Ended old new (Ok more) (one_joined o (item_of k item) outer f rows (world_of old))
+    left_joins new current more d made =
+        let whole = one_joined o (item_of k item) outer f rows (world_of old) in
+        gives old new more (Ok more) (give (with_current j current) (world_of new)) whole
+        (goes_on old old new current (matched (exprs_of k xs) nulls outer f left right (world_of old))
+        (λ x. give (with_current j x)) whole whole left_is (going old whole whole refl) d)
+        (ap (λ (x : JoinedRows). give x (world_of new)) (sym made)) refl
+
+-- ---- the loop over items
+
+-- what is left begins with an item
+abbrev onward : Joining → List Joining → List Row → Frame → Option JoinedRows → List Row →
+    Eval (List Row)
+onward i is outer f j rows u = after (one_joined j i outer f rows u)
+    (λ more. all_joined is outer f (Some more))
+
+module _ (k : Catalog) (xs : List BoundFromItem) (i : ℕ) (x : BoundFromItem) (s : BoundSource)
+    (outer : List Row) (f : Frame) (j : Option JoinedRows) where
+  abbrev left : Eval (List Row)
+  left = all_joined (map (item_of k) (drop i xs)) outer f j
+
+  abbrev later : List Joining
+  later = map (item_of k) (drop (i + 1) xs)
+
+  items_at : (w : World) → i < length xs → x ≡ get_or xs i x →
+      source_of k s ≡ itself (item_of k x) → left w ≡ after (rows_by (source_of k s) outer f w)
+      (onward (item_of k x) later outer f j)
+  items_at w h is of =
+      ap (λ (ys : List BoundFromItem). all_joined (map (item_of k) ys) outer f j w)
+      (rest xs i x h is)
+      ∙ ap (λ (g : From). after (rows_by g outer f w) (onward (item_of k x) later outer f j))
+      (sym of)
+
+  -- its rows can't be made
+  pub item_stops : (old now new : Content) (s' : Stop) (whole : Ends (List Row))
+      (r : Result (List Row) Stop) → i < length xs → x ≡ get_or xs i x →
+      source_of k s ≡ itself (item_of k x) →
+      Going old now (left (world_of now)) whole →
+      Ended {A = List Row} now new (Err s')
+      (from_rows (source_of k s) no_self outer f (world_of now)) → r ≡ Err s' →
+      Ended old new r whole
+  item_stops old now new s' whole r h is of g d answer =
+      stops old now new s' (rows_by (source_of k s) outer f (world_of now))
+      (onward (item_of k x) later outer f j) (left (world_of now)) whole r
+      (items_at (world_of now) h is of) g d answer
+
+  -- its rows are made
+  item_made : (old now new : Content) (rows : List Row) (whole : Ends (List Row)) → i < length xs →
+      x ≡ get_or xs i x → source_of k s ≡ itself (item_of k x) →
+      Going old now (left (world_of now)) whole →
+      Ended now new (Ok rows) (from_rows (source_of k s) no_self outer f (world_of now)) →
+      Going old new (onward (item_of k x) later outer f j rows (world_of new)) whole
+  item_made old now new rows whole h is of g d =
+      goes_on old now new rows (rows_by (source_of k s) outer f (world_of now))
+      (onward (item_of k x) later outer f j) (left (world_of now)) whole
+      (items_at (world_of now) h is of) g d
+
+  -- it can't be joined to those before it
+  pub join_stops : (old now made new : Content) (rows : List Row) (s' : Stop)
+      (whole : Ends (List Row)) (r : Result (List Row) Stop) → i < length xs → x ≡ get_or xs i x →
+      source_of k s ≡ itself (item_of k x) → Going old now (left (world_of now)) whole →
+      Ended now made (Ok rows) (from_rows (source_of k s) no_self outer f (world_of now)) →
+      Ended {A = JoinedRows} made new (Err s')
+      (one_joined j (item_of k x) outer f rows (world_of made)) → r ≡ Err s' →
+      Ended old new r whole
+  join_stops old now made new rows s' whole r h is of g d e answer =
+      stops old made new s' (one_joined j (item_of k x) outer f rows (world_of made))
+      (λ more. all_joined later outer f (Some more))
+      (onward (item_of k x) later outer f j rows (world_of made)) whole r refl
+      (item_made old now made rows whole h is of g d) e answer
+
+  -- it is joined to them, and the next follows
+  pub item_joined : (old now made new : Content) (rows : List Row) (more : JoinedRows)
+      (whole : Ends (List Row)) → i < length xs → x ≡ get_or xs i x →
+      source_of k s ≡ itself (item_of k x) →
+      Going old now (left (world_of now)) whole →
+      Ended now made (Ok rows) (from_rows (source_of k s) no_self outer f (world_of now)) →
+      Ended made new (Ok more) (one_joined j (item_of k x) outer f rows (world_of made)) →
+      Going old new (all_joined later outer f (Some more) (world_of new)) whole
+  item_joined old now made new rows more whole h is of g d e =
+      goes_on old made new more (one_joined j (item_of k x) outer f rows (world_of made))
+      (λ more. all_joined later outer f (Some more))
+      (onward (item_of k x) later outer f j rows (world_of made)) whole refl
+      (item_made old now made rows whole h is of g d) e
+
+-- ---- the rest of a SELECT
+
+module _ (k : Catalog) (q : BoundSelect) (xs : List BoundFromItem) (list conjuncts : List BoundExpr)
+    (outer : List Row) (f : Frame) (from_is : xs ≡ (out-BoundSelect q).from)
+    (list_is : list ≡ (out-BoundSelect q).items)
+    (conjuncts_are : conjuncts ≡ (out-BoundSelect q).conjuncts) where
+  abbrev whole : Eval (List Row)
+  whole = answer (select_of k q) no_self outer f
+
+  abbrev first : Eval (List Row)
+  first = from_rows (from_of (map (item_of k) xs)) no_self outer f
+
+  abbrev next : Option BoundGrouping → List Row → Eval (List Row)
+  next g = one_by_one_or_grouped (option_map (grouping_of k) g) (exprs_of k conjuncts)
+      (exprs_of k list) outer f
+
+  whole_is : (g : Option BoundGrouping) (w : World) → g ≡ (out-BoundSelect q).grouping →
+      whole w ≡ after (first w) (next g)
+  whole_is g w is =
+      ap (λ (t : Query). answer t no_self outer f w)
+      (select_of-parts k q ∙ sym (λ i. selected (option_map (grouping_of k) (is i))
+      (exprs_of k (list_is i)) (from_of (map (item_of k) (from_is i)))
+      (exprs_of k (conjuncts_are i))))
+      ∙ selected_is (option_map (grouping_of k) g) (exprs_of k list) (from_of (map (item_of k) xs))
+      (exprs_of k conjuncts) outer f w
+
+  -- FROM is complete, and its rows go on
+  select_ends : (g : Option BoundGrouping) (old now new : Content) (rows all : List Row)
+      (r : Result (List Row) Stop) → g ≡ (out-BoundSelect q).grouping → all ≡ rows →
+      Ended old now (Ok rows) (first (world_of old)) →
+      Ended now new r (next g all (world_of now)) → Ended old new r (whole (world_of old))
+  select_ends g old now new rows all r is rows_are d e =
+      ends_as old now new (next g rows (world_of now)) (whole (world_of old))
+      (next g all (world_of now)) r
+      (goes_on old old now rows (first (world_of old)) (next g) (whole (world_of old))
+      (whole (world_of old)) (whole_is g (world_of old) is)
+      (going old (whole (world_of old)) (whole (world_of old)) refl) d)
+      (ap (λ (ys : List Row). next g ys (world_of now)) (sym rows_are)) e
+
+  pub rows_end : (old now new : Content) (rows all : List Row) (r : Result (List Row) Stop) →
+      None ≡ (out-BoundSelect q).grouping → all ≡ rows →
+      Ended old now (Ok rows) (first (world_of old)) →
+      Ended now new r (records_by (exprs_of k list) (exprs_of k conjuncts) outer f all
+      (world_of now)) → Ended old new r (whole (world_of old))
+  rows_end old now new rows all r is rows_are d e =
+      select_ends None old now new rows all r is rows_are d e
+
+  pub grouping_ends : (g : BoundGrouping) (old now new : Content) (rows all : List Row)
+      (r : Result (List Row) Stop) → Some g ≡ (out-BoundSelect q).grouping → all ≡ rows →
+      Ended old now (Ok rows) (first (world_of old)) →
+      Ended now new r (grouped_by (grouping_of k g) (exprs_of k conjuncts) (exprs_of k list) outer f
+      all (world_of now)) → Ended old new r (whole (world_of old))
+  grouping_ends g old now new rows all r is rows_are d e =
+      select_ends (Some g) old now new rows all r is rows_are d e
+
+  -- FROM can't be made
+  pub from_stops : (old new : Content) (s : Stop) (r : Result (List Row) Stop) →
+      Ended {A = List Row} old new (Err s) (first (world_of old)) → r ≡ Err s →
+      Ended old new r (whole (world_of old))
+  from_stops old new s r d answer =
+      stops old old new s (first (world_of old)) (next (out-BoundSelect q).grouping)
+      (whole (world_of old)) (whole (world_of old)) r
+      (whole_is (out-BoundSelect q).grouping (world_of old) refl)
+      (going old (whole (world_of old)) (whole (world_of old)) refl) d answer

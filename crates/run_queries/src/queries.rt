@@ -1,0 +1,151 @@
+//! Queries.
+
+ghost use Rattle.std.specs.Prelude.{◌≡◌, map};
+ghost use Rattle.rel_algebra.specs.World.{no_self};
+ghost use Rattle.rel_algebra.specs.Meaning.{answer, ask, from_rows as from_by};
+ghost use Rattle.catalog_store.specs.Catalog.{Catalog as Known};
+ghost use Rattle.catalog_store.specs.View.{query_of, select_of, item_of, source_of, from_of};
+ghost use Rattle.catalog_store.specs.View.{itself};
+ghost use Rattle.run_expressions.specs.Content.{world_of};
+ghost use Rattle.run_expressions.specs.Ending.{Ended};
+ghost use Rattle.run_choices.specs.Sight.{seen};
+
+use crate::from::{closed, join, table_rows};
+use crate::groups::grouped;
+use crate::lists::eval_rows;
+use crate::records::records_of;
+use bound_trees::{BoundFromItem, BoundQuery, BoundSelect, BoundSource};
+use catalog_store::Catalog;
+use row_sort::sorted;
+use row_types::Row;
+use run_expressions::{Frame, RowsInSight, Stop, World, leave};
+use sqlite_items::Items;
+
+/// The rows of a query that is a statement (ISO/IEC 9075-2, 7.17). Where it raises, the tables are
+/// as before it.
+pub fn run_query(
+    query: &BoundQuery,
+    world: &mut World,
+    catalog: &Catalog,
+) -> Result<Items<Row>, Stop>
+    ensures { Ended world.old world.new result
+        (ask (query_of catalog.now query.now) (world_of world.old)) }
+{
+    let mark = world.mark();
+    let frame = Frame::empty(world.allocator());
+    match answer_query(query, &RowsInSight::NoRow, &frame, world, catalog) {
+        Ok(rows) => Ok(rows),
+        Err(stop) => Err(leave(stop, mark, world)),
+    }
+}
+
+/// The rows of a query, by the rows of the queries around it: of a SELECT in the order of the rows
+/// of its FROM, or of the first rows of its groups, of VALUES as they stand. An order is made of
+/// the whole list.
+#[cycle(run)]
+pub fn answer_query(
+    query: &BoundQuery,
+    outer: &RowsInSight,
+    frame: &Frame,
+    world: &mut World,
+    catalog: &Catalog,
+) -> Result<Items<Row>, Stop>
+    ensures { Ended world.old world.new result
+        (answer (query_of catalog.now query.now) no_self (seen outer.now) frame.now
+        (world_of world.old)) }
+{
+    match query {
+        BoundQuery::Select(query) => select(query, outer, frame, world, catalog),
+        BoundQuery::Values(rows) => eval_rows(rows.as_slice(), outer, frame, world, catalog),
+        BoundQuery::Ordered(query, keys) => {
+            let rows = answer_query(query.get(), outer, frame, world, catalog)?;
+            Ok(sorted(world.allocator(), rows, keys.as_slice())?)
+        }
+    }
+}
+
+// The rows of a SELECT: records of the rows of FROM one by one, or of their groups. FROM is
+// complete before its first row goes on.
+#[cycle(run)]
+fn select(
+    query: &BoundSelect,
+    outer: &RowsInSight,
+    frame: &Frame,
+    world: &mut World,
+    catalog: &Catalog,
+) -> Result<Items<Row>, Stop>
+    ensures { Ended world.old world.new result
+        (answer (select_of catalog.now query.now) no_self (seen outer.now) frame.now
+        (world_of world.old)) }
+{
+    let rows = from_rows(query.from.as_slice(), outer, frame, world, catalog)?;
+    let list = query.items.as_slice();
+    let tests = query.conjuncts.as_slice();
+    match &query.grouping {
+        Some(grouping) => {
+            grouped(
+                grouping,
+                tests,
+                list,
+                rows.as_slice(),
+                outer,
+                frame,
+                world,
+                catalog,
+            )
+        }
+        None => records_of(list, tests, rows.as_slice(), outer, frame, world, catalog),
+    }
+}
+
+// The rows of FROM: of each item in turn they are made, and then joined to those before it.
+#[cycle(run)]
+fn from_rows(
+    items: &[BoundFromItem],
+    outer: &RowsInSight,
+    frame: &Frame,
+    world: &mut World,
+    catalog: &Catalog,
+) -> Result<Items<Row>, Stop>
+    ensures { Ended world.old world.new result
+        (from_by (from_of (map (item_of catalog.now) items.now)) no_self (seen outer.now) frame.now
+        (world_of world.old)) }
+{
+    let mut joined = None;
+    for item in items {
+        let rows = source_rows(item_source(item), outer, frame, world, catalog)?;
+        joined = Some(join(joined, item, rows, outer, frame, world, catalog)?);
+    }
+    Ok(closed(world.allocator(), joined)?)
+}
+
+// The rows of a table, or of a derived table.
+#[cycle(run)]
+fn source_rows(
+    source: &BoundSource,
+    outer: &RowsInSight,
+    frame: &Frame,
+    world: &mut World,
+    catalog: &Catalog,
+) -> Result<Items<Row>, Stop>
+    ensures { Ended world.old world.new result
+        (from_by (source_of catalog.now source.now) no_self (seen outer.now) frame.now
+        (world_of world.old)) }
+{
+    match source {
+        BoundSource::Table(name) => Ok(table_rows(name, world)?),
+        BoundSource::Derived(query) => answer_query(query.get(), outer, frame, world, catalog),
+    }
+}
+
+// Where the rows of an item of FROM come from.
+fn item_source(item: &BoundFromItem) -> &BoundSource
+    ensures { (known : Known) → source_of known result.now ≡ itself (item_of known item.now) }
+{
+    match item {
+        BoundFromItem::Comma(source) => source,
+        BoundFromItem::Cross(source) => source,
+        BoundFromItem::Inner(source, _) => source,
+        BoundFromItem::Left(source, _) => source,
+    }
+}

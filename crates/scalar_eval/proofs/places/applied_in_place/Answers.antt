@@ -1,5 +1,0 @@
-use Rattle.scalar_eval.proofs.Outcomes.{cell_as_defined}
-use Rattle.scalar_eval.proofs.places.applied_in_place.Goals as goal
-
-pub returns : goal.returns
-returns c outer = rw (c.in_ok-right.ensures outer) (cell_as_defined _ _ c.apply.ensures)

@@ -1,8 +1,0 @@
-use Rattle.std.proofs.Common.{arith}
-use Rattle.row_types.specs.OuterRows.{outer_rows}
-use Rattle.scalar_eval.proofs.Finding.{outer_column}
-use Rattle.scalar_eval.proofs.places.column.Goals as goal
-
-pub returns-else-level-eq0 : goal.returns-else-level-eq0
-returns-else-level-eq0 c =
-    rw (outer_column c.args.row.now (outer_rows c.args.outer.now) c.args.level c.args.place (omega (arith, c.if-level-eq0.false))) c.outer_cell.ensures

@@ -1,5 +1,0 @@
-use Rattle.std.proofs.Common.{◌≡◌, take, ◌++◌}
-use Rattle.statement_names.proofs.place.entered.Given as goal
-
-abbrev pub invariant-loop-outer : goal.invariant-loop-outer
-invariant-loop-outer l = l.labels.items ≡ l.initial.labels.items ++ take l.outer-index l.outside

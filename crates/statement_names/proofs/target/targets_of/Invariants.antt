@@ -1,6 +1,0 @@
-use Rattle.std.proofs.Common.{◌≡◌, take}
-use Rattle.statement_names.specs.Values.{targets_of}
-use Rattle.statement_names.proofs.target.targets_of.Given as goal
-
-abbrev pub invariant-loop-one : goal.invariant-loop-one
-invariant-loop-one l = l.targets ≡ targets_of (take l.one-index l.stored)

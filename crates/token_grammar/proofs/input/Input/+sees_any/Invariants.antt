@@ -1,5 +1,0 @@
-use Rattle.std.proofs.Common.{length}
-use Rattle.token_grammar.proofs.input.Input.+sees_any.Given as goal
-
-abbrev pub decreases-sees_any : goal.decreases-sees_any
-decreases-sees_any l = length l.kinds.now

@@ -1,3 +1,0 @@
--- The laws on which upper crates stand.
-pub use Rattle.typed_parts.proofs.Steps.{unrolled, next}
-pub use Rattle.typed_parts.proofs.Turns.{each-value, each-notes, each-map, then-notes}

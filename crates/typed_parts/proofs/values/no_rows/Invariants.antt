@@ -1,6 +1,0 @@
-use Rattle.std.proofs.Common.{◌≡◌}
-use Rattle.typed_parts.specs.ValueRows.{no_rows}
-use Rattle.typed_parts.proofs.values.no_rows.Given as goal
-
-abbrev pub invariant-loop-place : goal.invariant-loop-place
-invariant-loop-place l = l.kinds ≡ (no_rows l._place).kinds

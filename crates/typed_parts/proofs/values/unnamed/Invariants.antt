@@ -1,6 +1,0 @@
-use Rattle.std.proofs.Common.{◌≡◌, map, take}
-use Rattle.typed_parts.specs.ValueRows.{unnamed}
-use Rattle.typed_parts.proofs.values.unnamed.Given as goal
-
-abbrev pub invariant-loop-kind : goal.invariant-loop-kind
-invariant-loop-kind l = l.columns ≡ map unnamed (take l.kind-index l.kinds)
