@@ -10,8 +10,8 @@ use crate::characteristics::{is_null_on_null, need_of, note_access};
 use crate::routine::{calls, greatest_height, parameter_types, parameters_of, used_in};
 use bind_faults::Fault;
 use bind_kinds::{note_type, type_of};
-use bind_queries::all_run;
 use bind_rules::{height_above, note_height, note_taken, writes};
+use bind_selects::all_run;
 use bind_sight::{EnclosingRoutine, Scope};
 use bound_trees::{BoundExpr, BoundStmt};
 use catalog_store::{

@@ -28,9 +28,9 @@ use Rattle.bind_parts.specs.declared.values.TypedRows.{TypedRows}
 use Rattle.bind_sight.specs.Sight.{Seen}
 use Rattle.bind_parts.specs.declared.aggregates.Parts.{Parts}
 use Rattle.bind_parts.specs.Typed.{Beside, in_front, with_last, operated_typed, asked_of}
-use Rattle.bind_parts.specs.Typed.{chained_typed, asked_by_chain, call_head, call_typed}
+use Rattle.bind_parts.specs.Typed.{call_head, call_typed}
 use Rattle.bind_parts.specs.Typed.{argument_faults, function_in_sight}
-use Rattle.bind_parts.specs.Subqueries.{single, member, width_faults, member_faults}
+use Rattle.bind_parts.specs.Subqueries.{single, width_faults}
 use Rattle.bind_parts.specs.Turns.{each_noted}
 use Rattle.bind_parts.specs.ValueRows.{row_faults}
 use Rattle.bind_parts.proofs.Laws.{unrolled, next}
@@ -40,7 +40,7 @@ use Rattle.bind_queries.specs.Judges.{called, judge_call, over_query, member_in}
 use Rattle.bind_queries.specs.Queries.{expr_step, from_step, query_step, item_step, ref_step}
 use Rattle.bind_queries.specs.Queries.{row_step, link_step, select_step, values_step, expression}
 use Rattle.bind_queries.specs.Queries.{judged_link, judge_query}
-use Rattle.bind_queries.specs.Names.{inner, judge_after, all_after, links_after}
+use Rattle.bind_queries.specs.Names.{inner, judge_after, all_after, chain_after, member_after}
 use Rattle.bind_queries.specs.ValueRows.{row_values, one_row}
 
 -- ---- lists of parts
@@ -120,12 +120,8 @@ mapped : {A : Type 0} (f : JudgedLink → A) (g : Link → A) → ((l : Link) �
 mapped f g same [] = refl
 mapped f g same (l ∷ ls) = ap₂ (λ x xs. x ∷ xs) (same l) (mapped f g same ls)
 
-abbrev chain_after : Expr → List Link → Seen → Parts → Noted (Beside Typed)
-chain_after first ls s p = chained (map (λ l. l.operator) ls) (map (λ l. l.anchor) ls)
-    (judge_after first s p) (λ more. links_after ls s more)
-
-pub chain_whole : (e first : Expr) (ls : List Link) (s : Seen) (p : Parts) →
-    e ≡ tree.Chain first ls → inner e s p ≡ chain_after first ls s p
+chain_whole : (e first : Expr) (ls : List Link) (s : Seen) (p : Parts) → e ≡ tree.Chain first ls →
+    inner e s p ≡ (judge_after first s p >>= λ t. chain_after ls t.value s t.parts)
 chain_whole e first ls s p is =
     ap (λ x. inner x s p) (is ∙ sym (rolls-Chain first ls))
     ∙ ap (λ (j : Expression). j.judge s p) (fold-roll-Expr Expression FromJudge QueryJudge
@@ -146,28 +142,33 @@ chain_whole e first ls s p is =
     chain : List ChainOperator → List Anchor → List Expression → Noted (Beside Typed)
     chain os ats js = chained os ats (judge_after first s p) (λ more. all_of s more js)
 
-abbrev operators : List Link → List ChainOperator
-operators ls = map (λ l. l.operator) ls
-
-abbrev places : List Link → List Anchor
-places ls = map (λ l. l.anchor) ls
-
 module _ (s : Seen) (p q : Parts) (e first : Expr) (ls : List Link) (is : e ≡ tree.Chain first ls)
+    (t : Typed) (v : t ≡ (judge_after first s p).value.value)
     (f : q ≡ (judge_after first s p).value.parts) where
-  pub chain_value : (t result : Typed) (others : Operands) →
-      t ≡ (judge_after first s p).value.value → others ≡ (links_after ls s q).value.value
-      → result ≡ chained_typed (operators ls) (places ls) t others →
-      result ≡ (inner e s p).value.value
-  chain_value t result others v w r =
-      r ∙ ap₂ (chained_typed (operators ls) (places ls)) v
-      (w ∙ ap (λ z. (links_after ls s z).value.value) f)
-      ∙ ap (λ (x : Noted (Beside Typed)). x.value.value) (sym (chain_whole e first ls s p is))
+  abbrev left : Noted (Beside Typed)
+  left = judge_after first s p
 
-  pub chain_parts : (parts : Parts) → parts ≡ (links_after ls s q).value.parts →
+  after_first : chain_after ls t s q ≡ chain_after ls left.value.value s left.value.parts
+  after_first = ap₂ (λ a b. chain_after ls a s b) v f
+
+  pub chain_value : (result : Typed) → result ≡ (chain_after ls t s q).value.value →
+      result ≡ (inner e s p).value.value
+  chain_value result r =
+      r ∙ ap (λ (x : Noted (Beside Typed)). x.value.value) after_first ∙
+      ap (λ (x : Noted (Beside Typed)). x.value.value) (sym (chain_whole e first ls s p is))
+
+  pub chain_parts : (parts : Parts) → parts ≡ (chain_after ls t s q).value.parts →
       parts ≡ (inner e s p).value.parts
-  chain_parts parts w =
-      w ∙ ap (λ z. (links_after ls s z).value.parts) f ∙
+  chain_parts parts r =
+      r ∙ ap (λ (x : Noted (Beside Typed)). x.value.parts) after_first ∙
       ap (λ (x : Noted (Beside Typed)). x.value.parts) (sym (chain_whole e first ls s p is))
+
+  pub chain_notes : (n n1 n2 : Notes) → n1 ≡ taken n left → n2 ≡ taken n1 (chain_after ls t s q) →
+      n2 ≡ taken n (inner e s p)
+  chain_notes n n1 n2 a b =
+      next n n1 n2 left (chain_after ls left.value.value s left.value.parts) a
+      (b ∙ ap (λ x. taken n1 x) after_first)
+      ∙ ap (λ x. taken n x) (sym (chain_whole e first ls s p is))
 
 -- ---- what is asked of operands, noted after them
 
@@ -201,24 +202,6 @@ call_notes s parts i es f n n1 n2 l args is p q v r =
     ∙ ap (λ k. taken n (called s.writing i k (function_in_sight i.name s) (all_after es s parts)))
     (sym (length-map es expression))
 
-pub chain_notes : (s : Seen) (parts q : Parts) (e first : Expr) (ls : List Link) (n n1 n2 : Notes)
-    (l : Option Fault) (t : Typed) (others : Operands) → e ≡ tree.Chain first ls
-    → q ≡ (judge_after first s parts).value.parts → n1 ≡ taken n (judge_after first s parts) →
-    t ≡ (judge_after first s parts).value.value
-    → n2 ≡ taken n1 (links_after ls s q) → others ≡ (links_after ls s q).value.value
-    → l ≡ noted n2.least (asked_by_chain (operators ls) (places ls) t others) →
-    record { least = l; uses = n2.uses } ≡ taken n (inner e s parts)
-chain_notes s parts q e first ls n n1 n2 l t others is f p v w o r =
-    let first_one = judge_after first s parts in
-    let value = chained_typed (operators ls) (places ls) first_one.value.value in
-    let asked = asked_by_chain (operators ls) (places ls) first_one.value.value in
-    next n n1 _ first_one (made value asked (links_after ls s first_one.value.parts)) p
-    (made_notes n1 n2 l (links_after ls s first_one.value.parts) others value asked
-    (w ∙ ap (λ z. taken n1 (links_after ls s z)) f)
-    (o ∙ ap (λ z. (links_after ls s z).value.value) f)
-    (r ∙ ap (λ z. noted n2.least (asked_by_chain (operators ls) (places ls) z others)) v))
-    ∙ ap (λ x. taken n x) (sym (chain_whole e first ls s parts is))
-
 -- ---- a query after a left side
 
 query_notes : (n m : Notes) (l : Option Fault) (q : Noted TypedQuery) (v : TypedQuery)
@@ -243,28 +226,26 @@ module _ (s : Seen) (p : Parts) (e left : Expr) (at : Anchor) (negated : Bool) (
       query_step item_step ref_step row_step link_step select_step values_step
       (Expr-F.InQuery at negated left q))
 
-  pub member_value : (t result : Typed) (v : TypedQuery) → t ≡ (judge_after left s p).value.value →
-      v ≡ (judge_query [] q s).value → result ≡ member at negated t v
-      → result ≡ (inner e s p).value.value
-  member_value t result v a b r = r ∙ ap₂ (member at negated) a b ∙
-      ap (λ (x : Noted (Beside Typed)). x.value.value) (sym member_whole)
+  module _ (t : Typed) (b : t ≡ (judge_after left s p).value.value) where
+    abbrev first : Noted (Beside Typed)
+    first = judge_after left s p
+
+    pub member_value : (result : Typed) → result ≡ (member_after at negated t q s).value →
+        result ≡ (inner e s p).value.value
+    member_value result r =
+        r ∙ ap (λ z. (member_after at negated z q s).value) b ∙
+        ap (λ (x : Noted (Beside Typed)). x.value.value) (sym member_whole)
+
+    pub member_notes : (n n1 n2 : Notes) → n1 ≡ taken n first →
+        n2 ≡ taken n1 (member_after at negated t q s) → n2 ≡ taken n (inner e s p)
+    member_notes n n1 n2 a r =
+        next n n1 n2 first (member_in at negated (judge_query [] q s) first.value) a
+        (r ∙ ap (λ z. taken n1 (member_after at negated z q s)) b)
+        ∙ ap (λ x. taken n x) (sym member_whole)
 
   pub member_parts : (parts : Parts) → parts ≡ (judge_after left s p).value.parts →
       parts ≡ (inner e s p).value.parts
   member_parts parts w = w ∙ ap (λ (x : Noted (Beside Typed)). x.value.parts) (sym member_whole)
-
-  pub member_notes : (n n1 n2 : Notes) (l : Option Fault) (t : Typed) (v : TypedQuery) →
-      n1 ≡ taken n (judge_after left s p) → t ≡ (judge_after left s p).value.value
-      → n2 ≡ taken n1 (judge_query [] q s) → v ≡ (judge_query [] q s).value →
-      l ≡ noted n2.least (member_faults t v) →
-      record { least = l; uses = n2.uses } ≡ taken n (inner e s p)
-  member_notes n n1 n2 l t v a b c d r =
-      let first = judge_after left s p in
-      next n n1 _ first (member_in at negated (judge_query [] q s) first.value) a
-      (query_notes n1 n2 l (judge_query [] q s) v (member at negated first.value.value)
-      (member_faults first.value.value) first.value.parts c d
-      (r ∙ ap (λ z. noted n2.least (member_faults z v)) b))
-      ∙ ap (λ x. taken n x) (sym member_whole)
 
 -- ---- words, scalar subqueries and rows
 

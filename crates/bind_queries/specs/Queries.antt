@@ -24,7 +24,6 @@ use Rattle.bind_parts.specs.declared.from.Opened.{Opened}
 use Rattle.bind_parts.specs.declared.typed.TypedQuery.{TypedQuery}
 use Rattle.bind_parts.specs.From.{table_judge, derived_source, nothing_open, put_comma, put_cross}
 use Rattle.bind_parts.specs.Turns.{each_noted}
-use Rattle.bind_queries.specs.declared.select_parts.SelectParts.{SelectParts}
 use Rattle.bind_queries.specs.Judges.{Expression, JudgedItem, JudgedLink, JudgedRow, QueryJudge}
 use Rattle.bind_queries.specs.Judges.{FromJudge, RefJudge, unnamed, any_aggregate, any_in_links}
 use Rattle.bind_queries.specs.Judges.{judge_literal, judge_name, judge_call, judge_operation}
@@ -187,11 +186,6 @@ abbrev pub judge_parts : Anchor → List JudgedItem → List FromItem → Option
     List ColumnName → Option Expression → QueryJudge
 judge_parts at items from filter group_by having targets outer =
     opened_of from outer >>= selected at items filter group_by having targets outer
-
--- how a SELECT is judged that stands by its parts, as a SELECT INTO does
-abbrev pub parts_judge : SelectParts → QueryJudge
-parts_judge p = judge_parts p.anchor (map select_item p.items.now) p.from.now (maybe p.filter.now)
-    p.group_by.now (maybe p.having.now)
 
 -- the token at which a SELECT stands
 abbrev pub anchor_of : Select → Anchor

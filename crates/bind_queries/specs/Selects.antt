@@ -26,6 +26,11 @@ abbrev pub rowed : Option Expression → List ColumnName → Seen → Noted RowC
 rowed filter group_by seen = both (λ conjuncts g. record { conjuncts = conjuncts; grouping = g })
     (judged_filter filter seen) (grouping_of group_by seen)
 
+-- the conjuncts of WHERE, and after them the grouping columns
+abbrev pub with_grouping : List BoundExpr → List ColumnName → Seen → Noted RowClauses
+with_grouping conjuncts group_by seen =
+    as_value (λ g. record { conjuncts = conjuncts; grouping = g }) (grouping_of group_by seen)
+
 -- the same output columns, with other parts of the group
 abbrev pub with_parts : Outputs → Parts → Outputs
 with_parts o parts = record { columns = o.columns; heads = o.heads; trees = o.trees; parts = parts }

@@ -9,6 +9,7 @@ ghost use Rattle.bind_queries.specs.Judges as judges;
 ghost use Rattle.bind_queries.specs.From as spec;
 ghost use Rattle.bind_queries.specs.Lists as lists;
 ghost use Rattle.bind_queries.specs.Names.{inner, judge, judge_after, all_after, links_after};
+ghost use Rattle.bind_queries.specs.Names.{chain_after, member_after};
 ghost use Rattle.bind_queries.specs.Queries.{expression, select_item, value_row, from_judge};
 ghost use Rattle.bind_queries.specs.Queries.{ref_judge, select_judge, values_judge, judge_query};
 ghost use Rattle.bind_queries.specs.Queries.{opened_of, maybe, anchor_of, items_of, filter_of};
@@ -18,21 +19,22 @@ ghost use Rattle.bind_queries.specs.Selects as selects;
 ghost use Rattle.bind_queries.specs.ValueRows as rows;
 
 use crate::grouped::is_grouped_select;
-use crate::parts::{bind_name, title, width_of};
+use crate::parts::{add_titled, bind_name, bind_row_clauses, put_row, width_of};
 use bind_faults::{FaultKind, Notes, note_if};
 use bind_kinds::{Kind, in_turn, test};
-use bind_names::{function_in_sight, may_stand, note_call, ungrouped, without_aggregates};
+use bind_names::{
+    Join, at_levels, function_in_sight, may_stand, note_call, ungrouped, without_aggregates,
+};
 use bind_parts::{
     Grouping, ListClauses, Opened, Operands, Outputs, Parts, RowClauses, Typed, TypedQuery,
-    TypedRows, TypedSource, add_from, add_item, add_operand, add_output, add_row, aggregated,
-    ask_row, bind_row_grouping, bind_table, called, chained, derived_source, exists, list_level,
-    literal, member, no_operands, no_outputs, no_parts, no_rows, note_repeated, nothing_open,
-    on_level, operated, parts_of_keys, put_comma, put_cross, row_level, select_typed, settle,
-    single, star, values_typed,
+    TypedRows, TypedSource, add_item, add_joined, add_operand, aggregated, bind_table, called,
+    chained, derived_source, exists, list_level, literal, member, no_operands, no_outputs,
+    no_parts, no_rows, note_repeated, nothing_open, on_level, operated, parts_of_keys, put_comma,
+    put_cross, row_level, select_typed, settle, single, star, values_typed,
 };
 use bind_sight::{Level, Sight, entered};
 use bind_words::conjuncts;
-use bound_trees::{BoundExpr, BoundFromItem};
+use bound_trees::BoundExpr;
 use sql_values::{FoldKind, NoMemory};
 use sqlite_items::Items;
 use std::alloc::Global;
@@ -94,22 +96,18 @@ fn bind_inside(
         Expr::Call(ident, args) => bind_call(alloc, ident, args.as_slice(), sight, parts, notes),
         Expr::Operation(at, operation, operands) => {
             let operands = bind_all(alloc, operands.as_slice(), sight, parts, notes)?;
-            let word = operated(alloc, *at, operation, operands, &mut notes.least)?;
-            Ok(word)
+            operated(alloc, *at, operation, operands, &mut notes.least)
         }
         Expr::Aggregate(at, kind, args) => {
             bind_aggregate(alloc, *at, *kind, args.as_slice(), sight, parts, notes)
         }
         Expr::Chain(first, links) => {
             let first = bind_after(alloc, first.get(), sight, parts, notes)?;
-            let others = bind_links(alloc, links.as_slice(), sight, parts, notes)?;
-            let chain = chained(alloc, first, links.as_slice(), others, &mut notes.least)?;
-            Ok(chain)
+            bind_chain(alloc, first, links.as_slice(), sight, parts, notes)
         }
         Expr::Subquery(query) => {
             let query = bind_typed(alloc, query.get(), &[], sight, notes)?;
-            let subquery = single(alloc, query, &mut notes.least)?;
-            Ok(subquery)
+            single(alloc, query, &mut notes.least)
         }
         Expr::Exists(at, query) => {
             let query = bind_typed(alloc, query.get(), &[], sight, notes)?;
@@ -117,9 +115,7 @@ fn bind_inside(
         }
         Expr::InQuery(at, negated, left, query) => {
             let left = bind_after(alloc, left.get(), sight, parts, notes)?;
-            let query = bind_typed(alloc, query.get(), &[], sight, notes)?;
-            let test = member(alloc, *at, *negated, left, query, &mut notes.least)?;
-            Ok(test)
+            bind_member(alloc, *at, *negated, left, query.get(), sight, notes)
         }
     }
 }
@@ -168,6 +164,47 @@ fn bind_links(
     Ok(so)
 }
 
+// A chain, after its first operand.
+#[cycle(bind)]
+fn bind_chain(
+    alloc: Global,
+    first: Typed,
+    links: &[Link],
+    sight: &Sight<'_>,
+    parts: &mut Parts,
+    notes: &mut Notes,
+) -> Result<Typed, NoMemory>
+    ensures value { IfOk result
+        (λ t. t ≡ (chain_after links.now first (seen_by sight.now) parts.old).value.value) }
+    ensures parts { OnOk result
+        (parts.new ≡ (chain_after links.now first (seen_by sight.now) parts.old).value.parts) }
+    ensures notes { OnOk result (notes.new ≡ taken notes.old
+        (chain_after links.now first (seen_by sight.now) parts.old)) }
+{
+    let others = bind_links(alloc, links, sight, parts, notes)?;
+    chained(alloc, first, links, others, &mut notes.least)
+}
+
+// IN of a query or NOT IN, after its left side.
+#[cycle(bind)]
+fn bind_member(
+    alloc: Global,
+    at: Anchor,
+    negated: bool,
+    left: Typed,
+    query: &Query,
+    sight: &Sight<'_>,
+    notes: &mut Notes,
+) -> Result<Typed, NoMemory>
+    ensures value { IfOk result
+        (λ t. t ≡ (member_after at negated left query.now (seen_by sight.now)).value) }
+    ensures notes { OnOk result (notes.new ≡ taken notes.old
+        (member_after at negated left query.now (seen_by sight.now))) }
+{
+    let query = bind_typed(alloc, query, &[], sight, notes)?;
+    member(alloc, at, negated, left, query, &mut notes.least)
+}
+
 // A call, its arguments in any case.
 #[cycle(bind)]
 fn bind_call(
@@ -188,8 +225,7 @@ fn bind_call(
     let function = function_in_sight(&ident.name, sight);
     note_call(sight.writing, ident, args.len(), function, notes)?;
     let args = bind_all(alloc, args, sight, parts, notes)?;
-    let call = called(ident, function, args, &mut notes.least)?;
-    Ok(call)
+    called(ident, function, args, &mut notes.least)
 }
 
 // An aggregate, its argument in any case: each column is in sight there, and no aggregate may
@@ -214,13 +250,7 @@ fn bind_aggregate(
     let barred = !may_stand(sight.levels);
     note_if(barred, FaultKind::NotPermitted, at, &mut notes.least);
     let levels = ungrouped(alloc, sight.levels)?;
-    let inner = Sight {
-        levels: levels.as_slice(),
-        scopes: sight.scopes,
-        catalog: sight.catalog,
-        own: sight.own,
-        writing: sight.writing,
-    };
+    let inner = at_levels(levels.as_slice(), &*sight);
     let args = bind_all(alloc, args, &inner, &mut no_parts(alloc), notes)?;
     aggregated(at, kind, args, parts, &mut notes.least)
 }
@@ -240,9 +270,8 @@ fn bind_item(
     match item {
         SelectItem::All(at) => star(*at, sight.levels, so, notes),
         SelectItem::Value(expr, alias) => {
-            let name = title(alias, expr)?;
             let typed = bind_after(alloc, expr, sight, &mut so.parts, notes)?;
-            add_output(so, name, typed)
+            add_titled(so, alias, expr, typed)
         }
     }
 }
@@ -267,9 +296,9 @@ fn bind_items(
     Ok(so)
 }
 
-// The list, each of the kind of what it is stored into.
+/// The list, each of the kind of what it is stored into.
 #[cycle(bind)]
-pub(crate) fn bind_list(
+pub fn bind_list(
     alloc: Global,
     items: &[SelectItem],
     targets: &[Kind],
@@ -326,19 +355,13 @@ fn bind_condition(
         (inside (level_by level.entry) (seen_by outside.now)))) }
 {
     let levels = entered(alloc, level, outside.levels)?;
-    let sight = Sight {
-        levels: levels.as_slice(),
-        scopes: outside.scopes,
-        catalog: outside.catalog,
-        own: outside.own,
-        writing: outside.writing,
-    };
+    let sight = at_levels(levels.as_slice(), &*outside);
     bind_test(alloc, condition, &sight, &mut no_parts(alloc), notes)
 }
 
-// The conjuncts of WHERE.
+/// The conjuncts of WHERE.
 #[cycle(bind)]
-pub(crate) fn bind_filter(
+pub fn bind_filter(
     alloc: Global,
     filter: &Option<Expr>,
     level: Level<'_>,
@@ -357,9 +380,9 @@ pub(crate) fn bind_filter(
     }
 }
 
-// The conjuncts of HAVING, after the parts of the list.
+/// The conjuncts of HAVING, after the parts of the list.
 #[cycle(bind)]
-pub(crate) fn bind_having(
+pub fn bind_having(
     alloc: Global,
     having: &Option<Expr>,
     sight: &Sight<'_>,
@@ -396,11 +419,7 @@ fn bind_row(
 {
     let conjuncts = bind_filter(alloc, &select.filter, row_level(opened), outside, notes)?;
     let columns = select.group_by.as_slice();
-    let grouping = bind_row_grouping(alloc, columns, opened, outside, notes)?;
-    Ok(RowClauses {
-        conjuncts,
-        grouping,
-    })
+    bind_row_clauses(alloc, conjuncts, columns, opened, outside, notes)
 }
 
 // The list, and then HAVING.
@@ -442,13 +461,7 @@ fn bind_level(
         (inside (level_by level.entry) (seen_by outside.now)))) }
 {
     let levels = entered(alloc, level, outside.levels)?;
-    let sight = Sight {
-        levels: levels.as_slice(),
-        scopes: outside.scopes,
-        catalog: outside.catalog,
-        own: outside.own,
-        writing: outside.writing,
-    };
+    let sight = at_levels(levels.as_slice(), &*outside);
     bind_listed(alloc, select, targets, parts, &sight, notes)
 }
 
@@ -503,8 +516,7 @@ fn bind_opened(
         opened)) }
 {
     let row = bind_row(alloc, select, &opened, outside, notes)?;
-    let query = bind_grouped(alloc, select, opened, row, targets, outside, notes)?;
-    Ok(query)
+    bind_grouped(alloc, select, opened, row, targets, outside, notes)
 }
 
 #[cycle(bind)]
@@ -520,8 +532,7 @@ fn bind_select(
         (select_judge select.now targets.now (seen_by outside.now))) }
 {
     let opened = bind_from(alloc, select.from.as_slice(), outside, notes)?;
-    let query = bind_opened(alloc, select, opened, targets, outside, notes)?;
-    Ok(query)
+    bind_opened(alloc, select, opened, targets, outside, notes)
 }
 
 // The values of a row, in which no aggregate stands.
@@ -560,16 +571,7 @@ fn bind_value_row(
         (rows.one_row at targets.now (seen_by sight.now) so.old (value_row row.now))) }
 {
     let values = bind_row_values(alloc, row, sight, notes)?;
-    let kinds = so.kinds.as_slice();
-    ask_row(
-        at,
-        targets,
-        kinds,
-        values.heads.as_slice(),
-        &mut notes.least,
-    );
-    add_row(so, values)?;
-    Ok(())
+    put_row(at, targets, values, so, &mut notes.least)
 }
 
 // The rows, each with the kinds of those above.
@@ -609,13 +611,7 @@ fn bind_values(
         (values_judge values.now targets.now (seen_by outside.now))) }
 {
     let levels = without_aggregates(alloc, outside.levels)?;
-    let sight = Sight {
-        levels: levels.as_slice(),
-        scopes: outside.scopes,
-        catalog: outside.catalog,
-        own: outside.own,
-        writing: outside.writing,
-    };
+    let sight = at_levels(levels.as_slice(), &*outside);
     let rows = bind_rows(alloc, values, targets, &sight, notes)?;
     values_typed(alloc, values.anchor, rows)
 }
@@ -640,8 +636,9 @@ pub fn bind_typed(
     }
 }
 
+/// What the items of FROM bring in sight.
 #[cycle(bind)]
-pub(crate) fn bind_from(
+pub fn bind_from(
     alloc: Global,
     items: &[FromItem],
     outside: &Sight<'_>,
@@ -673,67 +670,43 @@ fn bind_from_item(
     match item {
         FromItem::Comma(table) => {
             let sourced = bind_table_ref(alloc, table, outside, notes)?;
-            put_comma(so, sourced, notes)?;
-            Ok(())
+            put_comma(so, sourced, notes)
         }
         FromItem::Cross(table) => {
             let sourced = bind_table_ref(alloc, table, outside, notes)?;
-            put_cross(so, sourced, notes)?;
-            Ok(())
+            put_cross(so, sourced, notes)
         }
         FromItem::Inner(table, condition) => {
             let sourced = bind_table_ref(alloc, table, outside, notes)?;
-            put_inner(alloc, condition, sourced, outside, so, notes)?;
-            Ok(())
+            put_joined(alloc, Join::Inner, condition, sourced, outside, so, notes)
         }
         FromItem::Left(table, condition) => {
             let sourced = bind_table_ref(alloc, table, outside, notes)?;
-            put_left(alloc, condition, sourced, outside, so, notes)?;
-            Ok(())
+            put_joined(alloc, Join::Left, condition, sourced, outside, so, notes)
         }
     }
 }
 
-// An item after JOIN, with its ON.
+// An item after JOIN or LEFT JOIN, with its ON.
 #[cycle(bind)]
-fn put_inner(
+fn put_joined(
     alloc: Global,
+    join: Join,
     condition: &Expr,
     sourced: TypedSource,
     outside: &Sight<'_>,
     so: &mut Opened,
     notes: &mut Notes,
 ) -> Result<(), NoMemory>
-    ensures value { OnOk result (so.new ≡ (spec.put_inner (inner condition.now) (seen_by outside.now) so.old
-        sourced).value) }
+    ensures value { OnOk result (so.new ≡ (spec.put_joined join (inner condition.now)
+        (seen_by outside.now) so.old sourced).value) }
     ensures notes { OnOk result (notes.new ≡ taken notes.old
-        (spec.put_inner (inner condition.now) (seen_by outside.now) so.old sourced)) }
+        (spec.put_joined join (inner condition.now) (seen_by outside.now) so.old sourced)) }
 {
     note_repeated(&sourced, so.items.as_slice(), &mut notes.least);
     let source = add_item(so, sourced)?;
     let conjuncts = bind_condition(alloc, condition, on_level(so), outside, notes)?;
-    add_from(so, BoundFromItem::Inner(source, conjuncts))
-}
-
-// An item after LEFT JOIN, with its ON.
-#[cycle(bind)]
-fn put_left(
-    alloc: Global,
-    condition: &Expr,
-    sourced: TypedSource,
-    outside: &Sight<'_>,
-    so: &mut Opened,
-    notes: &mut Notes,
-) -> Result<(), NoMemory>
-    ensures value { OnOk result (so.new ≡ (spec.put_left (inner condition.now) (seen_by outside.now) so.old
-        sourced).value) }
-    ensures notes { OnOk result (notes.new ≡ taken notes.old
-        (spec.put_left (inner condition.now) (seen_by outside.now) so.old sourced)) }
-{
-    note_repeated(&sourced, so.items.as_slice(), &mut notes.least);
-    let source = add_item(so, sourced)?;
-    let conjuncts = bind_condition(alloc, condition, on_level(so), outside, notes)?;
-    add_from(so, BoundFromItem::Left(source, conjuncts))
+    add_joined(so, join, source, conjuncts)
 }
 
 #[cycle(bind)]
@@ -751,8 +724,7 @@ fn bind_table_ref(
         TableRef::Table(ident, alias) => bind_table(alloc, ident, alias, outside, notes),
         TableRef::Derived(query, ident, names) => {
             let query = bind_typed(alloc, query.get(), &[], outside, notes)?;
-            let sourced = derived_source(alloc, ident, names.as_slice(), query, notes)?;
-            Ok(sourced)
+            derived_source(alloc, ident, names.as_slice(), query, notes)
         }
     }
 }

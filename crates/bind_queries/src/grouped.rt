@@ -74,11 +74,7 @@ fn any_item_has(items: &[SelectItem]) -> bool
 
 /// Whether a query of these parts is grouped: by GROUP BY, by HAVING, or by an aggregate in its
 /// list.
-pub(crate) fn is_grouped_by(
-    items: &[SelectItem],
-    group_by: &[ColumnName],
-    having: &Option<Expr>,
-) -> bool
+pub fn is_grouped_by(items: &[SelectItem], group_by: &[ColumnName], having: &Option<Expr>) -> bool
     ensures { result ≡ grouped (map select_item items.now) group_by.now (maybe having.now) }
 {
     is_grouped(any_item_has(items), group_by, having.is_some())

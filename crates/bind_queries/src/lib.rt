@@ -9,15 +9,11 @@ ghost use Rattle.bind_queries.specs.Examples.{SubqueriesInExpressions, BindsByLe
 
 mod bind;
 mod grouped;
-mod order;
 mod parts;
-mod runs;
-mod select_parts;
 
-pub use bind::{bind_expr, bind_typed};
-pub use order::{bind_ordered, bind_ordered_typed, bind_query};
-pub use runs::all_run;
-pub use select_parts::{SelectParts, bind_select_parts};
+pub use bind::{bind_expr, bind_filter, bind_from, bind_having, bind_list, bind_typed};
+pub use grouped::is_grouped_by;
+pub use parts::bind_row_clauses;
 
 /// Names over several items of FROM, in the list, in WHERE and in ON: each fault at its place.
 pub fn names_in_joins()

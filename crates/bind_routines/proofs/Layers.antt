@@ -56,13 +56,13 @@ abbrev StructureForm : Type 0
 StructureForm = Structure-F Declaration Stmt Structure Block Branch Case CreateFunction
     CreateProcedure Handler If Labelled
 
-abbrev judge_function : CreateFunction → Judge
+abbrev pub judge_function : CreateFunction → Judge
 judge_function = fold-CreateFunction JudgedDeclaration Judge JudgedStructure Judge JudgedBranch
     Judge Judge Judge JudgedDeclaration Judge Judge
     declaration_step stmt_step structure_step block_step branch_step case_step function_step
     procedure_step handler_step if_step labelled_step
 
-abbrev judge_procedure : CreateProcedure → Judge
+abbrev pub judge_procedure : CreateProcedure → Judge
 judge_procedure = fold-CreateProcedure JudgedDeclaration Judge JudgedStructure Judge JudgedBranch
     Judge Judge Judge JudgedDeclaration Judge Judge
     declaration_step stmt_step structure_step block_step branch_step case_step function_step

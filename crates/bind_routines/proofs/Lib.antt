@@ -1,2 +1,4 @@
+pub mod Forms
 pub mod Layers
+pub mod Made
 pub mod Rows

@@ -2,6 +2,7 @@
 -- in it, in one fold whose values are judges: functions of where a statement stands. ISO/IEC
 -- 9075-4, 14 (control statements), and 17 (diagnostics management).
 use Rattle.std.specs.Prelude.{Bool, true, false, List, [], ◌∷◌, ◌++◌, map, Option, Some, None}
+use Rattle.std.specs.Prelude.{Result, Ok, Err}
 use Rattle.syntax_trees.specs.declared.anchor.Ident.{Ident}
 use Rattle.syntax_trees.specs.declared.expr.Expr.{Expr}
 use Rattle.syntax_trees.specs.declared.query.OrderedQuery.{OrderedQuery}
@@ -31,6 +32,7 @@ use Rattle.bound_trees.specs.declared.statement.BoundStmt.TheVariants as bound
 use Rattle.bind_faults.specs.Faults.{Noted, ◌>>=◌, ◌>>◌, as_value, both}
 use Rattle.bind_kinds.specs.declared.kind.Kind.{Kind}
 use Rattle.bind_kinds.specs.declared.kind.Kind.TheVariants.{Boolean}
+use Rattle.bind_sight.specs.declared.output.Output.{Output}
 use Rattle.bind_parts.specs.declared.typed.TypedQuery.{TypedQuery}
 use Rattle.bind_parts.specs.Turns.{each_noted}
 use Rattle.bind_queries.specs.Order.{judge_ordered_typed}
@@ -340,6 +342,18 @@ judge_labelled = fold-Labelled JudgedDeclaration Judge JudgedStructure Judge Jud
     procedure_step handler_step if_step labelled_step
 
 -- ---- parts, for contracts
+
+-- what is made of a value, where there was memory for it
+abbrev pub made : {A B E : Type 0} → (A → B) → Result A E → Result B E
+made f (Ok a) = Ok (f a)
+made f (Err wanting) = Err wanting
+
+-- the statements of FOR over the columns of its query
+abbrev pub looped_body : Ident → OrderedQuery → List Judge → Surroundings → List Output →
+    Noted (List BoundStmt)
+looped_body i q body p cs =
+    columns_faults q.query 0 [] cs
+    >> judged_list body (with_scope (scope_of_columns i cs p.scopes) p)
 
 -- the branches of a CASE, with its operand judged
 abbrev pub arms_of : Option BoundExpr → Kind → Case → Judge

@@ -4,6 +4,7 @@
 
 ghost use Rattle.bind_routines.specs.Examples.{StatementsInStatements};
 
+mod alone;
 mod statements;
 
 pub use statements::bind_statement;

@@ -2,6 +2,7 @@
 //! fault, since the least one counts.
 
 ghost use Rattle.std.specs.Prelude.{◌≡◌, map, IfOk, OnOk};
+ghost use Rattle.bound_trees.specs.declared.statement.BoundStmt.TheVariants as bound;
 ghost use Rattle.bind_faults.specs.Faults.{noted, taken};
 ghost use Rattle.bind_sight.specs.Scopes.{scope_by};
 ghost use Rattle.bind_simple.specs.Places.{place_by, within, with_scope, in_action};
@@ -11,6 +12,7 @@ ghost use Rattle.bind_routines.specs.Statements.{judge_stmt, judge_labelled, jud
 ghost use Rattle.bind_routines.specs.Statements.{judge_block, judge_branch, judge_case, judge_if};
 ghost use Rattle.bind_routines.specs.Statements.{judge_handler, judge_declaration};
 
+use crate::alone::bind_alone;
 use bind_declarations::{
     Declared, bind_values, declare_condition, declare_cursor, declare_variables, handler_of,
     next_slot, nothing_declared, scope_of_columns,
@@ -18,15 +20,10 @@ use bind_declarations::{
 use bind_faults::Notes;
 use bind_kinds::Kind;
 use bind_parts::TypedQuery;
-use bind_queries::bind_ordered_typed;
 use bind_rules::{Label, barred, entered, kind_of_tests, loops, note_end, note_label, note_undo};
-use bind_sight::{Scope, ScopeRef, entered_scope};
-use bind_simple::{
-    Surroundings, anchor_of_query, bind_call, bind_changed, bind_close, bind_fetched, bind_get,
-    bind_insertion, bind_iterate, bind_leave, bind_of_kind, bind_open, bind_removed, bind_resignal,
-    bind_return, bind_select_into, bind_set, bind_signal, bind_value, misplaced, seen_from,
-    with_labels, with_scopes,
-};
+use bind_selects::bind_ordered_typed;
+use bind_sight::{Output, Scope, ScopeRef, entered_scope};
+use bind_simple::{Surroundings, bind_of_kind, bind_value, seen_from, with_labels, with_scopes};
 use bound_trees::{BoundBlock, BoundBranch, BoundExpr, BoundHandler, BoundStmt};
 use sql_values::NoMemory;
 use sqlite_items::Items;
@@ -82,45 +79,10 @@ pub fn bind_statement(
         (judge_stmt stmt.now (place_by place.now))) }
 {
     match stmt {
-        Stmt::CreateTable(create) => Ok(misplaced(alloc, create.anchor, notes)),
-        Stmt::CreateFunction(create) => Ok(misplaced(alloc, create.anchor, notes)),
-        Stmt::CreateProcedure(create) => Ok(misplaced(alloc, create.anchor, notes)),
-        Stmt::Drop(removal) => Ok(misplaced(alloc, removal.anchor, notes)),
-        Stmt::Query(query) => Ok(misplaced(alloc, anchor_of_query(&query.query), notes)),
-        Stmt::Explain(at, _) => Ok(misplaced(alloc, *at, notes)),
-        Stmt::Insert(insert) => bind_insertion(alloc, insert, place, notes),
-        Stmt::Update(update) => bind_changed(alloc, update, place, notes),
-        Stmt::Delete(delete) => bind_removed(alloc, delete, place, notes),
-        Stmt::Call(call) => {
-            let bound = bind_call(alloc, false, call, place, notes)?;
-            Ok(BoundStmt::Call(bound))
-        }
         Stmt::Labelled(labelled) => bind_labelled(alloc, labelled, place, notes),
         Stmt::If(branching) => bind_if(alloc, branching, place, notes),
         Stmt::Case(branching) => bind_case(alloc, branching, place, notes),
-        Stmt::Set(_, assignment) => {
-            let bound = bind_set(alloc, assignment, place, notes)?;
-            Ok(BoundStmt::Set(bound.target, bound.value))
-        }
-        Stmt::SelectInto(select) => {
-            let bound = bind_select_into(alloc, select, place, notes)?;
-            Ok(BoundStmt::SelectInto(bound.query, bound.targets))
-        }
-        Stmt::Open(_, ident) => bind_open(ident, place, notes),
-        Stmt::Close(_, ident) => bind_close(ident, place, notes),
-        Stmt::Fetch(fetch) => bind_fetched(alloc, fetch, place, notes),
-        Stmt::Signal(signal) => {
-            let bound = bind_signal(alloc, signal, place, notes)?;
-            Ok(BoundStmt::Signal(bound))
-        }
-        Stmt::Resignal(signal) => {
-            let bound = bind_resignal(alloc, signal, place, notes)?;
-            Ok(BoundStmt::Resignal(bound))
-        }
-        Stmt::GetDiagnostics(get) => bind_get(alloc, get, place, notes),
-        Stmt::Leave(_, ident) => Ok(bind_leave(ident, place, notes)),
-        Stmt::Iterate(at, ident) => Ok(bind_iterate(*at, ident, place, notes)),
-        Stmt::Return(at, value) => bind_return(alloc, *at, value, place, notes),
+        _ => bind_alone(alloc, stmt, place, notes),
     }
 }
 
@@ -209,7 +171,8 @@ fn bind_branches(
     place: &Surroundings<'_>,
     notes: &mut Notes,
 ) -> Result<Items<BoundBranch>, NoMemory>
-    ensures value { IfOk result (λ bs. bs ≡ (spec.judged_branches kind (map judge_branch branches.now)
+    ensures value { IfOk result
+        (λ bs. bs ≡ (spec.judged_branches kind (map judge_branch branches.now)
         (place_by place.now)).value) }
     ensures notes { OnOk result (notes.new ≡ taken notes.old
         (spec.judged_branches kind (map judge_branch branches.now) (place_by place.now))) }
@@ -345,7 +308,8 @@ fn bind_inside(
     ensures value { IfOk result (λ bs. bs ≡ (spec.judged_list (map judge_stmt stmts.now)
         (with_scope scope.now (place_by outside.now))).value) }
     ensures notes { OnOk result (notes.new ≡ taken notes.old
-        (spec.judged_list (map judge_stmt stmts.now) (with_scope scope.now (place_by outside.now)))) }
+        (spec.judged_list (map judge_stmt stmts.now)
+        (with_scope scope.now (place_by outside.now)))) }
 {
     let scopes = entered_scope(alloc, ScopeRef { scope }, outside.scopes)?;
     let place = with_scopes(&*outside, scopes.as_slice());
@@ -353,28 +317,43 @@ fn bind_inside(
     Ok(bound)
 }
 
-// A FOR over its query.
+// A FOR of its query and its statements, where there was memory for these.
+fn for_of(
+    first: usize,
+    typed: TypedQuery,
+    body: Result<Items<BoundStmt>, NoMemory>,
+) -> Result<BoundStmt, NoMemory>
+    ensures { result ≡ spec.made (λ ss. bound.For typed.tree first ss) body }
+{
+    match body {
+        Ok(body) => Ok(BoundStmt::For(typed.tree, first, body)),
+        Err(wanting) => {
+            drop(typed);
+            Err(wanting)
+        }
+    }
+}
+
+// The statements of a FOR over the columns of its query.
 #[cycle(bind)]
 fn bind_looped(
     alloc: Global,
     body: &[Stmt],
     ident: &Ident,
     query: &OrderedQuery,
-    typed: TypedQuery,
+    columns: &[Output],
     place: &Surroundings<'_>,
     notes: &mut Notes,
-) -> Result<BoundStmt, NoMemory>
-    ensures value { IfOk result (λ b. b ≡ (spec.looped ident.now query.now (map judge_stmt body.now)
-        (place_by place.now) typed).value) }
-    ensures notes { OnOk result (notes.new ≡ taken notes.old
-        (spec.looped ident.now query.now (map judge_stmt body.now) (place_by place.now) typed)) }
+) -> Result<Items<BoundStmt>, NoMemory>
+    ensures value { IfOk result (λ ss. ss ≡ (spec.looped_body ident.now query.now
+        (map judge_stmt body.now) (place_by place.now) columns.now).value) }
+    ensures notes { OnOk result (notes.new ≡ taken notes.old (spec.looped_body ident.now query.now
+        (map judge_stmt body.now) (place_by place.now) columns.now)) }
 {
-    let first = next_slot(place.scopes)?;
-    let columns = typed.columns.as_slice();
     let least = &mut notes.least;
     let scope = scope_of_columns(alloc, ident, &query.query, columns, place.scopes, least)?;
-    let body = bind_inside(alloc, body, &scope, place, notes)?;
-    Ok(BoundStmt::For(typed.tree, first, body))
+    let bound = bind_inside(alloc, body, &scope, place, notes)?;
+    Ok(bound)
 }
 
 #[cycle(bind)]
@@ -386,15 +365,18 @@ fn bind_for(
     place: &Surroundings<'_>,
     notes: &mut Notes,
 ) -> Result<BoundStmt, NoMemory>
-    ensures value { IfOk result (λ b. b ≡ (spec.judged_for ident.now query.now (map judge_stmt body.now)
+    ensures value { IfOk result
+        (λ b. b ≡ (spec.judged_for ident.now query.now (map judge_stmt body.now)
         (place_by place.now)).value) }
     ensures notes { OnOk result (notes.new ≡ taken notes.old
         (spec.judged_for ident.now query.now (map judge_stmt body.now) (place_by place.now))) }
 {
+    let first = next_slot(place.scopes)?;
     let sight = seen_from(place);
     let typed = bind_ordered_typed(alloc, query, &sight, notes)?;
-    let bound = bind_looped(alloc, body, ident, query, typed, place, notes)?;
-    Ok(bound)
+    let columns = typed.columns.as_slice();
+    let body = bind_looped(alloc, body, ident, query, columns, place, notes);
+    for_of(first, typed, body)
 }
 
 // ---- compound statements
@@ -407,7 +389,8 @@ fn bind_action(
     here: &Surroundings<'_>,
     notes: &mut Notes,
 ) -> Result<BoundStmt, NoMemory>
-    ensures value { IfOk result (λ b. b ≡ (judge_stmt action.now (in_action (place_by here.now))).value) }
+    ensures value { IfOk result
+        (λ b. b ≡ (judge_stmt action.now (in_action (place_by here.now))).value) }
     ensures notes { OnOk result (notes.new ≡ taken notes.old
         (judge_stmt action.now (in_action (place_by here.now)))) }
 {
@@ -493,8 +476,8 @@ fn declare(
     so: &mut Declared,
     notes: &mut Notes,
 ) -> Result<(), NoMemory>
-    ensures value { OnOk result (so.new ≡ (judge_declaration declaration.now atomic (place_by outside.now)
-        so.old).value) }
+    ensures value { OnOk result (so.new ≡ (judge_declaration declaration.now atomic
+        (place_by outside.now) so.old).value) }
     ensures notes { OnOk result (notes.new ≡ taken notes.old
         (judge_declaration declaration.now atomic (place_by outside.now) so.old)) }
 {
@@ -560,7 +543,8 @@ fn bind_structure(
     place: &Surroundings<'_>,
     notes: &mut Notes,
 ) -> Result<BoundStmt, NoMemory>
-    ensures value { IfOk result (λ b. b ≡ ((judge_structure structure.now).judge (place_by place.now)).value) }
+    ensures value { IfOk result
+        (λ b. b ≡ ((judge_structure structure.now).judge (place_by place.now)).value) }
     ensures notes { OnOk result (notes.new ≡ taken notes.old
         ((judge_structure structure.now).judge (place_by place.now))) }
 {
@@ -606,7 +590,8 @@ fn bind_labelled(
     place: &Surroundings<'_>,
     notes: &mut Notes,
 ) -> Result<BoundStmt, NoMemory>
-    ensures value { IfOk result (λ b. b ≡ (judge_labelled labelled.now (place_by place.now)).value) }
+    ensures value { IfOk result
+        (λ b. b ≡ (judge_labelled labelled.now (place_by place.now)).value) }
     ensures notes { OnOk result (notes.new ≡ taken notes.old
         (judge_labelled labelled.now (place_by place.now))) }
 {

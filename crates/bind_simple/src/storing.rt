@@ -16,7 +16,7 @@ use bind_faults::{Fault, FaultKind, Notes, note_if};
 use bind_kinds::{Kind, in_turn};
 use bind_names::cursor_named;
 use bind_parts::TypedQuery;
-use bind_queries::{SelectParts, bind_select_parts};
+use bind_selects::{SelectParts, bind_select_parts};
 use bind_sight::{FoundCursor, Sight};
 use bound_trees::{BoundExpr, BoundQuery, BoundTarget};
 use sql_values::NoMemory;

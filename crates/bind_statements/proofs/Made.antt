@@ -41,13 +41,14 @@ use Rattle.bind_changes.specs.Writing.{target_named, kinds_into, into_faults, wr
 use Rattle.bind_changes.specs.Writing.{judged_insert, opened, in_row, judged_values, judged_where}
 use Rattle.bind_changes.specs.Writing.{target_faults, assigned, judged_update, judged_delete}
 use Rattle.bind_simple.specs.Places.{seen_from}
-use Rattle.bind_statements.specs.declared.bound.BoundStatement.{BoundStatement}
-use Rattle.bind_statements.specs.declared.bound.Bound.TheVariants as bound
+use Rattle.bind_direct.specs.declared.bound.BoundStatement.{BoundStatement}
+use Rattle.bind_direct.specs.declared.bound.Bound.TheVariants as bound
 use Rattle.bind_rules.specs.declared.heights.TheConstants.{MOST_HEIGHT}
 use Rattle.bind_statements.specs.Binds.{FaultlessFits, StatementFits}
 use Rattle.bind_definitions.specs.Characteristics.{group_faults, null_call_faults, need_of}
 use Rattle.bind_rules.specs.Definitions.{Definition, ProcedureDefinition}
-use Rattle.bind_statements.specs.Functions.{in_function, judged_returning, function_with}
+use Rattle.bind_direct.specs.Returning.{in_function, judged_returning}
+use Rattle.bind_statements.specs.Functions.{function_with}
 use Rattle.bind_statements.specs.Functions.{body_of_function, judged_function, procedure_faults}
 use Rattle.bind_statements.specs.Functions.{procedure_with, body_of_procedure, judged_procedure}
 use Rattle.bind_definitions.specs.Making.{signature_faults, planned_function, interpreted}

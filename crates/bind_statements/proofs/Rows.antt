@@ -55,8 +55,8 @@ use Rattle.bind_queries.specs.Judges.{Expression, look}
 use Rattle.bind_queries.specs.Lists.{judged_filter, judged_test}
 use Rattle.bind_queries.specs.Written.{Expr, Query, expr_of}
 use Rattle.bind_queries.proofs.Laws.{plain, expr_plain, plain_query, query_plain}
-use Rattle.bind_statements.specs.declared.bound.BoundStatement.{BoundStatement}
-use Rattle.bind_statements.specs.declared.bound.Bound.TheVariants as bound
+use Rattle.bind_direct.specs.declared.bound.BoundStatement.{BoundStatement}
+use Rattle.bind_direct.specs.declared.bound.Bound.TheVariants as bound
 use Rattle.bind_statements.specs.Examples.{unordered, asked, values_of, values, insert_of, insert}
 use Rattle.bind_statements.specs.Examples.{listed_row, listed_of, insert_listed, assignment}
 use Rattle.bind_statements.specs.Examples.{filter_of, update_of, update, delete_of, delete}
@@ -64,13 +64,14 @@ use Rattle.bind_statements.specs.Examples.{select_of, select, new_table, table_o
 use Rattle.bind_statements.specs.Examples.{drop, new_function, function, g_of, function_g, call_of}
 use Rattle.bind_statements.specs.Examples.{begin_end, block, procedure, explained}
 use Rattle.bind_rules.specs.Definitions.{Definition, ProcedureDefinition}
-use Rattle.bind_statements.specs.Functions.{in_function, returning_with, judged_function}
+use Rattle.bind_direct.specs.Direct.{run, not_run, run_over, created, direct_call}
+use Rattle.bind_direct.specs.Returning.{in_function, returning_with}
+use Rattle.bind_statements.specs.Functions.{judged_function}
 use Rattle.bind_definitions.specs.Making.{signature_faults}
 use Rattle.bind_definitions.specs.Routines.{parameters_of}
 use Rattle.bind_simple.specs.Places.{seen_from}
 use Rattle.bind_definitions.specs.Removals.{judged_drop}
 use Rattle.bind_rules.specs.Definitions.{Form, value_returned, if_bare}
-use Rattle.bind_statements.specs.Statements.{run, not_run, run_over, created, call_at_top}
 use Rattle.bind_statements.specs.Statements.{judged_routine, judged_object, judged_definition}
 use Rattle.bind_statements.specs.Statements.{judged_form, judged_statement, anchor_of_form}
 use Rattle.bind_statements.specs.Statements.{anchor_of}
@@ -190,7 +191,7 @@ abbrev LabelledForm : Type 0
 LabelledForm = Labelled-F Declaration Stmt Structure Block Branch Case CreateFunction
     CreateProcedure Handler If Labelled
 
-pub call-row : (token : ℕ) → judged_statement (stmt.Call (call_of token)) catalog ≡ call_at_top
+pub call-row : (token : ℕ) → judged_statement (stmt.Call (call_of token)) catalog ≡ direct_call
     (call_of token) catalog
 call-row token = of_form (stmt.Call (call_of token)) (Stmt-F.Call (call_of token)) catalog
     (outs-Call (call_of token))

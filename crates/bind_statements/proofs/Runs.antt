@@ -45,11 +45,9 @@ use Rattle.bind_queries.specs.Names.{judge, inner}
 use Rattle.bind_queries.specs.Order.{judge_ordered}
 use Rattle.bind_queries.specs.Queries.{judge_query}
 use Rattle.bind_queries.specs.Runs.{is_run, all_run}
-use Rattle.bind_queries.proofs.Sets.{Names, has, front_nil, back_nil}
-use Rattle.bind_queries.proofs.Marks.{Known, known_in, Mark, Stands, AllStand, Covers, mark}
-use Rattle.bind_queries.proofs.Marks.{grown-alone}
-use Rattle.bind_queries.proofs.Bound.{query-mark}
-use Rattle.bind_queries.proofs.Induction.{expr-fits, query-fits}
+use Rattle.bind_queries.proofs.Laws.{Names, has, front_nil, back_nil, Known, known_in, Mark, Stands}
+use Rattle.bind_queries.proofs.Laws.{AllStand, Covers, mark, grown-alone, query-mark, expr-fits}
+use Rattle.bind_queries.proofs.Laws.{query-fits}
 use Rattle.bind_changes.specs.Writing.{target_of, target_named, kind_named, uses_of, kinds_into}
 use Rattle.bind_changes.specs.Writing.{into_faults, wrong_width, judged_insert, opened, in_row}
 use Rattle.bind_changes.specs.Writing.{one_value, judged_values, judged_where, target_faults}
@@ -59,12 +57,13 @@ use Rattle.bind_definitions.specs.Characteristics.{need_of}
 use Rattle.bind_rules.specs.Definitions.{Definition}
 use Rattle.bind_definitions.specs.Making.{own_function, signature_faults, planned_function}
 use Rattle.bind_definitions.specs.Making.{interpreted}
-use Rattle.bind_statements.specs.Functions.{in_function, judged_result, judged_returning}
+use Rattle.bind_direct.specs.Returning.{in_function, judged_result, judged_returning}
 use Rattle.bind_definitions.specs.Routines.{parameters_of, calls as calls_in}
 use Rattle.bind_rules.specs.Heights.{too_high}
 use Rattle.bind_statements.specs.Runs.{lacks_plan, FunctionsPlanned, has_run_form, calls_back}
 use Rattle.bind_statements.specs.Runs.{form_calls_itself, FaultlessRuns}
-use Rattle.bind_statements.specs.Statements.{is_run as is_made_to_run, judged_object, judged_form}
+use Rattle.bind_direct.specs.Direct.{is_run as is_made_to_run}
+use Rattle.bind_statements.specs.Statements.{judged_object, judged_form}
 use Rattle.bind_rules.specs.Definitions.{Form, result_of}
 
 -- ---- what a name stands for

@@ -52,29 +52,25 @@ use Rattle.bind_routines.specs.Statements.{judge_stmt}
 use Rattle.typing_trees.specs.Around.{Slot, stored}
 use Rattle.typing_trees.specs.Queries.{kinds_of_query}
 use Rattle.typing_trees.specs.Statements.{value_of, is_typed}
-use Rattle.typing_queries.proofs.Below.{HasAll}
-use Rattle.typing_queries.proofs.Sees.{Sees, ScopeIn, SlotIs}
-use Rattle.typing_queries.proofs.Laws.{ordered_typed}
-use Rattle.typing_statements.proofs.Calls.{call-typed}
-use Rattle.typing_statements.proofs.Laws.{statement_typed}
-use Rattle.typing_statements.proofs.Layers.{return-layer}
-use Rattle.typing_statements.proofs.Stands.{Stands, CursorsOf}
-use Rattle.typing_statements.proofs.Values.{value-typed}
-use Rattle.typing_statements.proofs.Writing.{insert-typed, update-typed, delete-typed}
-use Rattle.bind_statements.specs.declared.bound.BoundStatement.{BoundStatement}
+use Rattle.typing_queries.proofs.Laws.{HasAll, Sees, ScopeIn, SlotIs, ordered_typed}
+use Rattle.typing_statements.proofs.Laws.{call-typed, statement_typed, return-layer, Stands}
+use Rattle.typing_statements.proofs.Laws.{CursorsOf, value-typed, insert-typed, update-typed}
+use Rattle.typing_statements.proofs.Laws.{delete-typed}
+use Rattle.bind_direct.specs.declared.bound.BoundStatement.{BoundStatement}
 use Rattle.bind_rules.specs.Definitions.{Definition, ProcedureDefinition}
 use Rattle.bind_definitions.specs.Making.{own_function as own_function_of}
 use Rattle.bind_definitions.specs.Making.{own_procedure as own_procedure_of, signature_faults}
 use Rattle.bind_definitions.specs.Making.{returning, planned_function, interpreted}
-use Rattle.bind_statements.specs.Functions.{in_function, in_procedure, judged_result}
-use Rattle.bind_statements.specs.Functions.{returning_with, body_of_function, procedure_faults}
+use Rattle.bind_direct.specs.Direct.{at_script as script_place, direct_call}
+use Rattle.bind_direct.specs.Returning.{in_function, judged_result, returning_with}
+use Rattle.bind_statements.specs.Functions.{in_procedure, body_of_function, procedure_faults}
 use Rattle.bind_statements.specs.Functions.{body_of_procedure, judged_procedure, body_faults}
 use Rattle.bind_definitions.specs.Routines.{parameter_types, parameters_held, parameters_of}
 use Rattle.bind_definitions.specs.Routines.{parameter_names}
 use Rattle.bind_definitions.specs.Characteristics.{group_faults, need_of}
 use Rattle.bind_rules.specs.Definitions.{Form, result_of}
-use Rattle.bind_statements.specs.Statements.{at_script as script_place, judged_form, judged_object}
-use Rattle.bind_statements.specs.Statements.{judged_statement, call_at_top, judged_routine}
+use Rattle.bind_statements.specs.Statements.{judged_form, judged_object, judged_statement}
+use Rattle.bind_statements.specs.Statements.{judged_routine}
 use Rattle.bind_statements.specs.Types.{around, inside, at_script, script_call, object_typed}
 use Rattle.bind_statements.specs.Types.{IsTyped, FaultlessTyped}
 
@@ -266,8 +262,8 @@ right-true : (a b : Bool) → b ≡ true → (a || b) ≡ true
 right-true true b p = refl
 right-true false b p = p
 
-script-call-typed : (s : Call) (catalog : Catalog) → (call_at_top s catalog).faults ≡ [] →
-    IsTyped catalog (call_at_top s catalog).value.bound
+script-call-typed : (s : Call) (catalog : Catalog) → (direct_call s catalog).faults ≡ [] →
+    IsTyped catalog (direct_call s catalog).value.bound
 script-call-typed s catalog p =
     let c = (judged_call true s (script_place catalog)).value in
     left-true (script_call (out-BoundStmt (stmt.Call c)) catalog)

@@ -11,8 +11,8 @@ use Rattle.catalog_store.specs.View.{query_of}
 use Rattle.catalog_store.specs.Widths.{width_in}
 use Rattle.data_change.specs.Met.{Meets}
 pub use Rattle.bind_queries.specs.Binds.{Binds, HasPlan}
-use Rattle.bind_statements.specs.declared.bound.Bound.{Bound}
-use Rattle.bind_statements.specs.declared.bound.Bound.TheVariants as bound
+use Rattle.bind_direct.specs.declared.bound.Bound.{Bound}
+use Rattle.bind_direct.specs.declared.bound.Bound.TheVariants as bound
 use Rattle.bind_statements.specs.Statements.{judged_statement}
 
 -- a query of rows of the table of a name has a plan, and gives each with all of its columns

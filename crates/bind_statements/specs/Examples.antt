@@ -70,9 +70,10 @@ use Rattle.bind_queries.specs.Examples.{qualified, call, word, chain, equal, agg
 use Rattle.bind_queries.specs.Examples.{catalog, item, table as table_ref}
 use Rattle.bind_queries.specs.Written.{Expr, Subquery, Query, Select, Values, Comma, exprs, froms}
 use Rattle.bind_queries.specs.Written.{expr_of, query_of}
-use Rattle.bind_statements.specs.declared.bound.Bound.TheVariants as bound_as
+use Rattle.bind_direct.specs.declared.bound.Bound.TheVariants as bound_as
 use Rattle.bind_rules.specs.Definitions.{Definition}
-use Rattle.bind_statements.specs.Statements.{with_runs, judged_statement, anchor_of}
+use Rattle.bind_direct.specs.Direct.{with_runs}
+use Rattle.bind_statements.specs.Statements.{judged_statement, anchor_of}
 
 -- ---- statements
 

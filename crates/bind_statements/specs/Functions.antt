@@ -2,9 +2,7 @@
 -- 9.20 (SQL-invoked function); ISO/IEC 9075-2, 11.60 (SQL-invoked routine).
 use Rattle.std.specs.Prelude.{List, [], ◌∷◌, ◌++◌, Some, None}
 use Rattle.syntax_trees.specs.declared.anchor.Ident.{Ident}
-use Rattle.syntax_trees.specs.declared.expr.Expr.{Expr}
 use Rattle.statement_trees.specs.declared.definition.Characteristic.{Characteristic}
-use Rattle.bound_trees.specs.declared.expr.BoundExpr.{BoundExpr}
 use Rattle.bound_trees.specs.declared.statement.BoundStmt.{BoundStmt}
 use Rattle.catalog_store.specs.Catalog.{Catalog}
 use Rattle.catalog_store.specs.declared.entry.DataAccess.{DataAccess}
@@ -12,69 +10,19 @@ use Rattle.catalog_store.specs.declared.entry.DataAccess.TheVariants.{ModifiesSq
 use Rattle.catalog_store.specs.declared.entry.Object.{Object as NewObject}
 use Rattle.bind_faults.specs.declared.fault.Fault.{Fault}
 use Rattle.bind_faults.specs.Faults.{Noted, ◌>>◌}
-use Rattle.bind_kinds.specs.Kinds.{kind_of_type}
-use Rattle.bind_kinds.specs.Types.{type_of}
 use Rattle.bind_sight.specs.declared.scope.Scope.{Scope}
-use Rattle.bind_queries.specs.Heights.{greatest_height}
 use Rattle.bind_rules.specs.Names.{taken_name}
 use Rattle.routine_form.specs.declared.sum.TheConstants.{HEAVIEST}
 use Rattle.bind_simple.specs.Places.{Surroundings}
 use Rattle.bind_routines.specs.Statements.{judge_stmt}
-use Rattle.bind_simple.specs.Values.{value_of_kind}
 use Rattle.bind_definitions.specs.Characteristics.{group_faults, null_call_faults, access_by}
 use Rattle.bind_definitions.specs.Routines.{parameters_of, parameter_faults}
-use Rattle.bind_rules.specs.Heights.{too_high}
-use Rattle.bind_definitions.specs.Making.{asked_of_body, interpreted, need_in, own_function}
-use Rattle.bind_definitions.specs.Making.{own_procedure, procedure_head, procedure_of, returning}
-use Rattle.bind_definitions.specs.Making.{signature_faults}
+use Rattle.bind_definitions.specs.Making.{asked_of_body, interpreted, need_in, own_procedure}
+use Rattle.bind_definitions.specs.Making.{procedure_head, procedure_of, signature_faults}
 use Rattle.bind_rules.specs.Definitions.{Definition, ProcedureDefinition}
+use Rattle.bind_direct.specs.Returning.{in_function}
 
--- ---- what a body sees
-
--- with its parameters in sight
-abbrev pub in_function : Definition → Scope → Catalog → Surroundings
-in_function s parameters catalog = record {
-  scopes = parameters ∷ [];
-  labels = [];
-  returns = Some (type_of s.returns);
-  own = Some (own_function s);
-  procedure = None;
-  catalog = catalog;
-}
-
--- the parameters of a procedure in sight of its body
-abbrev pub in_procedure : ProcedureDefinition → Scope → Catalog → Surroundings
-in_procedure s parameters catalog = record {
-  scopes = parameters ∷ [];
-  labels = [];
-  returns = None;
-  own = Some (own_procedure s);
-  procedure = Some (procedure_head s.parameters ModifiesSqlData 0 HEAVIEST []);
-  catalog = catalog;
-}
-
--- ---- a function of the form that is run: its body is RETURN, and it has no characteristics
-
--- a function of its judged result, with what is asked of its height
-abbrev pub returning_with : Definition → Catalog → Noted BoundExpr → Noted NewObject
-returning_with s catalog body = record {
-  value = returning s catalog body.uses body.value;
-  faults = body.faults ++ too_high s.name (greatest_height catalog body.uses);
-  uses = body.uses;
-}
-
--- the result is of the kind of the type that is returned
-abbrev pub judged_result : Definition → Expr → Scope → Catalog → Noted BoundExpr
-judged_result s result parameters catalog = value_of_kind (kind_of_type (type_of s.returns)) result
-    (in_function s parameters catalog)
-
--- a function that gives back the value of an expression
-abbrev pub judged_returning : Definition → Expr → Catalog → Noted NewObject
-judged_returning s result catalog =
-    signature_faults s catalog >> returning_with s catalog
-    (judged_result s result (parameters_of s.parameters) catalog)
-
--- ---- a function of another form
+-- ---- functions of another form than a bare RETURN
 
 -- what a judged body needs
 abbrev pub body_need : Catalog → Noted BoundStmt → DataAccess
@@ -108,6 +56,17 @@ judged_function s catalog =
     (body_of_function s (parameters_of s.parameters) catalog)
 
 -- ---- procedures
+
+-- the parameters of a procedure in sight of its body
+abbrev pub in_procedure : ProcedureDefinition → Scope → Catalog → Surroundings
+in_procedure s parameters catalog = record {
+  scopes = parameters ∷ [];
+  labels = [];
+  returns = None;
+  own = Some (own_procedure s);
+  procedure = Some (procedure_head s.parameters ModifiesSqlData 0 HEAVIEST []);
+  catalog = catalog;
+}
 
 -- a procedure of its judged body
 abbrev pub procedure_with : ProcedureDefinition → Catalog → Noted BoundStmt → Noted NewObject

@@ -8,7 +8,7 @@ use Rattle.catalog_store.specs.Catalog.{Object, TableObject, FunctionObject, Int
 use Rattle.catalog_store.specs.Catalog.{ProcedureObject, Catalog, object_named}
 use Rattle.catalog_store.specs.Planning.{AllPlanned}
 use Rattle.bind_rules.specs.Definitions.{Definition}
-use Rattle.bind_statements.specs.Functions.{judged_result}
+use Rattle.bind_direct.specs.Returning.{judged_result}
 use Rattle.bind_definitions.specs.Routines.{parameters_of, calls}
 use Rattle.bind_rules.specs.Definitions.{Form, result_of}
 use Rattle.bind_statements.specs.Statements.{judged_statement}

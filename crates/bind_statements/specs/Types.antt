@@ -26,8 +26,8 @@ use Rattle.typing_trees.specs.Around.{Around, Slot, stored}
 use Rattle.typing_trees.specs.Queries.{kinds_of_query}
 use Rattle.typing_trees.specs.Statements.{Inside, value_of, insert_typed, update_typed}
 use Rattle.typing_trees.specs.Statements.{delete_typed, call_typed, is_typed}
-use Rattle.bind_statements.specs.declared.bound.Bound.{Bound}
-use Rattle.bind_statements.specs.declared.bound.Bound.TheVariants as bound
+use Rattle.bind_direct.specs.declared.bound.Bound.{Bound}
+use Rattle.bind_direct.specs.declared.bound.Bound.TheVariants as bound
 use Rattle.bind_statements.specs.Statements.{judged_statement}
 
 -- what stands around expressions: slots, and what names stand for, in the body of a routine or

@@ -9,103 +9,21 @@ ghost use Rattle.bind_routines.specs.Statements.{judge_stmt};
 ghost use Rattle.bind_statements.specs.Functions as spec;
 
 use bind_definitions::{
-    BoundBody, BoundResult, access_by, bind_signature, body_need, greatest_height, interpreted,
-    note_body, note_groups, note_null_calls, own_function, own_procedure, parameters_of,
-    procedure_head, procedure_of, returning,
+    BoundBody, access_by, bind_signature, body_need, interpreted, note_body, note_groups,
+    note_null_calls, own_function, own_procedure, parameters_of, procedure_head, procedure_of,
 };
 use bind_faults::{Fault, Notes};
-use bind_kinds::{kind_of_type, type_of};
+use bind_kinds::type_of;
 use bind_routines::bind_statement;
-use bind_rules::{note_height, note_taken};
+use bind_rules::note_taken;
 use bind_sight::{Scope, ScopeRef};
-use bind_simple::{Surroundings, bind_of_kind};
+use bind_simple::Surroundings;
 use catalog_store::{Catalog, DataAccess, Object};
 use routine_form::HEAVIEST;
 use sql_values::NoMemory;
 use sqlite_items::Items;
 use statement_trees::{CreateFunction, CreateProcedure, Stmt};
 use std::alloc::Global;
-use syntax_trees::Expr;
-
-// ---- functions whose body is RETURN
-
-// The result of a function, in sight of its parameters.
-fn bind_result(
-    alloc: Global,
-    create: &CreateFunction,
-    returned: &Expr,
-    scope: &Scope,
-    catalog: &Catalog,
-    least: &mut Option<Fault>,
-) -> Result<BoundResult, NoMemory>
-    ensures tree { IfOk result (λ b. b.tree ≡ (spec.judged_result (out-CreateFunction create.now)
-        returned.now scope.now catalog.now).value) }
-    ensures uses { IfOk result (λ b. b.uses ≡ (spec.judged_result (out-CreateFunction create.now)
-        returned.now scope.now catalog.now).uses) }
-    ensures faults { OnOk result (least.new ≡ noted least.old
-        (spec.judged_result (out-CreateFunction create.now) returned.now scope.now
-        catalog.now).faults) }
-{
-    let own = Some(own_function(alloc, create)?);
-    let scopes = [ScopeRef { scope }];
-    let place = Surroundings {
-        scopes: &scopes,
-        labels: &[],
-        returns: Some(type_of(create.returns)),
-        own: &own,
-        procedure: &None,
-        catalog,
-    };
-    let kind = kind_of_type(type_of(create.returns));
-    let mut notes = Notes::after(alloc, *least);
-    let tree = bind_of_kind(alloc, kind, returned, &place, &mut notes)?;
-    *least = notes.least;
-    Ok(BoundResult {
-        tree,
-        uses: notes.uses,
-    })
-}
-
-// The function of its result, with the faults of the result and of its height noted.
-fn returning_with(
-    alloc: Global,
-    create: &CreateFunction,
-    returned: &Expr,
-    scope: &Scope,
-    catalog: &Catalog,
-    least: &mut Option<Fault>,
-) -> Result<Object, NoMemory>
-    ensures value { IfOk result (λ o. o ≡ (spec.returning_with (out-CreateFunction create.now) catalog.now
-        (spec.judged_result (out-CreateFunction create.now) returned.now scope.now
-        catalog.now)).value) }
-    ensures faults { OnOk result (least.new ≡ noted least.old
-        (spec.returning_with (out-CreateFunction create.now) catalog.now
-        (spec.judged_result (out-CreateFunction create.now) returned.now scope.now
-        catalog.now)).faults) }
-{
-    let bound = bind_result(alloc, create, returned, scope, catalog, least)?;
-    let called = greatest_height(catalog, bound.uses.as_slice());
-    note_height(&create.name, called, least);
-    returning(alloc, create, catalog, bound)
-}
-
-/// A new function that gives back the value of an expression, with its faults noted.
-pub(crate) fn bind_returning(
-    alloc: Global,
-    create: &CreateFunction,
-    returned: &Expr,
-    catalog: &Catalog,
-    least: &mut Option<Fault>,
-) -> Result<Object, NoMemory>
-    ensures value { IfOk result (λ o. o ≡ (spec.judged_returning (out-CreateFunction create.now) returned.now
-        catalog.now).value) }
-    ensures faults { OnOk result (least.new ≡ noted least.old
-        (spec.judged_returning (out-CreateFunction create.now) returned.now catalog.now).faults) }
-{
-    let scope = bind_signature(alloc, create, catalog, least)?;
-    let object = returning_with(alloc, create, returned, &scope, catalog, least)?;
-    Ok(object)
-}
 
 // ---- bodies
 

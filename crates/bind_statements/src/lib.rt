@@ -9,13 +9,12 @@ ghost use Rattle.bind_statements.specs.Examples.{EachFaultAtItsPlace, KeysOfTabl
 ghost use Rattle.bind_statements.specs.Examples.{FormsBoundAlone, FaultsOfWriting, KindsFit};
 ghost use Rattle.bind_statements.specs.Examples.{BindsByPlaceAndName, BindsWriting};
 
-mod bound;
 mod function;
 mod statement;
 
+pub use bind_direct::{Bound, BoundStatement};
 pub use bind_parts::NameFault;
 pub use bind_rules::MOST_HEIGHT;
-pub use bound::{Bound, BoundStatement};
 pub use statement::{anchor_of, bind_statement};
 
 /// A statement without faults makes what fits the catalog: a name that is free, a key of columns,

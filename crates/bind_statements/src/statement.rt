@@ -2,201 +2,31 @@
 
 ghost use Rattle.std.specs.Prelude.{◌≡◌, true, IfOk, OnOk};
 ghost use Rattle.statement_trees.specs.declared.statement.CreateFunction.{out-CreateFunction};
+ghost use Rattle.statement_trees.specs.declared.statement.CreateProcedure.{out-CreateProcedure};
 ghost use Rattle.grammar_order.specs.Ordered.{is_ordered};
 ghost use Rattle.bind_faults.specs.Faults.{noted};
-ghost use Rattle.bind_sight.specs.Sight.{at_top};
-ghost use Rattle.bind_queries.specs.Order.{judge_ordered};
 ghost use Rattle.bind_statements.specs.Statements.{judged_routine, judged_statement};
 ghost use Rattle.bind_statements.specs.Statements as spec;
 ghost use Rattle.bind_statements.specs.Binds.{Binds, StatementFits};
 ghost use Rattle.bind_statements.specs.Types.{IsTyped};
 
-use crate::bound::{Bound, BoundStatement};
-use crate::function::{bind_function, bind_procedure, bind_returning};
-use bind_changes::{bind_delete, bind_insert, bind_update};
-use bind_definitions::{bind_drop, bind_table};
+use crate::function::{bind_function, bind_procedure};
+use bind_direct::{
+    Bound, BoundStatement, bind_direct_call, bind_direct_delete, bind_direct_drop,
+    bind_direct_insert, bind_direct_query, bind_direct_table, bind_direct_update, bind_explain,
+    bind_returning, created,
+};
 use bind_faults::{Fault, Notes};
 use bind_parts::NameFault;
-use bind_queries::{all_run, bind_ordered};
 use bind_routines::bind_statement as bind_in_routine;
 use bind_rules::result_of;
-use bind_sight::Sight;
-use bind_simple::{Surroundings, anchor_of_query, bind_call};
-use bound_trees::{BoundQuery, BoundStmt};
+use bind_simple::{Surroundings, anchor_of_query};
 use catalog_store::{Catalog, Object};
 use sql_values::NoMemory;
-use statement_trees::{Call, CreateFunction, Delete, Insert, Stmt, Update};
+use statement_trees::{CreateFunction, CreateProcedure, Stmt};
 use std::alloc::Global;
 use std::mem::drop;
-use syntax_trees::{Anchor, Ident, OrderedQuery};
-
-// A bound query, and whether all functions that it calls have plans.
-#[derive(Drop)]
-struct Asked {
-    query: BoundQuery,
-    runs: bool,
-}
-
-// A query outside of which no name is in sight but those of the catalog.
-fn bind_asked(
-    alloc: Global,
-    ordered: &OrderedQuery,
-    catalog: &Catalog,
-    least: &mut Option<Fault>,
-) -> Result<Asked, NoMemory>
-    ensures value { IfOk result (λ a. a.query ≡ (judge_ordered ordered.now (at_top catalog.now)).value) }
-    ensures runs { IfOk result (λ a. a.runs ≡ spec.runs_over catalog.now
-        (judge_ordered ordered.now (at_top catalog.now))) }
-    ensures faults { OnOk result (least.new ≡ noted least.old
-        (judge_ordered ordered.now (at_top catalog.now)).faults) }
-{
-    let sight = Sight {
-        levels: &[],
-        scopes: &[],
-        catalog,
-        own: &None,
-        writing: false,
-    };
-    let mut notes = Notes::after(alloc, *least);
-    let query = bind_ordered(alloc, ordered, &sight, &mut notes)?;
-    *least = notes.least;
-    let runs = all_run(notes.uses.as_slice(), catalog);
-    Ok(Asked { query, runs })
-}
-
-fn is_run(object: &Object) -> bool
-    ensures { result ≡ spec.is_run object.now }
-{
-    match object {
-        Object::Table(_) => true,
-        Object::Function(_) => true,
-        Object::Interpreted(_) => false,
-        Object::Procedure(_) => false,
-    }
-}
-
-fn created(ident: &Ident, object: Object) -> Result<BoundStatement, NoMemory>
-    ensures { IfOk result (λ b. b ≡ spec.created ident.now object) }
-{
-    let runs = is_run(&object);
-    let name = ident.name.copied()?;
-    Ok(BoundStatement {
-        bound: Bound::Create(name, object),
-        runs,
-    })
-}
-
-// An INSERT of the script's.
-fn bind_insert_at_top(
-    alloc: Global,
-    insert: &Insert,
-    catalog: &Catalog,
-    least: &mut Option<Fault>,
-) -> Result<BoundStatement, NoMemory>
-    ensures value { IfOk result (λ b. b ≡ (spec.insert_at_top insert.now catalog.now).value) }
-    ensures faults { OnOk result (least.new ≡ noted least.old
-        (spec.insert_at_top insert.now catalog.now).faults) }
-{
-    let sight = Sight {
-        levels: &[],
-        scopes: &[],
-        catalog,
-        own: &None,
-        writing: false,
-    };
-    let mut notes = Notes::after(alloc, *least);
-    let change = bind_insert(alloc, insert, &sight, &mut notes)?;
-    *least = notes.least;
-    let runs = all_run(notes.uses.as_slice(), catalog);
-    Ok(BoundStatement {
-        bound: Bound::Insert(change.insert, change.listed),
-        runs,
-    })
-}
-
-// An UPDATE of the script's.
-fn bind_update_at_top(
-    alloc: Global,
-    update: &Update,
-    catalog: &Catalog,
-    least: &mut Option<Fault>,
-) -> Result<BoundStatement, NoMemory>
-    ensures value { IfOk result (λ b. b ≡ (spec.update_at_top update.now catalog.now).value) }
-    ensures faults { OnOk result (least.new ≡ noted least.old
-        (spec.update_at_top update.now catalog.now).faults) }
-{
-    let sight = Sight {
-        levels: &[],
-        scopes: &[],
-        catalog,
-        own: &None,
-        writing: false,
-    };
-    let mut notes = Notes::after(alloc, *least);
-    let change = bind_update(alloc, update, &sight, &mut notes)?;
-    *least = notes.least;
-    let runs = all_run(notes.uses.as_slice(), catalog);
-    Ok(BoundStatement {
-        bound: Bound::Update(change),
-        runs,
-    })
-}
-
-// A DELETE of the script's.
-fn bind_delete_at_top(
-    alloc: Global,
-    delete: &Delete,
-    catalog: &Catalog,
-    least: &mut Option<Fault>,
-) -> Result<BoundStatement, NoMemory>
-    ensures value { IfOk result (λ b. b ≡ (spec.delete_at_top delete.now catalog.now).value) }
-    ensures faults { OnOk result (least.new ≡ noted least.old
-        (spec.delete_at_top delete.now catalog.now).faults) }
-{
-    let sight = Sight {
-        levels: &[],
-        scopes: &[],
-        catalog,
-        own: &None,
-        writing: false,
-    };
-    let mut notes = Notes::after(alloc, *least);
-    let change = bind_delete(alloc, delete, &sight, &mut notes)?;
-    *least = notes.least;
-    let runs = all_run(notes.uses.as_slice(), catalog);
-    Ok(BoundStatement {
-        bound: Bound::Delete(change),
-        runs,
-    })
-}
-
-// A CALL of the script's.
-fn bind_call_at_top(
-    alloc: Global,
-    call: &Call,
-    catalog: &Catalog,
-    least: &mut Option<Fault>,
-) -> Result<BoundStatement, NoMemory>
-    ensures value { IfOk result (λ b. b ≡ (spec.call_at_top call.now catalog.now).value) }
-    ensures faults { OnOk result (least.new ≡ noted least.old
-        (spec.call_at_top call.now catalog.now).faults) }
-{
-    let place = Surroundings {
-        scopes: &[],
-        labels: &[],
-        returns: None,
-        own: &None,
-        procedure: &None,
-        catalog,
-    };
-    let mut notes = Notes::after(alloc, *least);
-    let call = bind_call(alloc, true, call, &place, &mut notes)?;
-    *least = notes.least;
-    Ok(BoundStatement {
-        bound: Bound::Routine(BoundStmt::Call(call)),
-        runs: false,
-    })
-}
+use syntax_trees::Anchor;
 
 // What the script does as a routine would.
 fn bind_routine(
@@ -243,40 +73,39 @@ fn bind_object(
     }
 }
 
-fn bind_query_at_top(
+// CREATE FUNCTION as a statement.
+fn bind_new_function(
     alloc: Global,
-    query: &OrderedQuery,
+    create: &CreateFunction,
     catalog: &Catalog,
     least: &mut Option<Fault>,
 ) -> Result<BoundStatement, NoMemory>
-    ensures value { IfOk result (λ b. b ≡ (spec.query_at_top query.now catalog.now).value) }
+    ensures value { IfOk result
+        (λ b. b ≡ (spec.judged_definition (out-CreateFunction create.now) catalog.now).value) }
     ensures faults { OnOk result (least.new ≡ noted least.old
-        (spec.query_at_top query.now catalog.now).faults) }
+        (spec.judged_definition (out-CreateFunction create.now) catalog.now).faults) }
 {
-    let asked = bind_asked(alloc, query, catalog, least)?;
-    Ok(BoundStatement {
-        bound: Bound::Query(asked.query),
-        runs: asked.runs,
-    })
+    let object = bind_object(alloc, create, catalog, least)?;
+    created(&create.name, object)
 }
 
-fn bind_explain(
+// CREATE PROCEDURE as a statement.
+fn bind_new_procedure(
     alloc: Global,
-    query: &OrderedQuery,
+    create: &CreateProcedure,
     catalog: &Catalog,
     least: &mut Option<Fault>,
 ) -> Result<BoundStatement, NoMemory>
-    ensures value { IfOk result (λ b. b ≡ (spec.explained query.now catalog.now).value) }
+    ensures value { IfOk result
+        (λ b. b ≡ (spec.judged_procedure_definition (out-CreateProcedure create.now) catalog.now).value) }
     ensures faults { OnOk result (least.new ≡ noted least.old
-        (spec.explained query.now catalog.now).faults) }
+        (spec.judged_procedure_definition (out-CreateProcedure create.now) catalog.now).faults) }
 {
-    let asked = bind_asked(alloc, query, catalog, least)?;
-    Ok(BoundStatement {
-        bound: Bound::Explain(asked.query),
-        runs: false,
-    })
+    let object = bind_procedure(alloc, create, catalog, least)?;
+    created(&create.name, object)
 }
 
+// A statement of any form, with its faults noted.
 fn bind_parts(
     alloc: Global,
     stmt: &Stmt,
@@ -288,31 +117,16 @@ fn bind_parts(
         (judged_statement stmt.now catalog.now).faults) }
 {
     match stmt {
-        Stmt::CreateTable(create) => {
-            let object = bind_table(alloc, create, catalog, least)?;
-            created(&create.name, object)
-        }
-        Stmt::CreateFunction(create) => {
-            let object = bind_object(alloc, create, catalog, least)?;
-            created(&create.name, object)
-        }
-        Stmt::CreateProcedure(create) => {
-            let object = bind_procedure(alloc, create, catalog, least)?;
-            created(&create.name, object)
-        }
-        Stmt::Drop(removal) => {
-            let name = bind_drop(removal, catalog, least)?;
-            Ok(BoundStatement {
-                bound: Bound::Drop(name),
-                runs: true,
-            })
-        }
-        Stmt::Insert(insert) => bind_insert_at_top(alloc, insert, catalog, least),
-        Stmt::Update(update) => bind_update_at_top(alloc, update, catalog, least),
-        Stmt::Delete(delete) => bind_delete_at_top(alloc, delete, catalog, least),
-        Stmt::Query(query) => bind_query_at_top(alloc, query, catalog, least),
+        Stmt::CreateTable(create) => bind_direct_table(alloc, create, catalog, least),
+        Stmt::CreateFunction(create) => bind_new_function(alloc, create, catalog, least),
+        Stmt::CreateProcedure(create) => bind_new_procedure(alloc, create, catalog, least),
+        Stmt::Drop(removal) => bind_direct_drop(removal, catalog, least),
+        Stmt::Insert(insert) => bind_direct_insert(alloc, insert, catalog, least),
+        Stmt::Update(update) => bind_direct_update(alloc, update, catalog, least),
+        Stmt::Delete(delete) => bind_direct_delete(alloc, delete, catalog, least),
+        Stmt::Query(query) => bind_direct_query(alloc, query, catalog, least),
         Stmt::Explain(_, query) => bind_explain(alloc, query, catalog, least),
-        Stmt::Call(call) => bind_call_at_top(alloc, call, catalog, least),
+        Stmt::Call(call) => bind_direct_call(alloc, call, catalog, least),
         Stmt::Labelled(_)
         | Stmt::If(_)
         | Stmt::Case(_)

@@ -59,18 +59,18 @@ use Rattle.grammar_order.specs.Ordered.{OrderedDeclaration, handlers_last, handl
 use Rattle.grammar_order.specs.Ordered.{ordered_declarations, is_ordered, order_of_declaration}
 use Rattle.grammar_order.specs.Ordered.{order_of_structure, order_of_branch, order_of_if}
 use Rattle.grammar_order.specs.Ordered.{order_of_case, order_of_labelled}
-use Rattle.grammar_order.proofs.Orders.{create-table-order, create-function-order}
-use Rattle.grammar_order.proofs.Orders.{create-procedure-order, drop-order, insert-order}
-use Rattle.grammar_order.proofs.Orders.{update-order, delete-order, query-order, explain-order}
-use Rattle.grammar_order.proofs.Orders.{call-order, labelled-order, if-order, case-order, set-order}
-use Rattle.grammar_order.proofs.Orders.{select-into-order, open-order, close-order, fetch-order}
-use Rattle.grammar_order.proofs.Orders.{signal-order, resignal-order, get-diagnostics-order}
-use Rattle.grammar_order.proofs.Orders.{leave-order, iterate-order, return-order, block-structure}
-use Rattle.grammar_order.proofs.Orders.{loop-structure, while-structure, repeat-structure}
-use Rattle.grammar_order.proofs.Orders.{for-structure, variables-declaration, condition-declaration}
-use Rattle.grammar_order.proofs.Orders.{cursor-declaration, handler-declaration, block-parts}
-use Rattle.grammar_order.proofs.Orders.{branch-parts, case-parts, if-parts, labelled-parts}
-use Rattle.grammar_order.proofs.Orders.{handler-parts, function-parts, procedure-parts}
+use Rattle.grammar_order.proofs.Laws.{create-table-order, create-function-order}
+use Rattle.grammar_order.proofs.Laws.{create-procedure-order, drop-order, insert-order}
+use Rattle.grammar_order.proofs.Laws.{update-order, delete-order, query-order, explain-order}
+use Rattle.grammar_order.proofs.Laws.{call-order, labelled-order, if-order, case-order, set-order}
+use Rattle.grammar_order.proofs.Laws.{select-into-order, open-order, close-order, fetch-order}
+use Rattle.grammar_order.proofs.Laws.{signal-order, resignal-order, get-diagnostics-order}
+use Rattle.grammar_order.proofs.Laws.{leave-order, iterate-order, return-order, block-structure}
+use Rattle.grammar_order.proofs.Laws.{loop-structure, while-structure, repeat-structure}
+use Rattle.grammar_order.proofs.Laws.{for-structure, variables-declaration, condition-declaration}
+use Rattle.grammar_order.proofs.Laws.{cursor-declaration, handler-declaration, block-parts}
+use Rattle.grammar_order.proofs.Laws.{branch-parts, case-parts, if-parts, labelled-parts}
+use Rattle.grammar_order.proofs.Laws.{handler-parts, function-parts, procedure-parts}
 
 both-true : (a b : Bool) → a ≡ true → b ≡ true → (a && b) ≡ true
 both-true true b p q = q

@@ -4,7 +4,7 @@ ghost use Rattle.std.specs.Prelude.{◌≡◌, true, IfSome};
 ghost use Rattle.catalog_store.specs.View.{query_of};
 ghost use Rattle.rel_algebra.specs.Plain.{planned};
 
-use bind_queries::bind_query;
+use bind_selects::bind_query;
 use bind_sight::Sight;
 use bound_trees::BoundQuery;
 use catalog_store::Catalog;

@@ -9,5 +9,5 @@ mod queries;
 
 pub use order::ordered_query;
 pub use queries::{
-    after, conditions, expr, from_clause, if_after, query, select_list, table_expression,
+    after, conditions, expr, from_clause, if_after, if_expr, query, select_list, table_expression,
 };

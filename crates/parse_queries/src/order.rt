@@ -9,6 +9,7 @@ ghost use Rattle.grammar_sql.specs.Sql.{rules};
 use crate::queries::query;
 use grammar_algebra::{Input, ParseError};
 use parse_expressions::order_by;
+use parse_reads::paired;
 use std::alloc::Global;
 use syntax_trees::OrderedQuery;
 
@@ -24,6 +25,6 @@ pub fn ordered_query(
         input.new.rest.now }
 {
     let query = query(alloc, input, room)?;
-    let order = order_by(alloc, input, room)?;
+    let (query, order) = paired(query, order_by(alloc, input, room))?;
     Ok(OrderedQuery { query, order })
 }

@@ -7,6 +7,7 @@ ghost use Rattle.grammar_sql.specs.declared.function_word.FunctionWord.TheVarian
 ghost use Rattle.grammar_sql.specs.declared.predicate_part.PredicatePart.TheVariants as predicate_parts;
 ghost use Rattle.sql_lex.specs.declared.token.TokenKind.TheVariants as kinds;
 ghost use Rattle.sql_lex.specs.declared.word.Word.TheVariants as words;
+ghost use Rattle.syntax_trees.specs.declared.query.Query.TheVariants as query_of;
 ghost use Rattle.grammar_algebra.specs.Grammar.{optional, token};
 ghost use Rattle.grammar_algebra.specs.Notation.{◌~◌, ◌~>◌, ◌=>◌};
 ghost use Rattle.grammar_algebra.specs.Reading.{reading};
@@ -16,28 +17,30 @@ ghost use Rattle.grammar_sql.specs.Expressions as expressions;
 ghost use Rattle.grammar_sql.specs.Queries as queries;
 ghost use Rattle.grammar_sql.specs.Sql.{rules};
 
-use crate::parts::{all_columns, named_table};
+use crate::parts::{all_columns, literal_expr, named_column, named_table, tested_part};
 use grammar_algebra::{Input, ParseError};
 use grammar_sql::{ChainLevel, Function, FunctionWord, InValue, PredicatePart};
 use parse_expressions::{
     anchor, anchor_in, as_type, begins_compared, begins_expr, begins_from_item, begins_link,
     begins_literal, begins_more, begins_predicate_part, begins_query, begins_when_clause,
-    comparison_sign, dotted, function_word, group_by, ident, if_alias, if_not, if_sign, in_word,
-    is_all_rows, is_lone_literal, literal, naming, operator, select_word, tested, values_word,
-    word_of,
+    comparison_sign, function_word, group_by, ident, if_alias, if_not, if_sign, in_word,
+    is_all_rows, is_lone_literal, naming, operator, select_word, values_word, word_of,
 };
 use parse_nodes::{
-    applied, begun, calls, cast_of, chained, derived, ended_by, exists_of, inner_joined,
-    left_joined, only, pair, predicate_of, prefixed, qualified, selected, subquery, substring_of,
-    unqualified, with_first,
+    applied, calls, derived, ended_by, inner_joined, left_joined, only, predicate_of, selected,
+    substring_of,
+};
+use parse_reads::{
+    aggregate_read, appended, begun_read, cases_read, cast_read, chain_read, char_length_read,
+    closed, compared_read, exists_read, modulo_read, pair_read, paired, prefixed_read, put,
+    subquery_read,
 };
 use sql_lex::{Sign, TokenKind, Word};
 use sql_values::FoldKind;
 use sqlite_items::Items;
 use std::alloc::Global;
 use syntax_trees::{
-    ColumnName, Expr, FromItem, Link, Operation, Query, Select, SelectItem, TableRef, ValueRow,
-    Values,
+    ColumnName, Expr, FromItem, Link, Operation, Query, SelectItem, TableRef, ValueRow, Values,
 };
 
 /// An expression (ISO/IEC 9075-2, 6.26), by the rule `expr`. On Ok the input stands after it, else
@@ -49,8 +52,7 @@ pub fn expr(alloc: Global, input: &mut Input<'_>, room: u32) -> Result<Expr, Par
         input.new.rest.now }
 {
     if is_lone_literal(input) {
-        let literal = literal(input, room)?;
-        return Ok(Expr::Literal(literal.1, literal.0));
+        return literal_expr(input, room);
     }
     chain(alloc, input, room, ChainLevel::Or)
 }
@@ -68,8 +70,7 @@ fn chain(
         input.new.rest.now }
 {
     let first = operand(alloc, input, room, level)?;
-    let links = links(alloc, input, room, level)?;
-    Ok(chained(alloc, first, links)?)
+    chain_read(alloc, paired(first, links(alloc, input, room, level)))
 }
 
 #[cycle(parser)]
@@ -84,10 +85,7 @@ fn links(
 {
     let mut found = Items::new(alloc);
     'more: while begins_link(input, level) {
-        match link(alloc, input, room, level) {
-            Ok(next) => found.push(next)?,
-            Err(error) => return Err(error),
-        }
+        found = put(found, link(alloc, input, room, level))?;
     }
     Ok(found)
 }
@@ -127,14 +125,12 @@ fn operand(
         ChainLevel::Or => chain(alloc, input, room, ChainLevel::And),
         ChainLevel::And => {
             let not = if_not(input, room)?;
-            let operand = predicate(alloc, input, room)?;
-            Ok(prefixed(alloc, not, operand)?)
+            prefixed_read(alloc, paired(not, predicate(alloc, input, room)))
         }
         ChainLevel::Additive => chain(alloc, input, room, ChainLevel::Multiplicative),
         ChainLevel::Multiplicative => {
             let sign = if_sign(input, room)?;
-            let operand = primary(alloc, input, room)?;
-            Ok(prefixed(alloc, sign, operand)?)
+            prefixed_read(alloc, paired(sign, primary(alloc, input, room)))
         }
     }
 }
@@ -149,7 +145,7 @@ fn predicate(alloc: Global, input: &mut Input<'_>, room: u32) -> Result<Expr, Pa
 {
     let left = chain(alloc, input, room, ChainLevel::Additive)?;
     if begins_predicate_part(input) {
-        let part = predicate_part(alloc, input, room)?;
+        let (left, part) = paired(left, predicate_part(alloc, input, room))?;
         return Ok(predicate_of(alloc, left, part)?);
     }
     Ok(left)
@@ -170,8 +166,7 @@ fn predicate_part(
         return compared(alloc, input, room);
     }
     if input.sees(TokenKind::Word(Word::Is)) {
-        let operation = tested(input, room)?;
-        return Ok(PredicatePart::Operation(operation, Items::new(alloc)));
+        return tested_part(alloc, input, room);
     }
     let word = in_word(input, room)?;
     let values = in_value(alloc, input, room)?;
@@ -185,26 +180,33 @@ fn compared(alloc: Global, input: &mut Input<'_>, room: u32) -> Result<Predicate
     ensures { Reads (reading rules room ((λ p. predicate_parts.Operation p.0 p.1) =>
         expressions.compared) input.old.rest.now) result input.new.rest.now }
 {
-    let (sign, anchor) = comparison_sign(input, room)?;
-    let right = chain(alloc, input, room, ChainLevel::Additive)?;
-    let operands = only(alloc, right)?;
-    Ok(PredicatePart::Operation((Operation::Compare(sign), anchor), operands))
+    let sign = comparison_sign(input, room)?;
+    compared_read(alloc, sign, chain(alloc, input, room, ChainLevel::Additive))
 }
 
-// What IN looks in: a query, or expressions with commas between them.
-#[tactic(auto, unfolding(grammar_sql::specs::Trees::bracketed, grammar_sql::specs::Queries::query_or_exprs))]
+// What IN looks in, in its brackets.
+#[tactic(auto, unfolding(grammar_sql::specs::Trees::bracketed))]
 #[cycle(parser)]
 fn in_value(alloc: Global, input: &mut Input<'_>, room: u32) -> Result<InValue, ParseError>
     ensures { Reads (reading rules room (trees.bracketed trees.Among) input.old.rest.now) result
         input.new.rest.now }
 {
     let left = input.open(room, TokenKind::Sign(Sign::LeftParen))?;
+    let inner = query_or_exprs(alloc, input, left);
+    closed(input, TokenKind::Sign(Sign::RightParen), inner)
+}
+
+// A query, or expressions with commas between them.
+#[tactic(auto, unfolding(grammar_sql::specs::Queries::query_or_exprs))]
+#[cycle(parser)]
+fn query_or_exprs(alloc: Global, input: &mut Input<'_>, room: u32) -> Result<InValue, ParseError>
+    ensures { Reads (reading rules room queries.query_or_exprs input.old.rest.now) result
+        input.new.rest.now }
+{
     if begins_query(input) {
-        let inner = query(alloc, input, left)?;
-        return Ok(InValue::Query(input.close(TokenKind::Sign(Sign::RightParen), inner)?));
+        return Ok(InValue::Query(query(alloc, input, room)?));
     }
-    let inner = exprs(alloc, input, left)?;
-    Ok(InValue::List(input.close(TokenKind::Sign(Sign::RightParen), inner)?))
+    Ok(InValue::List(exprs(alloc, input, room)?))
 }
 
 // ---- literals, names, calls, brackets
@@ -216,8 +218,7 @@ fn primary(alloc: Global, input: &mut Input<'_>, room: u32) -> Result<Expr, Pars
         input.new.rest.now }
 {
     if begins_literal(input) {
-        let literal = literal(input, room)?;
-        return Ok(Expr::Literal(literal.1, literal.0));
+        return literal_expr(input, room);
     }
     if input.sees(TokenKind::Name) {
         return named(alloc, input, room);
@@ -243,13 +244,10 @@ fn named(alloc: Global, input: &mut Input<'_>, room: u32) -> Result<Expr, ParseE
 {
     let name = ident(input, room)?;
     if input.sees(TokenKind::Sign(Sign::LeftParen)) {
-        return Ok(Expr::Call(name, arguments(alloc, input, room)?));
+        let (name, arguments) = paired(name, arguments(alloc, input, room))?;
+        return Ok(Expr::Call(name, arguments));
     }
-    if input.sees(TokenKind::Sign(Sign::Period)) {
-        let column = dotted(input, room)?;
-        return Ok(Expr::Name(qualified(alloc, name, column)?));
-    }
-    Ok(Expr::Name(unqualified(name)))
+    named_column(alloc, input, room, name)
 }
 
 // The arguments of a call.
@@ -260,11 +258,22 @@ fn arguments(alloc: Global, input: &mut Input<'_>, room: u32) -> Result<Items<Ex
         input.new.rest.now }
 {
     let left = input.open(room, TokenKind::Sign(Sign::LeftParen))?;
+    let inner = if_exprs(alloc, input, left);
+    closed(input, TokenKind::Sign(Sign::RightParen), inner)
+}
+
+// Expressions with commas between them, or none.
+#[tactic(auto, unfolding(grammar_sql::specs::Trees::bracketed))]
+#[cycle(parser)]
+fn if_exprs(alloc: Global, input: &mut Input<'_>, room: u32) -> Result<Items<Expr>, ParseError>
+    ensures { Reads (reading rules room (rules trees.Arguments) input.old.rest.now) result
+        input.new.rest.now }
+{
     if begins_expr(input) {
-        let inner = exprs(alloc, input, left)?;
-        return input.close(TokenKind::Sign(Sign::RightParen), inner);
+        exprs(alloc, input, room)
+    } else {
+        Ok(Items::new(alloc))
     }
-    input.close(TokenKind::Sign(Sign::RightParen), Items::new(alloc))
 }
 
 #[tactic(auto, unfolding(grammar_sql::specs::Trees::bracketed))]
@@ -274,8 +283,8 @@ fn in_brackets(alloc: Global, input: &mut Input<'_>, room: u32) -> Result<Expr, 
         input.new.rest.now }
 {
     let left = input.open(room, TokenKind::Sign(Sign::LeftParen))?;
-    let inner = query_or_expr(alloc, input, left)?;
-    input.close(TokenKind::Sign(Sign::RightParen), inner)
+    let inner = query_or_expr(alloc, input, left);
+    closed(input, TokenKind::Sign(Sign::RightParen), inner)
 }
 
 // An expression, or a query that stands for its value.
@@ -286,8 +295,7 @@ fn query_or_expr(alloc: Global, input: &mut Input<'_>, room: u32) -> Result<Expr
         input.new.rest.now }
 {
     if begins_query(input) {
-        let inner = query(alloc, input, room)?;
-        return Ok(subquery(alloc, inner)?);
+        return subquery_read(alloc, query(alloc, input, room));
     }
     expr(alloc, input, room)
 }
@@ -300,8 +308,7 @@ fn exists(alloc: Global, input: &mut Input<'_>, room: u32) -> Result<Expr, Parse
 {
     let token = input.expect(TokenKind::Word(Word::Exists))?;
     let anchor = anchor_in(token);
-    let query = bracketed_query(alloc, input, room)?;
-    Ok(exists_of(alloc, anchor, query)?)
+    exists_read(alloc, anchor, bracketed_query(alloc, input, room))
 }
 
 // ---- words with operands
@@ -336,8 +343,8 @@ fn bracketed_operands(
         input.old.rest.now) result input.new.rest.now }
 {
     let left = input.open(room, TokenKind::Sign(Sign::LeftParen))?;
-    let inner = operands(alloc, input, left, function)?;
-    input.close(TokenKind::Sign(Sign::RightParen), inner)
+    let inner = operands(alloc, input, left, function);
+    closed(input, TokenKind::Sign(Sign::RightParen), inner)
 }
 
 // The operands of a word, with what stands between them, and what the word stands for.
@@ -358,10 +365,7 @@ fn operands(
             Ok(calls(Operation::Coalesce, values))
         }
         FunctionWord::Modulo => modulo(alloc, input, room),
-        FunctionWord::CharLength => {
-            let text = expr(alloc, input, room)?;
-            Ok(calls(Operation::CharLength, only(alloc, text)?))
-        }
+        FunctionWord::CharLength => char_length_read(alloc, expr(alloc, input, room)),
         FunctionWord::Substring => substring(alloc, input, room),
         FunctionWord::Cast => cast(alloc, input, room),
         FunctionWord::Aggregate(kind) => aggregate(alloc, input, room, kind),
@@ -380,8 +384,8 @@ fn modulo(
         input.old.rest.now) result input.new.rest.now }
 {
     let dividend = expr(alloc, input, room)?;
-    let divisor = after(alloc, input, room, TokenKind::Sign(Sign::Comma))?;
-    Ok(calls(Operation::Modulo, pair(alloc, dividend, divisor)?))
+    let divisor = after(alloc, input, room, TokenKind::Sign(Sign::Comma));
+    modulo_read(alloc, paired(dividend, divisor))
 }
 
 // The text of SUBSTRING, the place, and the length if there is one.
@@ -396,7 +400,7 @@ fn substring(
         input.old.rest.now) result input.new.rest.now }
 {
     let text = expr(alloc, input, room)?;
-    let places = places(alloc, input, room)?;
+    let (text, places) = paired(text, places(alloc, input, room))?;
     Ok(substring_of(alloc, text, places)?)
 }
 
@@ -411,8 +415,8 @@ fn places(
         (expressions.after (kinds.Word words.For))) input.old.rest.now) result input.new.rest.now }
 {
     let place = after(alloc, input, room, TokenKind::Word(Word::From))?;
-    let length = if_after(alloc, input, room, TokenKind::Word(Word::For))?;
-    Ok((place, length))
+    let length = if_after(alloc, input, room, TokenKind::Word(Word::For));
+    paired(place, length)
 }
 
 // The operand of CAST, with its type.
@@ -427,8 +431,7 @@ fn cast(
         input.old.rest.now) result input.new.rest.now }
 {
     let value = expr(alloc, input, room)?;
-    let data_type = as_type(input, room)?;
-    Ok(cast_of(alloc, value, data_type)?)
+    cast_read(alloc, paired(value, as_type(input, room)))
 }
 
 // An aggregate with its argument, of which COUNT(*) has none.
@@ -447,8 +450,7 @@ fn aggregate(
         input.take();
         return Ok((Function::Aggregate(kind), Items::new(alloc)));
     }
-    let value = expr(alloc, input, room)?;
-    Ok((Function::Aggregate(kind), only(alloc, value)?))
+    aggregate_read(alloc, kind, expr(alloc, input, room))
 }
 
 /// An expression (ISO/IEC 9075-2, 6.28) after a token of the kind, by the rule `after`. On Ok the
@@ -468,7 +470,22 @@ pub fn after(
     expr(alloc, input, room)
 }
 
-/// The same, if such a token stands here. Where none stands here nothing is read.
+/// An expression, if one begins here (ISO/IEC 9075-2, 6.26), by the rule `expr`. Where none begins
+/// here nothing is read; else on Ok the input stands after it, and on Err at the token that does
+/// not go on.
+#[cycle(parser)]
+pub fn if_expr(alloc: Global, input: &mut Input<'_>, room: u32) -> Result<Option<Expr>, ParseError>
+    ensures { Reads (reading rules room (optional expressions.expr) input.old.rest.now) result
+        input.new.rest.now }
+{
+    if begins_expr(input) {
+        Ok(Some(expr(alloc, input, room)?))
+    } else {
+        Ok(None)
+    }
+}
+
+/// The same as `after`, if such a token stands here. Where none stands here nothing is read.
 #[tactic(auto, unfolding(grammar_sql::specs::Expressions::after))]
 #[cycle(parser)]
 pub fn if_after(
@@ -497,8 +514,8 @@ fn case_expression(alloc: Global, input: &mut Input<'_>, room: u32) -> Result<Ex
 {
     let anchor = anchor(input);
     let left = input.open(room, TokenKind::Word(Word::Case))?;
-    let inner = cases(alloc, input, left)?;
-    let case = input.close(TokenKind::Word(Word::End), inner)?;
+    let inner = cases(alloc, input, left);
+    let case = closed(input, TokenKind::Word(Word::End), inner)?;
     Ok(Expr::Operation(anchor, case.0, case.1))
 }
 
@@ -513,14 +530,8 @@ fn cases(
     ensures { Reads (reading rules room expressions.cases input.old.rest.now) result
         input.new.rest.now }
 {
-    if begins_expr(input) {
-        let operand = expr(alloc, input, room)?;
-        let arms = arms(alloc, input, room)?;
-        let values = with_first(alloc, operand, arms)?;
-        return Ok((Operation::CaseOf, values));
-    }
-    let arms = arms(alloc, input, room)?;
-    Ok((Operation::Case, arms))
+    let operand = if_expr(alloc, input, room)?;
+    cases_read(alloc, paired(operand, arms(alloc, input, room)))
 }
 
 #[tactic(auto, unfolding(grammar_sql::specs::Expressions::arms, grammar_sql::specs::Expressions::else_clause))]
@@ -530,7 +541,8 @@ fn arms(alloc: Global, input: &mut Input<'_>, room: u32) -> Result<Items<Expr>, 
         input.new.rest.now }
 {
     let clauses = when_clauses(alloc, input, room)?;
-    let otherwise = if_after(alloc, input, room, TokenKind::Word(Word::Else))?;
+    let otherwise = if_after(alloc, input, room, TokenKind::Word(Word::Else));
+    let (clauses, otherwise) = paired(clauses, otherwise)?;
     Ok(ended_by(alloc, clauses, otherwise)?)
 }
 
@@ -543,10 +555,7 @@ fn when_clauses(alloc: Global, input: &mut Input<'_>, room: u32) -> Result<Items
 {
     let mut found = when_clause(alloc, input, room)?;
     'more: while begins_when_clause(input) {
-        match when_clause(alloc, input, room) {
-            Ok(next) => found.append(next)?,
-            Err(error) => return Err(error),
-        }
+        found = appended(found, when_clause(alloc, input, room))?;
     }
     Ok(found)
 }
@@ -559,27 +568,11 @@ fn when_clause(alloc: Global, input: &mut Input<'_>, room: u32) -> Result<Items<
         input.new.rest.now }
 {
     let test = after(alloc, input, room, TokenKind::Word(Word::When))?;
-    let result = after(alloc, input, room, TokenKind::Word(Word::Then))?;
-    Ok(pair(alloc, test, result)?)
+    let result = after(alloc, input, room, TokenKind::Word(Word::Then));
+    pair_read(alloc, paired(test, result))
 }
 
 // ---- lists
-
-// Expressions with commas between them, in brackets.
-#[tactic(auto, unfolding(grammar_sql::specs::Trees::bracketed))]
-#[cycle(parser)]
-fn bracketed_exprs(
-    alloc: Global,
-    input: &mut Input<'_>,
-    room: u32,
-) -> Result<Items<Expr>, ParseError>
-    ensures { Reads (reading rules room (trees.bracketed trees.Exprs) input.old.rest.now) result
-        input.new.rest.now }
-{
-    let left = input.open(room, TokenKind::Sign(Sign::LeftParen))?;
-    let inner = exprs(alloc, input, left)?;
-    input.close(TokenKind::Sign(Sign::RightParen), inner)
-}
 
 // Expressions with commas between them.
 #[tactic(auto, unfolding(grammar_sql::specs::Expressions::exprs, grammar_sql::specs::Expressions::more_exprs))]
@@ -588,13 +581,10 @@ fn exprs(alloc: Global, input: &mut Input<'_>, room: u32) -> Result<Items<Expr>,
     ensures { Reads (reading rules room expressions.exprs input.old.rest.now) result
         input.new.rest.now }
 {
-    let first = expr(alloc, input, room)?;
-    let mut found = begun(alloc, first)?;
+    let mut found = begun_read(alloc, expr(alloc, input, room))?;
     'more: while begins_more(input) {
-        match after(alloc, input, room, TokenKind::Sign(Sign::Comma)) {
-            Ok(next) => found.push(next)?,
-            Err(error) => return Err(error),
-        }
+        let next = after(alloc, input, room, TokenKind::Sign(Sign::Comma));
+        found = put(found, next)?;
     }
     Ok(found)
 }
@@ -609,21 +599,44 @@ pub fn query(alloc: Global, input: &mut Input<'_>, room: u32) -> Result<Query, P
     ensures { Reads (reading rules room queries.query input.old.rest.now) result input.new.rest.now }
 {
     if input.sees(TokenKind::Word(Word::Select)) {
-        Ok(Query::Select(select(alloc, input, room)?))
+        select(alloc, input, room)
     } else {
-        Ok(Query::Values(values(alloc, input, room)?))
+        values(alloc, input, room)
     }
 }
 
 #[tactic(auto, unfolding(grammar_sql::specs::Queries::select))]
 #[cycle(parser)]
-fn select(alloc: Global, input: &mut Input<'_>, room: u32) -> Result<Select, ParseError>
-    ensures { Reads (reading rules room queries.select input.old.rest.now) result input.new.rest.now }
+fn select(alloc: Global, input: &mut Input<'_>, room: u32) -> Result<Query, ParseError>
+    ensures { Reads (reading rules room (query_of.Select => queries.select) input.old.rest.now)
+        result input.new.rest.now }
 {
     let anchor = select_word(input, room)?;
+    let (items, tables) = selection(alloc, input, room)?;
+    Ok(Query::Select(selected(anchor, items, tables)))
+}
+
+// What SELECT lists, and what stands after the list.
+#[cycle(parser)]
+fn selection(
+    alloc: Global,
+    input: &mut Input<'_>,
+    room: u32,
+) -> Result<
+    (
+        Items<SelectItem>,
+        (
+            Items<FromItem>,
+            (Option<Expr>, (Items<ColumnName>, Option<Expr>)),
+        ),
+    ),
+    ParseError,
+>
+    ensures { Reads (reading rules room (queries.select_list ~ queries.from_clause ~ queries.filter
+        ~ queries.grouping) input.old.rest.now) result input.new.rest.now }
+{
     let items = select_list(alloc, input, room)?;
-    let tables = table_expression(alloc, input, room)?;
-    Ok(selected(anchor, items, tables))
+    paired(items, table_expression(alloc, input, room))
 }
 
 /// What stands after the select list (ISO/IEC 9075-2, 7.4): the items of FROM, the condition of
@@ -645,8 +658,7 @@ pub fn table_expression(
         input.old.rest.now) result input.new.rest.now }
 {
     let from = from_clause(alloc, input, room)?;
-    let conditions = conditions(alloc, input, room)?;
-    Ok((from, conditions))
+    paired(from, conditions(alloc, input, room))
 }
 
 /// What stands after FROM: the condition of WHERE, and the grouping, by the rules `filter` and
@@ -662,8 +674,7 @@ pub fn conditions(
         result input.new.rest.now }
 {
     let filter = if_after(alloc, input, room, TokenKind::Word(Word::Where))?;
-    let grouping = grouping(alloc, input, room)?;
-    Ok((filter, grouping))
+    paired(filter, grouping(alloc, input, room))
 }
 
 // The columns of GROUP BY, and the condition of HAVING.
@@ -678,8 +689,8 @@ fn grouping(
         input.new.rest.now }
 {
     let columns = group_by(alloc, input, room)?;
-    let condition = if_after(alloc, input, room, TokenKind::Word(Word::Having))?;
-    Ok((columns, condition))
+    let condition = if_after(alloc, input, room, TokenKind::Word(Word::Having));
+    paired(columns, condition)
 }
 
 // ---- the select list
@@ -697,8 +708,7 @@ pub fn select_list(
         input.new.rest.now }
 {
     if input.sees(TokenKind::Sign(Sign::Asterisk)) {
-        let all = all_columns(input, room)?;
-        return Ok(only(alloc, all)?);
+        return all_columns(alloc, input, room);
     }
     select_values(alloc, input, room)
 }
@@ -713,11 +723,10 @@ fn select_values(
     ensures { Reads (reading rules room queries.select_values input.old.rest.now) result
         input.new.rest.now }
 {
-    let first = select_value(alloc, input, room)?;
-    let mut found = only(alloc, first)?;
+    let mut found = begun_read(alloc, select_value(alloc, input, room))?;
     'more: while input.eat(TokenKind::Sign(Sign::Comma)) {
-        match select_value(alloc, input, room) {
-            Ok(next) => found.push(next)?,
+        match put(found, select_value(alloc, input, room)) {
+            Ok(more) => found = more,
             Err(error) => return Err(error),
         }
     }
@@ -732,7 +741,7 @@ fn select_value(alloc: Global, input: &mut Input<'_>, room: u32) -> Result<Selec
         input.new.rest.now }
 {
     let value = expr(alloc, input, room)?;
-    let name = if_alias(input, room)?;
+    let (value, name) = paired(value, if_alias(input, room))?;
     Ok(SelectItem::Value(value, name))
 }
 
@@ -767,10 +776,7 @@ fn from_items(
     let table = table_ref(alloc, input, room)?;
     let mut found = only(alloc, FromItem::Comma(table))?;
     'more: while begins_from_item(input) {
-        match from_item(alloc, input, room) {
-            Ok(next) => found.push(next)?,
-            Err(error) => return Err(error),
-        }
+        found = put(found, from_item(alloc, input, room))?;
     }
     Ok(found)
 }
@@ -810,8 +816,7 @@ fn joined_after(
     input.eat(TokenKind::Word(word));
     input.expect(TokenKind::Word(Word::Join))?;
     let table = table_ref(alloc, input, room)?;
-    let condition = after(alloc, input, room, TokenKind::Word(Word::On))?;
-    Ok((table, condition))
+    paired(table, after(alloc, input, room, TokenKind::Word(Word::On)))
 }
 
 // A table by its name, or a derived table.
@@ -835,7 +840,7 @@ fn derived_table(alloc: Global, input: &mut Input<'_>, room: u32) -> Result<Tabl
         input.new.rest.now }
 {
     let query = bracketed_query(alloc, input, room)?;
-    let naming = naming(alloc, input, room)?;
+    let (query, naming) = paired(query, naming(alloc, input, room))?;
     Ok(derived(alloc, query, naming)?)
 }
 
@@ -846,20 +851,21 @@ fn bracketed_query(alloc: Global, input: &mut Input<'_>, room: u32) -> Result<Qu
         input.new.rest.now }
 {
     let left = input.open(room, TokenKind::Sign(Sign::LeftParen))?;
-    let inner = query(alloc, input, left)?;
-    input.close(TokenKind::Sign(Sign::RightParen), inner)
+    let inner = query(alloc, input, left);
+    closed(input, TokenKind::Sign(Sign::RightParen), inner)
 }
 
 // ---- VALUES
 
 #[tactic(auto, unfolding(grammar_sql::specs::Queries::values))]
 #[cycle(parser)]
-fn values(alloc: Global, input: &mut Input<'_>, room: u32) -> Result<Values, ParseError>
-    ensures { Reads (reading rules room queries.values input.old.rest.now) result input.new.rest.now }
+fn values(alloc: Global, input: &mut Input<'_>, room: u32) -> Result<Query, ParseError>
+    ensures { Reads (reading rules room (query_of.Values => queries.values) input.old.rest.now)
+        result input.new.rest.now }
 {
     let anchor = values_word(input, room)?;
     let rows = rows(alloc, input, room)?;
-    Ok(Values { anchor, rows })
+    Ok(Query::Values(Values { anchor, rows }))
 }
 
 #[tactic(auto, unfolding(grammar_sql::specs::Queries::rows, grammar_sql::specs::Queries::more_rows))]
@@ -867,21 +873,23 @@ fn values(alloc: Global, input: &mut Input<'_>, room: u32) -> Result<Values, Par
 fn rows(alloc: Global, input: &mut Input<'_>, room: u32) -> Result<Items<ValueRow>, ParseError>
     ensures { Reads (reading rules room queries.rows input.old.rest.now) result input.new.rest.now }
 {
-    let first = row(alloc, input, room)?;
-    let mut found = only(alloc, first)?;
+    let mut found = begun_read(alloc, row(alloc, input, room))?;
     'more: while input.eat(TokenKind::Sign(Sign::Comma)) {
-        match row(alloc, input, room) {
-            Ok(next) => found.push(next)?,
+        match put(found, row(alloc, input, room)) {
+            Ok(more) => found = more,
             Err(error) => return Err(error),
         }
     }
     Ok(found)
 }
 
-#[tactic(auto, unfolding(grammar_sql::specs::Queries::row))]
+#[tactic(auto, unfolding(grammar_sql::specs::Queries::row, grammar_sql::specs::Trees::bracketed))]
 #[cycle(parser)]
 fn row(alloc: Global, input: &mut Input<'_>, room: u32) -> Result<ValueRow, ParseError>
     ensures { Reads (reading rules room queries.row input.old.rest.now) result input.new.rest.now }
 {
-    Ok(ValueRow::Row(bracketed_exprs(alloc, input, room)?))
+    let left = input.open(room, TokenKind::Sign(Sign::LeftParen))?;
+    let inner = exprs(alloc, input, left);
+    let values = closed(input, TokenKind::Sign(Sign::RightParen), inner)?;
+    Ok(ValueRow::Row(values))
 }

@@ -9,9 +9,10 @@ ghost use Rattle.grammar_sql.specs.Statements as statements;
 ghost use Rattle.grammar_sql.specs.Trees as trees;
 ghost use Rattle.grammar_sql.specs.Sql.{rules};
 
-use crate::statements::stmt;
 use grammar_algebra::{Input, ParseError};
+use parse_bodies::stmt;
 use parse_expressions::ident;
+use parse_reads::paired;
 use parse_simple::{
     bracketed_modal_parameters, bracketed_parameters, characteristics, create_table, create_word,
     drop_object, returns_type,
@@ -43,8 +44,7 @@ fn described(alloc: Global, input: &mut Input<'_>, room: u32) -> Result<Describe
         input.old.rest.now) result input.new.rest.now }
 {
     let characteristics = characteristics(alloc, input, room)?;
-    let body = stmt(alloc, input, room)?;
-    Ok((characteristics, body))
+    paired(characteristics, stmt(alloc, input, room))
 }
 
 // RETURNS with its type, and what stands after it.
@@ -53,8 +53,7 @@ fn typed(alloc: Global, input: &mut Input<'_>, room: u32) -> Result<TypedParts, 
         statements.stmt) input.old.rest.now) result input.new.rest.now }
 {
     let returns = returns_type(input, room)?;
-    let described = described(alloc, input, room)?;
-    Ok((returns, described))
+    paired(returns, described(alloc, input, room))
 }
 
 fn function_rest(
@@ -67,8 +66,7 @@ fn function_rest(
         input.new.rest.now }
 {
     let parameters = bracketed_parameters(alloc, input, room)?;
-    let typed = typed(alloc, input, room)?;
-    Ok((parameters, typed))
+    paired(parameters, typed(alloc, input, room))
 }
 
 #[tactic(auto, unfolding(grammar_sql::specs::Definitions::function_definition))]
@@ -81,8 +79,7 @@ fn function_definition(
         input.new.rest.now }
 {
     let name = ident(input, room)?;
-    let rest = function_rest(alloc, input, room)?;
-    Ok((name, rest))
+    paired(name, function_rest(alloc, input, room))
 }
 
 #[tactic(auto, unfolding(grammar_sql::specs::Definitions::create_function))]
@@ -108,8 +105,7 @@ fn procedure_rest(
         statements.stmt) input.old.rest.now) result input.new.rest.now }
 {
     let parameters = bracketed_modal_parameters(alloc, input, room)?;
-    let described = described(alloc, input, room)?;
-    Ok((parameters, described))
+    paired(parameters, described(alloc, input, room))
 }
 
 #[tactic(auto, unfolding(grammar_sql::specs::Definitions::procedure_definition))]
@@ -122,8 +118,7 @@ fn procedure_definition(
         input.new.rest.now }
 {
     let name = ident(input, room)?;
-    let rest = procedure_rest(alloc, input, room)?;
-    Ok((name, rest))
+    paired(name, procedure_rest(alloc, input, room))
 }
 
 #[tactic(auto, unfolding(grammar_sql::specs::Definitions::create_procedure))]

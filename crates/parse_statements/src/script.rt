@@ -9,12 +9,13 @@ ghost use Rattle.grammar_sql.specs.Sql.{rules};
 
 use crate::begins::begins_ordered_query;
 use crate::routines::{begins_ddl, ddl};
-use crate::statements::{labelled_of, structure};
 use grammar_algebra::{Input, ParseError};
 use grammar_sql::StructureWord;
+use parse_bodies::{labelled_of, structure};
 use parse_changes::{begins_dml, call, dml, explain};
 use parse_nodes::semicolon_after;
 use parse_queries::ordered_query;
+use parse_reads::paired;
 use parse_simple::if_label;
 use sql_lex::{TokenKind, Word};
 use statement_trees::{Labelled, Stmt};
@@ -27,7 +28,8 @@ fn labelled_block(alloc: Global, input: &mut Input<'_>, room: u32) -> Result<Lab
         input.new.rest.now }
 {
     let label = if_label(input, room)?;
-    let parts = structure(alloc, input, room, StructureWord::Begin)?;
+    let parts = structure(alloc, input, room, StructureWord::Begin);
+    let (label, parts) = paired(label, parts)?;
     Ok(labelled_of(label, parts))
 }
 

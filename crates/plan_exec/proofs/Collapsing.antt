@@ -1,31 +1,29 @@
 -- What a kind makes of what the rows of an inner plan come to.
-use Rattle.std.proofs.Common.{◌≡◌, ℕ, zero, suc, ◌+◌, ◌<◌, Bool, true, false, if◌then◌else◌, List}
-use Rattle.std.proofs.Common.{[], ◌∷◌, ◌++◌, map, length, drop, replicate, slice_get}
-use Rattle.std.proofs.Common.{slice_index_or, Some, None, Ok, Err, refl, sym, ap, ◌∙◌}
+use Rattle.std.proofs.Common.{◌≡◌, ℕ, zero, suc, List}
+use Rattle.std.proofs.Common.{[], ◌∷◌, ◌++◌, map, length, replicate}
+use Rattle.std.proofs.Common.{Ok, Err, refl, sym, ap, ◌∙◌}
 use Rattle.std.proofs.lemmas.List.{append_assoc, append-nil, length-map}
 use Rattle.sql_values.specs.declared.value.Value.{Value}
-use Rattle.sql_values.specs.declared.value.Value.TheVariants.{Null}
-use Rattle.sql_values.specs.Values.{is_null, is_true}
 use Rattle.row_types.specs.Rows.{Row}
-use Rattle.row_types.specs.Groups.{grouped_from, value_at, values_of_column}
+use Rattle.row_types.specs.Groups.{grouped_from}
 use Rattle.row_types.specs.declared.cell.Cell.{Cell}
 use Rattle.row_types.specs.declared.cell.Cell.TheVariants.{Val, Cond}
 use Rattle.row_types.specs.declared.aggregate_column.AggregateColumn.{AggregateColumn}
 use Rattle.row_types.specs.Cells.{PlanRow}
 use Rattle.rel_algebra.specs.Tree.{Aggregate}
-use Rattle.rel_algebra.specs.Endings.{Ending, after, among, equal_values}
-use Rattle.rel_algebra.specs.Plan.{Kind, single, exists, member, aggregate, all_or_first, collapse}
-use Rattle.rel_algebra.specs.Plan.{collapse_as, collected, finish_cells, group_rows, grouped}
-use Rattle.rel_algebra.specs.Plan.{kind_width, values_of}
+use Rattle.rel_algebra.specs.Endings.{Ending, after}
+use Rattle.rel_algebra.specs.Plan.{Kind, Scalar, single, exists, member, aggregate, all_or_first}
+use Rattle.rel_algebra.specs.Plan.{collapse, collapse_as, collected, finish_cells, group_rows}
+use Rattle.rel_algebra.specs.Plan.{grouped, kind_width, values_of}
 use Rattle.rel_algebra.specs.PlanView.{aggregates_of}
-use Rattle.plan_exec.specs.declared.received.Received.{Received}
-use Rattle.plan_exec.specs.declared.received.Received.TheVariants.{Rows}
+use Rattle.plan_rows.specs.Subqueries.{exists_end, member_end, single_end}
+use Rattle.plan_nodes.specs.declared.received.Received.{Received}
+use Rattle.plan_nodes.specs.declared.received.Received.TheVariants.{Rows}
 use Rattle.plan_exec.specs.Applying.{aggregate_cells, ended_as}
-use Rattle.plan_exec.specs.Fates.{passed}
-use Rattle.plan_exec.specs.Receiving.{received}
-use Rattle.plan_exec.proofs.Nodes.{none_passed}
-use Rattle.plan_exec.proofs.Paired.{at_place}
-use Rattle.plan_exec.proofs.Receiving.{list_of, list_received, rows_same}
+use Rattle.plan_nodes.specs.Fates.{passed}
+use Rattle.plan_nodes.specs.Receiving.{received}
+use Rattle.plan_nodes.proofs.Laws.{none_passed}
+use Rattle.plan_nodes.proofs.Laws.{list_of, list_received, rows_same}
 use Rattle.plan_exec.proofs.Settled.{told_values}
 
 pub collapse_is : (k : Kind) (c : Cell) (rows : List PlanRow) →
@@ -35,6 +33,24 @@ collapse_is exists c rows = refl
 collapse_is (member s) (Val v) rows = refl
 collapse_is (member s) (Cond a) rows = refl
 collapse_is (aggregate ags) c rows = refl
+
+-- ---- queries inside expressions
+
+pub single_ended : (c : Cell) (end : Ending (List Row)) →
+    single_end end ∷ [] ≡ ended_as single c end
+single_ended c (Ok rs) = refl
+single_ended c (Err a) = refl
+
+pub exists_ended : (c : Cell) (end : Ending (List Row)) →
+    exists_end end ∷ [] ≡ ended_as exists c end
+exists_ended c (Ok rs) = refl
+exists_ended c (Err a) = refl
+
+pub member_ended : (s : Scalar) (c : Cell) (end : Ending (List Row)) →
+    member_end c end ∷ [] ≡ ended_as (member s) c end
+member_ended s (Val v) (Ok rs) = refl
+member_ended s (Val v) (Err a) = refl
+member_ended s (Cond a) end = refl
 
 -- ---- aggregates
 
@@ -118,16 +134,6 @@ all_become f x h k c rows =
     all_turn f x h (collapse k c rows) ∙ ap (λ n. replicate n x) (ap length (collapse_is k c rows) ∙
     end_length k c (collected rows))
 
--- ---- the first value of a row
-
-pub first_some : (row : Row) (v : Value) → slice_get row 0 ≡ Some v → value_at row 0 ≡ v
-first_some [] v h = cc
-first_some (u ∷ row) v h = cc
-
-pub first_none : (row : Row) → slice_get row 0 ≡ None → value_at row 0 ≡ Null
-first_none [] h = refl
-first_none (u ∷ row) h = cc
-
 -- ---- the row of aggregates
 
 one_row : (ags : List (Aggregate × ℕ)) (e : Ending (List Row)) → length (grouped [] ags e) ≡ 1
@@ -154,38 +160,6 @@ module _ (columns : List AggregateColumn) (o : List (List Cell)) (args : List Va
   row_cells_are c n end k h =
       ap (λ m. aggregate_cells m end) k ∙ (ap (aggregate_cells (length columns))
       (h ∙ ap collected row_came) ∙ sym (aggregates_are columns c rows))
-
--- ---- among the first values of rows
-
-module _ (x : Value) (rows : List Row) (i : ℕ) (row : Row) (l : i < length rows)
-    (h : row ≡ slice_index_or rows i row) (c so_far whole : Value)
-    (e : c ≡ equal_values x (value_at row 0))
-    (k : among so_far x (values_of_column 0 (drop i rows)) ≡ whole) where
-  opened : (if is_true c then c else among (if is_null c then c else so_far) x
-      (values_of_column 0 (drop (i + 1) rows))) ≡ whole
-  opened =
-      ap (λ d. if is_true d then d else among (if is_null d then d else so_far) x
-      (values_of_column 0 (drop (i + 1) rows))) e
-      ∙ (ap (λ rs. among so_far x (values_of_column 0 rs)) (sym (at_place rows i row l h)) ∙ k)
-
-  pub among_found : is_true c ≡ true → c ≡ whole
-  among_found t = ap (λ b. if b then c else among (if is_null c then c else so_far) x
-      (values_of_column 0 (drop (i + 1) rows))) (sym t) ∙ opened
-
-  among_next : (b : Bool) → is_true c ≡ false → is_null c ≡ b →
-      among (if b then c else so_far) x (values_of_column 0 (drop (i + 1) rows)) ≡ whole
-  among_next b t n =
-      ap (λ d. among (if d then c else so_far) x (values_of_column 0 (drop (i + 1) rows))) (sym n)
-      ∙ (ap (λ d. if d then c else among (if is_null c then c else so_far) x
-      (values_of_column 0 (drop (i + 1) rows))) (sym t) ∙ opened)
-
-  pub among_unknown : is_true c ≡ false → is_null c ≡ true →
-      among c x (values_of_column 0 (drop (i + 1) rows)) ≡ whole
-  among_unknown t n = among_next true t n
-
-  pub among_further : is_true c ≡ false → is_null c ≡ false →
-      among so_far x (values_of_column 0 (drop (i + 1) rows)) ≡ whole
-  among_further t n = among_next false t n
 
 -- ---- a list that is judged
 

@@ -1,15 +1,9 @@
 pub mod Applying
 pub mod Collapsing
-pub mod Collected
-pub mod Grouped
 pub mod Growing
+pub mod Looked
 pub mod Matching
-pub mod Nodes
 pub mod Opening
-pub mod Paired
-pub mod Picks
-pub mod Read
-pub mod Receiving
 pub mod Settled
 pub mod Stretched
 pub mod Whole

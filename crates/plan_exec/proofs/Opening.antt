@@ -8,7 +8,7 @@ use Rattle.row_types.specs.declared.cell.Cell.{Cell}
 use Rattle.row_types.specs.Cells.{PlanRow, Whole, Poisoned, area_in, row_cells, row_end}
 use Rattle.rel_algebra.specs.Plan.{shown}
 use Rattle.plan_exec.specs.Applying.{has_condition}
-use Rattle.plan_exec.proofs.Collected.{cells_end_is, row_ok}
+use Rattle.plan_rows.proofs.Laws.{cells_end_is, row_ok}
 use Rattle.plan_exec.proofs.Settled.{told_values}
 
 -- its cells stand apart

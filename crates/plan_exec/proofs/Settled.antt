@@ -13,7 +13,7 @@ use Rattle.rel_algebra.specs.Plan.{collected, values_of, shown, shown_rows, fini
 use Rattle.rel_algebra.specs.Plan.{settled_as, settled_then, with_settled, crossed, sorted}
 use Rattle.plan_exec.specs.Answers.{shown_end}
 use Rattle.rel_algebra.specs.Work.{over_pairs}
-use Rattle.plan_exec.specs.Joins.{both_ends, from_end, pairs, pairs_work}
+use Rattle.plan_nodes.specs.Joins.{both_ends, from_end, pairs, pairs_work}
 
 -- cells and rows, told by what they come to
 abbrev ToldCells : List Cell → Ending Row → Type 0

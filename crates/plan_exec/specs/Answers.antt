@@ -6,8 +6,6 @@ use Rattle.rel_algebra.specs.Endings.{Ending, after}
 use Rattle.rel_algebra.specs.Plan.{shown_rows}
 use Rattle.plan_exec.specs.declared.collecting.Answer.{Answer}
 use Rattle.plan_exec.specs.declared.collecting.Answer.TheVariants as answer
-use Rattle.plan_exec.specs.declared.collecting.Values.{Values}
-use Rattle.plan_exec.specs.declared.collecting.Values.TheVariants as values
 
 -- the rows, or the area
 abbrev pub answer_end : Answer → Ending (List PlanRow)
@@ -17,8 +15,3 @@ answer_end (answer.Raised area) = Err area
 -- rows of values as rows of a plan
 abbrev pub shown_end : Ending (List Row) → Ending (List PlanRow)
 shown_end end = after end (λ rows. Ok (shown_rows rows))
-
--- the values of the rows, or the area
-abbrev pub values_end : Values → Ending (List Row)
-values_end (values.Rows rows) = Ok rows
-values_end (values.Raised area) = Err area

@@ -1,9 +1,3 @@
 pub mod Answers
 pub mod Applying
-pub mod Examples
-pub mod Fates
-pub mod Grouping
-pub mod Joins
 pub mod Passing
-pub mod Receiving
-pub mod Ways

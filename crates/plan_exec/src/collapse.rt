@@ -1,33 +1,27 @@
 //! What an Apply makes of the rows of its inner plan, each of which has come before it is judged.
 
-ghost use Rattle.std.specs.Prelude.{◌≡◌, ◌+◌, ◌≤◌, ◌++◌, [], ◌∷◌, true, false, List, None, length};
-ghost use Rattle.std.specs.Prelude.{map, replicate, IfOk, IfSome, OnOk};
-ghost use Rattle.sql_values.specs.declared.value.Value.TheVariants.{Bool as TruthValue};
+ghost use Rattle.std.specs.Prelude.{◌≡◌, ◌+◌, ◌≤◌, ◌++◌, [], ◌∷◌, true, List, None, length, map};
+ghost use Rattle.std.specs.Prelude.{replicate, IfOk, IfSome, OnOk};
 ghost use Rattle.row_types.specs.declared.cell.Cell.{Cell as PlainCell};
 ghost use Rattle.row_types.specs.declared.cell.Cell.TheVariants.{Val};
 ghost use Rattle.row_types.specs.Cells.{PlanRow};
-ghost use Rattle.row_types.specs.Groups.{value_at, values_of_column};
 ghost use Rattle.row_types.specs.OuterRows.{outer_rows};
-ghost use Rattle.rel_algebra.specs.Endings.{among as among_by, cell_end, equal_values};
-ghost use Rattle.rel_algebra.specs.Joins.{single_of};
 ghost use Rattle.rel_algebra.specs.Plan.{applied, collapse, collected, kind_width};
 ghost use Rattle.rel_algebra.specs.Plan.{member_cell as member_by};
 ghost use Rattle.rel_algebra.specs.PlanView.{kind_of};
 ghost use Rattle.plan_scalars.specs.Sights.{sight_of};
-ghost use Rattle.plan_exec.specs.Answers.{values_end};
+ghost use Rattle.plan_rows.specs.Firsts.{values_end};
 ghost use Rattle.plan_exec.specs.Applying.{aggregate_cells, ended_as};
-ghost use Rattle.plan_exec.specs.Receiving.{is_list, nothing_of, nothing_wanted};
-ghost use Rattle.plan_exec.specs.Receiving.{received as received_by};
+ghost use Rattle.plan_nodes.specs.Receiving.{is_list, nothing_of, nothing_wanted};
+ghost use Rattle.plan_nodes.specs.Receiving.{received as received_by};
 
-use crate::collecting::{Values, collect_values};
-use crate::groups::grouped_passed;
-use crate::received::{Received, Wanted};
-use plan_scalars::{eval_on, is_true};
+use plan_nodes::{Received, Wanted, grouped_passed};
+use plan_rows::{Values, among_cell, collect_values, exists_cell, is_true, single_cell};
+use plan_scalars::eval_on;
 use rel_algebra::ApplyKind;
-use row_types::{Cell, Outer, Row, RowInSight, RowList, Steps, copied_cell};
-use sql_conditions::{Area, Condition, EngineCondition};
-use sql_values::{Comparison, NoMemory, Value};
-use sqlite_items::{Boxed, Items};
+use row_types::{Cell, Outer, RowInSight, RowList, Steps, copied_cell};
+use sql_values::{NoMemory, Value};
+use sqlite_items::Boxed;
 use std::alloc::Global;
 use std::sync::ledger::Ledger;
 
@@ -145,8 +139,7 @@ fn add_judged<L: Ledger>(
         member (collected rows)) }
     ensures work { steps.new ≤ steps.old + length rows }
 {
-    let values = collect_values(alloc, rows, steps)?;
-    cells.push(judged(alloc, kind, member, values)?)?;
+    cells.push(judged(alloc, kind, member, rows, steps)?)?;
     Ok(())
 }
 
@@ -182,80 +175,23 @@ fn add_values(cells: &mut Vec<Cell>, values: &[Value]) -> Result<(), NoMemory>
     Ok(())
 }
 
-// The one cell that a kind makes of what the rows of an inner plan come to.
-fn judged(alloc: Global, kind: &ApplyKind, member: Cell, values: Values) -> Result<Cell, NoMemory>
+// The one cell that a kind makes of a list. Each row of it is a step.
+#[tactic(auto, using(crate::proofs::Collapsing::single_ended, crate::proofs::Collapsing::exists_ended, crate::proofs::Collapsing::member_ended, std::proofs::lemmas::Grind::common_steps))]
+fn judged<L: Ledger>(
+    alloc: Global,
+    kind: &ApplyKind,
+    member: Cell,
+    rows: RowList,
+    steps: &mut Steps<L>,
+) -> Result<Cell, NoMemory>
     requires { is_list (nothing_of kind.now) ≡ true }
-    ensures { IfOk result (λ c. c ∷ [] ≡ ended_as (kind_of kind.now) member (values_end values)) }
+    ensures cell { IfOk result (λ c. c ∷ [] ≡ ended_as (kind_of kind.now) member (collected rows)) }
+    ensures work { steps.new ≤ steps.old + length rows }
 {
-    let looked_for = match kind {
-        ApplyKind::Member(_) => match member {
-            Cell::Val(value) => value,
-            Cell::Cond(area) => return Ok(Cell::Cond(area)),
-        },
-        _ => Value::Null,
-    };
-    let rows = match values {
-        Values::Rows(rows) => rows,
-        Values::Raised(area) => return Ok(Cell::Cond(Boxed::new(alloc, area)?)),
-    };
     match kind {
-        ApplyKind::Single => single(alloc, rows),
-        ApplyKind::Exists => Ok(Cell::Val(Value::Bool(rows.len() > 0))),
-        ApplyKind::Member(_) => Ok(Cell::Val(among_rows(&looked_for, rows.as_slice()))),
+        ApplyKind::Single => single_cell(alloc, rows, steps),
+        ApplyKind::Exists => exists_cell(alloc, rows, steps),
+        ApplyKind::Member(_) => among_cell(alloc, member, rows, steps),
         ApplyKind::Aggregate(_) => unreachable!(),
-    }
-}
-
-// The first value of the one row that there is; of none NULL, and of several the condition 21000.
-fn single(alloc: Global, rows: Items<Row>) -> Result<Cell, NoMemory>
-    ensures { IfOk result (λ c. c ≡ cell_end (single_of rows)) }
-{
-    if rows.len() > 1 {
-        let area = Area::of(Condition::of(EngineCondition::SeveralRows));
-        return Ok(Cell::Cond(Boxed::new(alloc, area)?));
-    }
-    match rows.get(0) {
-        Some(row) => Ok(Cell::Val(first_value(row)?)),
-        None => Ok(Cell::Val(Value::Null)),
-    }
-}
-
-// The first value of a row; NULL of a row without values.
-#[tactic(auto, using(crate::proofs::Collapsing::first_some, crate::proofs::Collapsing::first_none, std::proofs::lemmas::Grind::common_steps))]
-fn first_value(row: &Row) -> Result<Value, NoMemory>
-    ensures { IfOk result (λ v. v ≡ value_at row.now 0) }
-{
-    match row.get(0) {
-        Some(value) => Ok(value.copied()?),
-        None => Ok(Value::Null),
-    }
-}
-
-// Whether a value is the first one of some row: TRUE where it is, else NULL where a comparison is
-// unknown, else FALSE.
-fn among_rows(value: &Value, rows: &[Row]) -> Value
-    ensures { result ≡ among_by (TruthValue false) value.now (values_of_column 0 rows.now) }
-{
-    let mut so_far = Value::Bool(false);
-    for row in rows {
-        let equal = equal_first(value, row);
-        if is_true(&equal) {
-            return equal;
-        }
-        if equal.is_null() {
-            so_far = equal;
-        }
-    }
-    so_far
-}
-
-// Whether a value equals the first one of a row.
-#[tactic(auto, using(crate::proofs::Collapsing::first_some, crate::proofs::Collapsing::first_none, std::proofs::lemmas::Grind::common_steps))]
-fn equal_first(value: &Value, row: &Row) -> Value
-    ensures { result ≡ equal_values value.now (value_at row.now 0) }
-{
-    match row.get(0) {
-        Some(first) => Comparison::Equals.of(value, first),
-        None => Comparison::Equals.of(value, &Value::Null),
     }
 }

@@ -2,13 +2,11 @@
 
 ghost use Rattle.std.specs.Prelude.{◌≡◌, ◌+◌, ◌≤◌, length, IfOk};
 ghost use Rattle.rel_algebra.specs.Plan.{collected};
-ghost use Rattle.plan_exec.specs.Answers.{answer_end, shown_end, values_end};
+ghost use Rattle.plan_exec.specs.Answers.{answer_end, shown_end};
 
-use row_types::{Row, RowEnd, RowList, Steps};
+use row_types::{RowList, Steps};
 use sql_conditions::Area;
 use sql_values::NoMemory;
-use sqlite_items::Items;
-use std::alloc::Global;
 use std::sync::ledger::Ledger;
 
 /// What the rows of a plan come to.
@@ -33,36 +31,4 @@ pub fn collect<L: Ledger>(rows: RowList, steps: &mut Steps<L>) -> Result<Answer,
         }
     }
     Ok(Answer::Rows(rows))
-}
-
-/// What the rows of a plan come to, as rows of values.
-#[derive(Drop)]
-pub enum Values {
-    /// The values of the rows.
-    Rows(Items<Row>),
-    /// The first area.
-    Raised(Area),
-}
-
-/// The values of the rows, where none of them has an area, and else the first area. A row that was
-/// made of values is handed on as it lies. Each row that is taken is a step.
-pub fn collect_values<L: Ledger>(
-    alloc: Global,
-    rows: RowList,
-    steps: &mut Steps<L>,
-) -> Result<Values, NoMemory>
-    ensures values { IfOk result (λ v. values_end v ≡ collected rows) }
-    ensures work { steps.new ≤ steps.old + length rows }
-{
-    let mut left = rows;
-    let mut values = Items::from_vec(Vec::with_capacity(alloc, left.len())?);
-    while left.len() > 0 {
-        if let Some(row) = left.take_first(steps) {
-            match row.into_end(alloc)? {
-                RowEnd::Values(row) => values.push(row)?,
-                RowEnd::Raised(area) => return Ok(Values::Raised(area.into_inner())),
-            }
-        }
-    }
-    Ok(Values::Rows(values))
 }

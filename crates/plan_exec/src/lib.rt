@@ -3,20 +3,11 @@
 
 mod collapse;
 mod collecting;
-mod ends;
-mod groups;
-mod last;
-mod leaves;
-mod lists;
 mod opened;
 mod outer;
-mod pairs;
-mod pass;
-mod received;
 mod running;
-mod scratch;
-mod sides;
-mod stretches;
+mod settling;
 
-pub use collecting::{Answer, Values, collect, collect_values};
+pub use collecting::{Answer, collect};
+pub use plan_rows::{Values, collect_values};
 pub use running::execute;

@@ -3,8 +3,8 @@
 ghost use Rattle.std.specs.Prelude.{◌≡◌, ◌++◌, IfOk, OnOk};
 ghost use Rattle.plan_exec.specs.Applying.{has_condition as has_condition_by, opened_row};
 
-use crate::scratch::Scratch;
-use plan_scalars::own_cell;
+use plan_nodes::Scratch;
+use plan_rows::own_cell;
 use row_types::{Cell, PlanRow, Row, RowEnd, RowInSight};
 use sql_conditions::Area;
 use sql_values::NoMemory;

@@ -1,10 +1,9 @@
 -- Queries inside expressions.
 use Rattle.std.proofs.Common.{ℕ, zero, suc, IsTrue, ◌<◌, ◌≤◌, ◌≡◌, ◌+◌, ◌∷◌, [], List, Option, Some}
 use Rattle.std.proofs.Common.{None, Bool, true, false, length, map, refl, sym, ap, ◌∙◌, subst}
-use Rattle.std.proofs.Common.{arith}
+use Rattle.std.proofs.Common.{arith, Result, IfOk}
 use Rattle.sql_values.specs.declared.value.Value.TheVariants.{Bool as Truth}
 use Rattle.bound_trees.specs.declared.expr.BoundExpr.{BoundExpr}
-use Rattle.bound_trees.specs.declared.expr.BoundExpr.TheVariants as bound
 use Rattle.bound_trees.specs.declared.query.BoundFromItem.{BoundFromItem}
 use Rattle.bound_trees.specs.declared.query.BoundGrouping.{BoundGrouping}
 use Rattle.bound_trees.specs.declared.query.BoundQuery.{BoundQuery}
@@ -25,19 +24,19 @@ use Rattle.rel_algebra.specs.Emit.{emit, emit_all, plan, from_plan}
 use Rattle.catalog_store.specs.Catalog.{Catalog}
 use Rattle.catalog_store.specs.View.{exprs_of, from_of, item_of, query_of, select_of, tree_of}
 use Rattle.catalog_store.specs.Widths.{width_in}
-use Rattle.catalog_store.proofs.Laws.{tree_of-Single, tree_of-Exists, tree_of-In, query_of-Select}
-use Rattle.catalog_store.proofs.Laws.{query_of-Values, query_of-Ordered}
+use Rattle.catalog_store.proofs.Laws.{query_of-Select, query_of-Values, query_of-Ordered}
 use Rattle.plan_expressions.specs.declared.asked.Asked.{Asked}
 use Rattle.plan_expressions.specs.declared.asked.Asked.TheVariants as asked
 use Rattle.plan_expressions.specs.Asking.{asked_by, answered_by}
 use Rattle.plan_expressions.specs.declared.draft.Draft.{Draft}
 use Rattle.plan_expressions.specs.Drafts.{drafted}
 use Rattle.plan_expressions.specs.Emission.{Emits, EmitsAll}
-use Rattle.plan_expressions.proofs.Laws.{on_each-joined, width-joined}
-use Rattle.plan_queries.specs.Folding.{is_fold, folds, fold_list, EmitsFolded}
-use Rattle.plan_queries.specs.Grouping.{selected_rows}
-use Rattle.plan_queries.specs.Joining.{IsFrom}
-use Rattle.plan_queries.proofs.Queries.{select_of-grouped, select_of-ungrouped}
+use Rattle.plan_expressions.proofs.Laws.{on_each-joined, width-joined, if_ok}
+use Rattle.plan_drafts.specs.Folding.{is_fold, folds}
+use Rattle.plan_drafts.specs.Joining.{IsFrom}
+use Rattle.plan_drafts.proofs.Laws.{numbered-long, select_of-grouped, select_of-ungrouped}
+use Rattle.plan_queries.specs.Folding.{fold_list, EmitsFolded}
+use Rattle.plan_queries.specs.Selecting.{selected_rows}
 
 -- ---- what is asked
 
@@ -128,46 +127,56 @@ member_emits (Some c) a inner start now new sought s first second =
           (more (first.scalar j) (more (b (first.columns j)).scalar none)));
     }
 
--- ---- the same of bound expressions
+-- ---- the same of results
 
 abbrev pub asking : Catalog → Env → Asked → BoundQuery → ℕ → Emitted
 asking k e a q n = asked_by a (folded (query_of k q) (width_in k) e)
     (plan (query_of k q) (width_in k) e) n
 
-pub single_bound : (k : Catalog) (expr : BoundExpr) (q b : BoundQuery) (e : Env) (start new : Draft)
-    (s : Scalar) → expr ≡ bound.Single q → b ≡ q →
-    Emits start new s (asking k e asked.Single b (drafted start).width) →
-    Emits start new s (emit (tree_of k expr) (width_in k) e (drafted start).width)
-single_bound k expr q b e start new s is same d =
-    let tree : Single (query_of k b) ≡ tree_of k expr =
-    ap (λ (y : BoundQuery). Single (query_of k y)) same ∙ sym (tree_of-Single k q) ∙
-    ap (tree_of k) (sym is) in
-    subst (λ t. Emits start new s (emit t (width_in k) e (drafted start).width)) tree d
+-- of a query that is folded
+pub answer_emits : {B : Type 0} → (k : Catalog) (e : Env) (a : Asked) (q : BoundQuery)
+    (o : Option (List ScalarCode)) (list : List ScalarCode) (old new : Draft) (n : ℕ)
+    (r : Result ScalarCode B) → o ≡ Some list →
+    EmitsFolded old new o (folded (query_of k q) (width_in k) e) → n ≡ (drafted old).width →
+    IfOk r (λ s. scalar_of s ≡ answered_by a n (scalars_of list)) →
+    IfOk r (λ s. Emits old new (scalar_of s) (asking k e a q (drafted old).width))
+answer_emits k e a q o list old new n r is d at made =
+    if_ok r (λ s. scalar_of s ≡ answered_by a n (scalars_of list))
+    (λ s. Emits old new (scalar_of s) (asking k e a q (drafted old).width)) made
+    (λ s answer. folded_asked a o list (folded (query_of k q) (width_in k) e)
+    (plan (query_of k q) (width_in k) e) old new (scalar_of s) n is d at answer)
 
-pub exists_bound : (k : Catalog) (expr : BoundExpr) (q b : BoundQuery) (e : Env) (start new : Draft)
-    (s : Scalar) → expr ≡ bound.Exists q → b ≡ q →
-    Emits start new s (asking k e asked.Exists b (drafted start).width) →
-    Emits start new s (emit (tree_of k expr) (width_in k) e (drafted start).width)
-exists_bound k expr q b e start new s is same d =
-    let tree : Exists (query_of k b) ≡ tree_of k expr =
-    ap (λ (y : BoundQuery). Exists (query_of k y)) same ∙ sym (tree_of-Exists k q) ∙
-    ap (tree_of k) (sym is) in
-    subst (λ t. Emits start new s (emit t (width_in k) e (drafted start).width)) tree d
+-- of another one
+pub ask_emits : {B : Type 0} → (k : Catalog) (e : Env) (a : Asked) (q : BoundQuery)
+    (o : Option (List ScalarCode)) (made : PlanTree) (old mid new : Draft)
+    (r : Result ScalarCode B) → o ≡ None →
+    EmitsFolded old mid o (folded (query_of k q) (width_in k) e) →
+    made ≡ plan (query_of k q) (width_in k) e →
+    IfOk r (λ s. Emits mid new (scalar_of s) (asked_by a None made (drafted mid).width)) →
+    IfOk r (λ s. Emits old new (scalar_of s) (asking k e a q (drafted old).width))
+ask_emits k e a q o made old mid new r is d p emitted =
+    if_ok r (λ s. Emits mid new (scalar_of s) (asked_by a None made (drafted mid).width))
+    (λ s. Emits old new (scalar_of s) (asking k e a q (drafted old).width)) emitted
+    (λ s h. plan_asked a o (folded (query_of k q) (width_in k) e)
+    (plan (query_of k q) (width_in k) e) made old mid new (scalar_of s) is d p h)
 
-pub in_bound : (k : Catalog) (expr l a : BoundExpr) (q b : BoundQuery) (e : Env)
-    (start now new : Draft) (sought : ScalarCode) (s : Scalar) → expr ≡ bound.In l q → a ≡ l →
-    b ≡ q →
-    Emits start now (scalar_of sought) (emit (tree_of k a) (width_in k) e (drafted start).width) →
-    Emits now new s (asking k e (asked.Member sought) b (drafted now).width) →
-    Emits start new s (emit (tree_of k expr) (width_in k) e (drafted start).width)
-in_bound k expr l a q b e start now new sought s is left same first second =
-    let tree : In (tree_of k a) (query_of k b) ≡ tree_of k expr =
-    (λ j. In (tree_of k (left j)) (query_of k (same j))) ∙ sym (tree_of-In k l q) ∙
-    ap (tree_of k) (sym is) in
-    subst (λ t. Emits start new s (emit t (width_in k) e (drafted start).width)) tree
-    (member_emits (folded (query_of k b) (width_in k) e)
-    (emit (tree_of k a) (width_in k) e (drafted start).width)
-    (plan (query_of k b) (width_in k) e) start now new (scalar_of sought) s first second)
+-- IN: the value that is sought first
+pub in_emits : {B : Type 0} → (k : Catalog) (e : Env) (x : BoundExpr) (q : BoundQuery)
+    (start now new : Draft) (sought : ScalarCode) (r : Result ScalarCode B) →
+    Emits start now (scalar_of sought) (emit (tree_of k x) (width_in k) e (drafted start).width) →
+    IfOk r (λ s. Emits now new (scalar_of s) (asking k e (asked.Member sought) q
+    (drafted now).width)) →
+    IfOk r (λ s. Emits start new (scalar_of s) (emit (In (tree_of k x) (query_of k q)) (width_in k)
+    e (drafted start).width))
+in_emits k e x q start now new sought r first made =
+    if_ok r (λ s. Emits now new (scalar_of s) (asking k e (asked.Member sought) q
+    (drafted now).width))
+    (λ s. Emits start new (scalar_of s) (emit (In (tree_of k x) (query_of k q)) (width_in k) e
+    (drafted start).width)) made
+    (λ s second. member_emits (folded (query_of k q) (width_in k) e)
+    (emit (tree_of k x) (width_in k) e (drafted start).width)
+    (plan (query_of k q) (width_in k) e) start now new (scalar_of sought) (scalar_of s) first
+    second)
 
 -- ---- which queries are folded
 
@@ -210,10 +219,6 @@ pub none_emitted : (old new : Draft) (f : Option Folded) → drafted new ≡ dra
     EmitsFolded old new None f
 none_emitted old new f same h = subst (λ (g : Option Folded). EmitsFolded old new None g)
     (sym h) same
-
-pub numbered-long : (i : ℕ) (ags : List Aggregate) → length (numbered i ags) ≡ length ags
-numbered-long i [] = refl
-numbered-long i (a ∷ ags) = ap suc (numbered-long (suc i) ags)
 
 -- what is folded of a select
 abbrev pub fold_of : From → Exprs → Exprs → List Aggregate → Exprs → (List ℕ → ℕ) → Env → PlanTree →
@@ -291,25 +296,3 @@ fold_emits k s g e within from parts tests items aggregates rows input old appli
       columns = d.columns ∙ (λ j. width (same j).nodes (wide_is j)) ∙ ap (width c.nodes) (sym long);
       scalars = d.scalars ∙ ap (λ y. y.scalars) same;
     })
-
--- ---- whether a query is folded
-
-pub keyed : (keys : ℕ) (ags : List Aggregate) (having : List BoundExpr) → 0 < keys →
-    false ≡ is_fold keys ags having
-keyed zero ags having h = absurd (omega (arith, h))
-keyed (suc n) ags having h = refl
-
-pub without_aggregates : (keys : ℕ) (ags : List Aggregate) (having : List BoundExpr) → ags ≡ [] →
-    false ≡ is_fold keys ags having
-without_aggregates zero [] having h = refl
-without_aggregates (suc n) [] having h = refl
-without_aggregates keys (a ∷ ags) having h = absurd (let never = h in cc)
-
-pub by_having : (keys : ℕ) (ags : List Aggregate) (having : List BoundExpr) (b : Bool) → keys ≤ 0 →
-    ¬ (ags ≡ []) → (IsTrue b → having ≡ []) → (having ≡ [] → IsTrue b) → b ≡ is_fold keys ags having
-by_having zero [] having b k some f g = absurd (some refl)
-by_having zero (a ∷ ags) [] true k some f g = refl
-by_having zero (a ∷ ags) [] false k some f g = absurd (let never = g refl in cc)
-by_having zero (a ∷ ags) (x ∷ having) true k some f g = absurd (let never = f refl in cc)
-by_having zero (a ∷ ags) (x ∷ having) false k some f g = refl
-by_having (suc n) ags having b k some f g = absurd (omega (arith, k))

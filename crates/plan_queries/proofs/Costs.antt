@@ -24,8 +24,8 @@ use Rattle.catalog_store.proofs.Laws.{query_of-Select, query_of-Values, query_of
 use Rattle.catalog_store.proofs.Laws.{source_of-Derived, item_of-Comma, item_of-Cross}
 use Rattle.catalog_store.proofs.Laws.{item_of-Inner, item_of-Left}
 use Rattle.plan_queries.specs.Cost.{cost, costs, rows_cost, from_cost, query_cost, joining_cost}
-use Rattle.plan_queries.specs.Cost.{joinings_cost, items_cost}
-use Rattle.plan_queries.proofs.Queries.{select_of-grouped, select_of-ungrouped}
+use Rattle.plan_queries.specs.Cost.{joinings_cost, items_cost, grouping_cost}
+use Rattle.plan_drafts.proofs.Laws.{select_of-grouped, select_of-ungrouped}
 
 pub expr_small : (k : Catalog) (es : List BoundExpr) (i : ℕ) (x : BoundExpr) → i < length es →
     x ≡ get_or es i x → cost (tree_of k x) < costs (exprs_of k es)
@@ -113,10 +113,10 @@ cost-Exists k x q b is same = ap (λ y. cost (tree_of k y)) is ∙ ap cost (tree
     ap (λ (y : BoundQuery). query_cost (query_of k y) + 3) (sym same)
 
 pub cost-In : (k : Catalog) (x l a : BoundExpr) (q b : BoundQuery) → x ≡ bound.In l q → a ≡ l →
-    b ≡ q → cost (tree_of k x) ≡ cost (tree_of k a) + query_cost (query_of k b) + 3
+    b ≡ q → cost (tree_of k x) ≡ cost (tree_of k a) + query_cost (query_of k b) + 4
 cost-In k x l a q b is one same =
     ap (λ y. cost (tree_of k y)) is ∙ ap cost (tree_of-In k l q) ∙
-    (λ j. cost (tree_of k (sym one j)) + query_cost (query_of k (sym same j)) + 3)
+    (λ j. cost (tree_of k (sym one j)) + query_cost (query_of k (sym same j)) + 4)
 
 pub cost-Ordered : (k : Catalog) (x q b : BoundQuery) (keys : List SortKey) →
     x ≡ query.Ordered q keys → b ≡ q → query_cost (query_of k x) ≡ query_cost (query_of k b) + 1
@@ -125,10 +125,10 @@ cost-Ordered k x q b keys is same =
     ap (λ (y : BoundQuery). query_cost (query_of k y) + 1) (sym same)
 
 pub cost-Values : (k : Catalog) (x : BoundQuery) (rs ss : List BoundRow) → x ≡ query.Values rs →
-    ss ≡ rs → query_cost (query_of k x) ≡ rows_cost (rows_of k ss) + 1
+    ss ≡ rs → query_cost (query_of k x) ≡ rows_cost (rows_of k ss) + 3
 cost-Values k x rs ss is same =
     ap (λ y. query_cost (query_of k y)) is ∙ ap query_cost (query_of-Values k rs) ∙
-    ap (λ (y : List BoundRow). rows_cost (rows_of k y) + 1) (sym same)
+    ap (λ (y : List BoundRow). rows_cost (rows_of k y) + 3) (sym same)
 
 pub cost-Derived : (k : Catalog) (x : BoundSource) (q b : BoundQuery) → x ≡ source.Derived q →
     b ≡ q → from_cost (source_of k x) ≡ query_cost (query_of k b) + 2
@@ -138,30 +138,30 @@ cost-Derived k x q b is same =
 
 pub cost-Inner : (k : Catalog) (x : BoundFromItem) (f : BoundSource) (on es : List BoundExpr) →
     x ≡ item.Inner f on → es ≡ on → joining_cost (item_of k x) ≡ from_cost (source_of k f) + costs
-    (exprs_of k es) + 2
+    (exprs_of k es) + 4
 cost-Inner k x f on es is same =
     ap (λ y. joining_cost (item_of k y)) is ∙ ap joining_cost (item_of-Inner k f on) ∙
-    ap (λ (y : List BoundExpr). from_cost (source_of k f) + costs (exprs_of k y) + 2) (sym same)
+    ap (λ (y : List BoundExpr). from_cost (source_of k f) + costs (exprs_of k y) + 4) (sym same)
 
 pub cost-Left : (k : Catalog) (x : BoundFromItem) (f : BoundSource) (on es : List BoundExpr) →
     x ≡ item.Left f on → es ≡ on → joining_cost (item_of k x) ≡ from_cost (source_of k f) + costs
-    (exprs_of k es) + 2
+    (exprs_of k es) + 4
 cost-Left k x f on es is same =
     ap (λ y. joining_cost (item_of k y)) is ∙ ap joining_cost (item_of-Left k f on) ∙
-    ap (λ (y : List BoundExpr). from_cost (source_of k f) + costs (exprs_of k y) + 2) (sym same)
+    ap (λ (y : List BoundExpr). from_cost (source_of k f) + costs (exprs_of k y) + 4) (sym same)
 
 pub cost-grouped : (k : Catalog) (s : BoundSelect) (g : BoundGrouping) →
     (out-BoundSelect s).grouping ≡ Some g →
     query_cost (select_of k s) ≡ costs (exprs_of k g.parts) + costs
     (exprs_of k (out-BoundSelect s).conjuncts) + costs (exprs_of k g.having) + costs
     (exprs_of k (out-BoundSelect s).items) + from_cost
-    (from_of (map (item_of k) (out-BoundSelect s).from)) + 2
+    (from_of (map (item_of k) (out-BoundSelect s).from)) + 4
 cost-grouped k s g h = ap query_cost (select_of-grouped k s g h)
 
 pub cost-ungrouped : (k : Catalog) (s : BoundSelect) → (out-BoundSelect s).grouping ≡ None →
     query_cost (select_of k s) ≡ costs (exprs_of k (out-BoundSelect s).items) + costs
     (exprs_of k (out-BoundSelect s).conjuncts) + from_cost
-    (from_of (map (item_of k) (out-BoundSelect s).from)) + 2
+    (from_of (map (item_of k) (out-BoundSelect s).from)) + 4
 cost-ungrouped k s h = ap query_cost (select_of-ungrouped k s h)
 
 -- of any select FROM is a part
@@ -180,3 +180,37 @@ cost-from k s from f = by (out-BoundSelect s).grouping refl
         items_cost (map (item_of k) from) + 1 < query_cost (select_of k s)
     by None h = omega (arith, small, cost-ungrouped k s h)
     by (Some g) h = omega (arith, small, cost-grouped k s g h)
+
+-- and its list, its conjuncts and its groups are
+pub cost-over : (k : Catalog) (s : BoundSelect) (o : Option BoundGrouping)
+    (items tests : List BoundExpr) → o ≡ (out-BoundSelect s).grouping →
+    items ≡ (out-BoundSelect s).items → tests ≡ (out-BoundSelect s).conjuncts →
+    costs (exprs_of k items) + costs (exprs_of k tests) + grouping_cost k o + 3 < query_cost
+    (select_of k s)
+cost-over k s o items tests is i c =
+    subst (λ (q : Option BoundGrouping). costs (exprs_of k items) + costs (exprs_of k tests) +
+    grouping_cost k q + 3 < query_cost (select_of k s)) (sym is)
+    (by (out-BoundSelect s).grouping refl)
+  where
+    by : (q : Option BoundGrouping) → (out-BoundSelect s).grouping ≡ q →
+        costs (exprs_of k items) + costs (exprs_of k tests) + grouping_cost k q + 3 < query_cost
+        (select_of k s)
+    by None h = omega (
+      arith,
+      cost-ungrouped k s h,
+      ap (λ (es : List BoundExpr). costs (exprs_of k es)) i,
+      ap (λ (es : List BoundExpr). costs (exprs_of k es)) c,
+    )
+    by (Some g) h = omega (
+      arith,
+      cost-grouped k s g h,
+      ap (λ (es : List BoundExpr). costs (exprs_of k es)) i,
+      ap (λ (es : List BoundExpr). costs (exprs_of k es)) c,
+    )
+
+-- the source of an item is less than the item
+pub itself_small : (i : Joining) → from_cost (itself i) < joining_cost i
+itself_small (after_comma f) = omega arith
+itself_small (crossing f) = omega arith
+itself_small (matching f on) = omega arith
+itself_small (matching_or_nulls f on) = omega arith

@@ -1,26 +1,29 @@
 -- Emissions one after the other.
 use Rattle.std.proofs.Common.{ℕ, ◌≡◌, true, false, slice_index_or, take, take_all, ◌-◌, suc}
 use Rattle.std.proofs.Common.{if◌then◌else◌, ◌<◌, ◌≤◌, ◌+◌, ◌∷◌, [], ◌++◌, List, map, length, drop}
-use Rattle.std.proofs.Common.{get_or, refl, sym, ap, ◌∙◌, subst, arith}
+use Rattle.std.proofs.Common.{get_or, Result, IfOk, refl, sym, ap, ◌∙◌, subst, arith}
 use Rattle.std.proofs.lemmas.List.{drop_all}
 use Rattle.std.proofs.lemmas.Bool.{leb-true}
 use Rattle.bound_trees.specs.declared.expr.BoundExpr.{BoundExpr}
-use Rattle.bound_trees.specs.declared.expr.BoundExpr.TheVariants.{Chain as BoundChain, Operation}
 use Rattle.bound_trees.specs.declared.expr.BoundOperation.{BoundOperation}
 use Rattle.bound_trees.specs.declared.expr.BoundOperation.TheVariants.{CaseOf}
 use Rattle.bound_trees.specs.Operands.{takes}
 use Rattle.bound_trees.specs.declared.expr.BoundLink.{BoundLink}
-use Rattle.catalog_store.specs.Catalog.{Catalog}
+use Rattle.catalog_store.specs.Catalog.{Catalog, routine_named}
 use Rattle.catalog_store.specs.View.{Standing, over_all, as_and, as_or, as_coalesce, as_case}
 use Rattle.catalog_store.specs.View.{as_case_of, standing, stood, case_of, exprs, tree_of, exprs_of}
+use Rattle.catalog_store.specs.View.{operated}
 use Rattle.catalog_store.specs.View.{links_of}
 use Rattle.rel_algebra.specs.declared.scalar.Scalar.{Scalar as ScalarCode}
 use Rattle.rel_algebra.specs.declared.scalar.ScalarLink.{ScalarLink as LinkCode}
 use Rattle.sql_values.specs.declared.value.SqlType.{SqlType}
 use Rattle.sql_values.specs.declared.value.Value.TheVariants.{Null}
 use Rattle.rel_algebra.specs.Tree.{Arithmetic, Expr, Literal, Chain, Call, Exprs, Routine, Links}
-use Rattle.rel_algebra.specs.Tree.{NoLink, MoreLinks, parameters_of}
-use Rattle.rel_algebra.specs.Plan.{strict, case_word, Scalar, word, Scalars, none, more, PlanTree}
+use Rattle.rel_algebra.specs.Tree.{NoLink, MoreLinks, parameters_of, Column, Variable, Operate, And}
+use Rattle.rel_algebra.specs.Tree.{Or, Case, CaseOf as CaseOfTree, Coalesce, In, Exists, Single}
+use Rattle.rel_algebra.specs.Tree.{CallSelf}
+use Rattle.rel_algebra.specs.Plan.{Word, strict, case_word, Scalar, word, Scalars, none, more}
+use Rattle.rel_algebra.specs.Plan.{PlanTree}
 use Rattle.rel_algebra.specs.Plan.{extend_by, extend, on_each}
 use Rattle.rel_algebra.specs.PlanView.{Link, chained, scalar_of, scalars_of, link_of}
 use Rattle.rel_algebra.specs.Emit.{Env, Emitted, EmittedAll, plain, first_and, word_on, singly}
@@ -33,13 +36,12 @@ use Rattle.plan_expressions.specs.Emission.{Emits, EmitsAll, put, guarded}
 use Rattle.plan_expressions.specs.Words.{word_by, word_of}
 use Rattle.plan_queries.specs.Cost.{cost, costs, links_cost}
 use Rattle.catalog_store.specs.Widths.{width_in}
-use Rattle.catalog_store.proofs.Laws.{tree_of-Operation, tree_of-Chain}
 use Rattle.catalog_store.proofs.Laws.{link_of-parts as bound_link-parts}
 use Rattle.plan_expressions.proofs.Laws.{on_each-joined, width-joined, joined-joined}
 use Rattle.plan_expressions.proofs.Laws.{joined-nothing, rest, drop-next, put-none, put-append}
 use Rattle.plan_expressions.proofs.Laws.{scalars-counted, map-last, guarded-values, scalar_of-Chain}
-use Rattle.plan_expressions.proofs.Laws.{link_of-parts, length-map, scalar_of-Constant}
-use Rattle.rel_algebra.specs.declared.scalar.Scalar.TheVariants.{Chain as ChainCode, Constant}
+use Rattle.plan_expressions.proofs.Laws.{link_of-parts, length-map, scalar_of-Constant, if_ok}
+use Rattle.rel_algebra.specs.declared.scalar.Scalar.TheVariants.{Constant}
 
 -- ---- the second on the row that the first leaves
 
@@ -212,17 +214,10 @@ pub record Chaining (k : Catalog) (e : Env) (ls : List BoundLink) (i : ℕ) (sta
   pub scalar : (emit_links (links_of k (drop i ls)) (plain (chained first (map link_of front)))
       (width_in k) e (drafted now).width).scalar
       ≡ (emit_links (links_of k ls) (plain first) (width_in k) e (drafted start).width).scalar
-  pub small : links_cost (links_of k (drop i ls)) ≤ links_cost (links_of k ls)
 
 pub chaining_first : (k : Catalog) (e : Env) (ls : List BoundLink) (start : Draft)
     (first : Scalar) → Chaining k e ls 0 start start first []
-chaining_first k e ls start first = record {
-  tree = refl;
-  columns = refl;
-  scalar = refl;
-  small =
-      omega arith;
-}
+chaining_first k e ls start first = record { tree = refl; columns = refl; scalar = refl }
 
 chained-last : (first : Scalar) (ls : List Link) (l : Link) →
     chained first (ls ++ l ∷ []) ≡ word (strict (Arithmetic l.operator))
@@ -284,17 +279,24 @@ chaining_next k e ls i x start old new first front more_front s h is c d f =
           ap (λ y. width y.nodes n) (sym at) ∙ c.columns;
       scalar = ap (λ y. y.scalar) now ∙ sym (links_scalar left step S e n) ∙
           ap (λ y. y.scalar) (sym at) ∙ c.scalar;
-      small = omega (arith, ap links_cost (links_at k ls i x h is), c.small);
     }
 
+-- the links that are left are no more than all
+pub links_small : (k : Catalog) (ls : List BoundLink) (i : ℕ) (x : BoundLink) → i < length ls →
+    x ≡ get_or ls i x →
+    links_cost (links_of k (drop i ls)) ≡ cost (tree_of k x.operand) + links_cost
+    (links_of k (drop (i + 1) ls)) + 1
+links_small k ls i x h is = ap links_cost (links_at k ls i x h is)
+
 pub chain_done : (k : Catalog) (e : Env) (ls : List BoundLink) (i : ℕ) (start now : Draft)
-    (first held : ScalarCode) (front : List LinkCode) → length ls ≤ i →
-    Chaining k e ls i start now (scalar_of first) front → held ≡ first →
-    Emits start now (scalar_of (ChainCode held front))
-    (emit_links (links_of k ls) (plain (scalar_of first)) (width_in k) e (drafted start).width)
-chain_done k e ls i start now first held front h c same =
+    (front : List LinkCode) → length ls ≤ i →
+    ((first : Scalar) → Chaining k e ls i start now first front) → (first : Scalar) →
+    Emits start now (chained first (map link_of front))
+    (emit_links (links_of k ls) (plain first) (width_in k) e (drafted start).width)
+chain_done k e ls i start now front h all first =
+    let c = all first in
     let none_left = drop_all i ls h in
-    let so_far = plain (chained (scalar_of first) (map link_of front)) in
+    let so_far = plain (chained first (map link_of front)) in
     record {
       tree = ap (λ (xs : List BoundLink). on_each
           (emit_links (links_of k xs) so_far (width_in k) e (drafted now).width).nodes
@@ -302,11 +304,28 @@ chain_done k e ls i start now first held front h c same =
       columns = ap (λ (xs : List BoundLink). width
           (emit_links (links_of k xs) so_far (width_in k) e (drafted now).width).nodes
           (drafted now).width) (sym none_left) ∙ c.columns;
-      scalar =
-          scalar_of-Chain held front ∙ ap (λ y. chained (scalar_of y) (map link_of front)) same
-          ∙ ap (λ (xs : List BoundLink). (emit_links (links_of k xs) so_far (width_in k) e
-          (drafted now).width).scalar) (sym none_left) ∙ c.scalar;
+      scalar = ap (λ (xs : List BoundLink).
+          (emit_links (links_of k xs) so_far (width_in k) e (drafted now).width).scalar)
+          (sym none_left) ∙ c.scalar;
     }
+
+-- the first operand, and then the links over its scalar
+pub chain_whole : {B : Type 0} → (k : Catalog) (x : Expr) (ls : Links) (e : Env)
+    (start now new : Draft) (p : ScalarCode) (front : List LinkCode) (r : Result ScalarCode B) →
+    Emits start now (scalar_of p) (emit x (width_in k) e (drafted start).width) →
+    ((q : Scalar) → Emits now new (chained q (map link_of front))
+    (emit_links ls (plain q) (width_in k) e (drafted now).width)) →
+    IfOk r (λ s. scalar_of s ≡ chained (scalar_of p) (map link_of front)) →
+    IfOk r (λ s. Emits start new (scalar_of s) (emit (Chain x ls) (width_in k) e
+    (drafted start).width))
+chain_whole k x ls e start now new p front r one others made =
+    let q = chained (scalar_of p) (map link_of front) in
+    if_ok r (λ s. scalar_of s ≡ q) (λ s. Emits start new (scalar_of s)
+    (emit (Chain x ls) (width_in k) e (drafted start).width)) made
+    (λ s is. subst (λ y. Emits start new y (emit (Chain x ls) (width_in k) e
+    (drafted start).width)) (sym is)
+    (chain_emits ls (width_in k) e start now new (scalar_of p) q
+    (emit x (width_in k) e (drafted start).width) one (others (scalar_of p))))
 
 -- ---- words
 
@@ -459,18 +478,17 @@ result_emits t start new p q a d is = record {
 
 -- a call: its arguments, an Extend of them, and the body over the columns
 pub call_emits : (name : List ℕ) (routine : Routine) (args : Exprs) (S : List ℕ → ℕ) (e : Env)
-    (start listed extended new : Draft) (ss guards : List ScalarCode) (body result : Scalar)
+    (start listed extended new : Draft) (ss : List ScalarCode) (body result : Scalar)
     (m k : ℕ) → EmitsAll start listed (scalars_of ss)
     (emit_args args (parameters_of routine) S e (drafted start).width) →
     m ≡ (drafted listed).width → k ≡ length ss →
     (drafted extended).tree ≡ extend (scalars_of ss) (drafted listed).tree →
     (drafted extended).width ≡ (drafted listed).width + length ss →
-    scalars_of guards ≡ checks (raising args (parameters_of routine) m) →
     Emits extended new body (emit_body routine S (passed m k) (drafted extended).width) →
-    result ≡ guarded (scalars_of guards) body →
+    result ≡ guarded (checks (raising args (parameters_of routine) m)) body →
     Emits start new result (emit (Call name routine args) S e (drafted start).width)
-call_emits name routine args S e start listed extended new ss guards body result m k first from many
-    tree columns guard second is =
+call_emits name routine args S e start listed extended new ss body result m k first from many
+    tree columns second is =
     let n = (drafted start).width in
     let a = emit_args args (parameters_of routine) S e n in
     let at : m ≡ width a.nodes n = from ∙ first.columns in
@@ -493,65 +511,109 @@ call_emits name routine args S e start listed extended new ss guards body result
           ap (width b.nodes) wide
           ∙ sym (width-joined a.nodes (extend_by a.scalars b.nodes) n);
       scalar =
-          is ∙ (λ j. guarded ((guard ∙ ap (λ y. checks (raising args (parameters_of routine) y)) at)
-          j) ((second.scalar ∙ ap (λ y. y.scalar) same) j))
+          is ∙ (λ j. guarded (checks (raising args (parameters_of routine) (at j)))
+          ((second.scalar ∙ ap (λ y. y.scalar) same) j))
           ∙ guarded-values (raising args (parameters_of routine) (width a.nodes n)) b.scalar;
     }
 
 -- ---- the same of bound expressions
 
+-- what is emitted of the tree that an expression stands for
+pub emits_as : {B : Type 0} → (k : Catalog) (x : BoundExpr) (t : Expr) (e : Env)
+    (start new : Draft) (r : Result ScalarCode B) → t ≡ tree_of k x →
+    IfOk r (λ s. Emits start new (scalar_of s) (emit t (width_in k) e (drafted start).width)) →
+    IfOk r (λ s. Emits start new (scalar_of s) (emit (tree_of k x) (width_in k) e
+    (drafted start).width))
+emits_as k x t e start new r tree d = subst (λ u. IfOk r (λ s. Emits start new (scalar_of s)
+    (emit u (width_in k) e (drafted start).width))) tree d
+
+-- a name or a literal
+pub leaf_emits : {B : Type 0} → (k : Catalog) (x : BoundExpr) (t : Expr) (e : Env)
+    (start : Draft) (r : Result ScalarCode B) (p : Scalar) → t ≡ tree_of k x →
+    emit t (width_in k) e (drafted start).width ≡ plain p → IfOk r (λ s. scalar_of s ≡ p) →
+    IfOk r (λ s. Emits start start (scalar_of s) (emit (tree_of k x) (width_in k) e
+    (drafted start).width))
+leaf_emits k x t e start r p tree alone d =
+    emits_as k x t e start start r tree
+    (if_ok r (λ s. scalar_of s ≡ p) (λ s. Emits start start (scalar_of s)
+    (emit t (width_in k) e (drafted start).width)) d
+    (λ s is. subst (λ a. Emits start start (scalar_of s) a) (sym alone)
+    (record { tree = refl; columns = refl; scalar = is })))
+
 -- a word over as many operands as it takes
-pub tree_of-taken : (k : Catalog) (operation : BoundOperation) (es : List BoundExpr) →
+pub operated-taken : (k : Catalog) (operation : BoundOperation) (es : List BoundExpr) →
     takes operation (length es) ≡ true →
-    tree_of k (Operation operation es) ≡ stood (standing operation) (map (tree_of k) es)
-tree_of-taken k operation es h =
-    tree_of-Operation k operation es ∙ ap (λ n. if takes operation n then stood (standing operation)
+    operated operation (map (tree_of k) es) ≡ stood (standing operation) (map (tree_of k) es)
+operated-taken k operation es h =
+    ap (λ n. if takes operation n then stood (standing operation)
     (map (tree_of k) es) else Literal Null) (length-map (tree_of k) es)
     ∙ ap (λ b. if b then stood (standing operation) (map (tree_of k) es) else Literal Null) h
 
 -- and over another number
-pub tree_of-refused : (k : Catalog) (operation : BoundOperation) (es : List BoundExpr) →
-    takes operation (length es) ≡ false → tree_of k (Operation operation es) ≡ Literal Null
-tree_of-refused k operation es h =
-    tree_of-Operation k operation es ∙ ap (λ n. if takes operation n then stood (standing operation)
+pub operated-refused : (k : Catalog) (operation : BoundOperation) (es : List BoundExpr) →
+    takes operation (length es) ≡ false → operated operation (map (tree_of k) es) ≡ Literal Null
+operated-refused k operation es h =
+    ap (λ n. if takes operation n then stood (standing operation)
     (map (tree_of k) es) else Literal Null) (length-map (tree_of k) es)
     ∙ ap (λ b. if b then stood (standing operation) (map (tree_of k) es) else Literal Null) h
 
-pub word_bound : (k : Catalog) (operation : BoundOperation) (es : List BoundExpr) (e : Env)
-    (start new : Draft) (ss : List ScalarCode) (s : Scalar) →
-    ¬ (standing operation ≡ as_case_of) → EmitsAll start new (scalars_of ss)
-    (emit_all (exprs_of k es) (width_in k) e (drafted start).width) →
-    s ≡ word (word_of operation) (scalars_of ss) →
-    Emits start new s (emit (stood (standing operation) (map (tree_of k) es)) (width_in k) e
-    (drafted start).width)
-word_bound k operation es e start new ss s h d is =
-    word_emits (standing operation) (map (tree_of k) es) (width_in k) e start new (scalars_of ss) s
-    h d is
+pub refused_emits : (k : Catalog) (operation : BoundOperation) (es : List BoundExpr) (e : Env)
+    (start : Draft) → takes operation (length es) ≡ false →
+    Emits start start (scalar_of (Constant Null)) (emit (operated operation (map (tree_of k) es))
+    (width_in k) e (drafted start).width)
+refused_emits k operation es e start h =
+    subst (λ y. Emits start start (scalar_of (Constant Null))
+    (emit y (width_in k) e (drafted start).width)) (sym (operated-refused k operation es h))
+    (record { tree = refl; columns = refl; scalar = scalar_of-Constant Null })
 
-pub chain_bound : (k : Catalog) (expr first a : BoundExpr) (ls bs : List BoundLink) (e : Env)
-    (start now new : Draft) (p q : Scalar) →
-    expr ≡ BoundChain first ls → a ≡ first → bs ≡ ls →
-    Emits start now p (emit (tree_of k a) (width_in k) e (drafted start).width) →
-    Emits now new q (emit_links (links_of k bs) (plain p) (width_in k) e (drafted now).width) →
-    Emits start new q (emit (tree_of k expr) (width_in k) e (drafted start).width)
-chain_bound k expr first a ls bs e start now new p q is x y one others =
-    let tree : Chain (tree_of k a) (links_of k bs) ≡ tree_of k expr =
-    (λ j. Chain (tree_of k (x j)) (links_of k (y j))) ∙ sym (tree_of-Chain k first ls) ∙
-    ap (tree_of k) (sym is) in
-    subst (λ t. Emits start new q (emit t (width_in k) e (drafted start).width)) tree
-    (chain_emits (links_of k bs) (width_in k) e start now new p q
-    (emit (tree_of k a) (width_in k) e (drafted start).width) one others)
+-- a word that is no CASE with an operand
+pub words_emit : {B : Type 0} → (k : Catalog) (operation : BoundOperation) (es : List BoundExpr)
+    (e : Env) (start new : Draft) (r : Result ScalarCode B) →
+    ¬ (standing operation ≡ as_case_of) → takes operation (length es) ≡ true →
+    IfOk r (λ s. Emits start new (scalar_of s) (word_on (word_of operation)
+    (emit_all (exprs_of k es) (width_in k) e (drafted start).width))) →
+    IfOk r (λ s. Emits start new (scalar_of s) (emit (operated operation (map (tree_of k) es))
+    (width_in k) e (drafted start).width))
+words_emit k operation es e start new r other taken d =
+    subst (λ a. IfOk r (λ s. Emits start new (scalar_of s) a))
+    (sym (emit-stood (standing operation) (map (tree_of k) es) (width_in k) e (drafted start).width
+    other) ∙ ap (λ y. emit y (width_in k) e (drafted start).width)
+    (sym (operated-taken k operation es taken))) d
+
+-- CASE with an operand
+pub case_of_emits : {B : Type 0} → (k : Catalog) (operation : BoundOperation)
+    (es : List BoundExpr) (e : Env) (start new : Draft) (r : Result ScalarCode B) →
+    operation ≡ CaseOf → takes operation (length es) ≡ true →
+    IfOk r (λ s. Emits start new (scalar_of s) (emit (case_of (map (tree_of k) es)) (width_in k) e
+    (drafted start).width)) →
+    IfOk r (λ s. Emits start new (scalar_of s) (emit (operated operation (map (tree_of k) es))
+    (width_in k) e (drafted start).width))
+case_of_emits k operation es e start new r is taken d =
+    subst (λ t. IfOk r (λ s. Emits start new (scalar_of s) (emit t (width_in k) e
+    (drafted start).width)))
+    (ap (λ (w : BoundOperation). stood (standing w) (map (tree_of k) es)) (sym is) ∙
+    sym (operated-taken k operation es taken)) d
+
+-- of a word the scalar is that of its operands
+pub word_made : {B : Type 0} → (w : Word) (a : EmittedAll) (start new : Draft)
+    (ss : List ScalarCode) (r : Result ScalarCode B) → EmitsAll start new (scalars_of ss) a →
+    IfOk r (λ s. scalar_of s ≡ word w (scalars_of ss)) →
+    IfOk r (λ s. Emits start new (scalar_of s) (word_on w a))
+word_made w a start new ss r d made =
+    if_ok r (λ s. scalar_of s ≡ word w (scalars_of ss))
+    (λ s. Emits start new (scalar_of s) (word_on w a)) made
+    (λ s is. record { tree = d.tree; columns = d.columns; scalar = is ∙ ap (word w) d.scalars })
 
 -- ---- what falls
 
-cost-case_of : (es : List Expr) → 3 ≤ length es → cost (case_of es) ≡ costs (exprs es) + 2
+cost-case_of : (es : List Expr) → 3 ≤ length es → cost (case_of es) ≡ costs (exprs es) + 3
 cost-case_of [] h = absurd (omega (arith, h))
 cost-case_of (x ∷ []) h = absurd (omega (arith, h))
 cost-case_of (x ∷ y ∷ []) h = absurd (omega (arith, h))
 cost-case_of (x ∷ test ∷ result ∷ arms) h = refl
 
 cost-stood : (w : Standing) (es : List Expr) → (w ≡ as_case_of → 3 ≤ length es) →
-    cost (stood w es) ≡ costs (exprs es) + 2
+    cost (stood w es) ≡ costs (exprs es) + 3
 cost-stood (over_all operation) es h = refl
 cost-stood as_and es h = refl
 cost-stood as_or es h = refl
@@ -565,14 +627,32 @@ case_many CaseOf n h q = leb-true 3 n h
 case_many _ n h q = absurd (let never = q in cc)
 
 -- a word over as many operands as it takes is more than these
-pub cost-taken : (k : Catalog) (expr : BoundExpr) (operation : BoundOperation)
-    (es : List BoundExpr) → expr ≡ Operation operation es → takes operation (length es) ≡ true →
-    cost (tree_of k expr) ≡ costs (exprs_of k es) + 2
-cost-taken k expr operation es is h =
-    ap (λ x. cost (tree_of k x)) is ∙ ap cost (tree_of-taken k operation es h)
+pub cost-taken : (k : Catalog) (operation : BoundOperation) (es : List BoundExpr) →
+    takes operation (length es) ≡ true →
+    cost (operated operation (map (tree_of k) es)) ≡ costs (exprs_of k es) + 3
+cost-taken k operation es h =
+    ap cost (operated-taken k operation es h)
     ∙ cost-stood (standing operation) (map (tree_of k) es)
     (λ q. subst (λ n. 3 ≤ n) (sym (length-map (tree_of k) es))
     (case_many operation (length es) h q))
+
+-- any expression costs something
+pub cost-some : (x : Expr) → 1 ≤ cost x
+cost-some (Literal v) = omega arith
+cost-some (Column level i) = omega arith
+cost-some (Variable i) = omega arith
+cost-some (Chain x links) = omega arith
+cost-some (Operate operation es) = omega arith
+cost-some (And es) = omega arith
+cost-some (Or es) = omega arith
+cost-some (Case es) = omega arith
+cost-some (CaseOfTree x test result arms) = omega arith
+cost-some (Coalesce es) = omega arith
+cost-some (In x query) = omega arith
+cost-some (Exists query) = omega arith
+cost-some (Single query) = omega arith
+cost-some (Call name routine es) = omega arith
+cost-some (CallSelf types es) = omega arith
 
 -- as many scalars as expressions
 all-counted : (es : List Expr) (S : List ℕ → ℕ) (e : Env) (n : ℕ) →
@@ -588,58 +668,68 @@ as_many k es e start new ss d =
     sym (length-map (tree_of k) es) ∙ sym (all-counted (map (tree_of k) es) (width_in k) e
     (drafted start).width) ∙ ap scalar_count (sym d.scalars) ∙ scalars-counted ss
 
--- ---- words of bound expressions
+-- ---- CASE with an operand, of bound expressions
 
-pub taken_bound : (k : Catalog) (expr : BoundExpr) (operation : BoundOperation)
-    (es bs : List BoundExpr) (e : Env) (start new : Draft) (s : Scalar) →
-    expr ≡ Operation operation es →
-    bs ≡ es → takes operation (length es) ≡ true →
-    Emits start new s (emit (stood (standing operation) (map (tree_of k) bs)) (width_in k) e
-    (drafted start).width) →
-    Emits start new s (emit (tree_of k expr) (width_in k) e (drafted start).width)
-taken_bound k expr operation es bs e start new s is x h d =
-    let tree : stood (standing operation) (map (tree_of k) bs) ≡ tree_of k expr =
-    ap (λ (ys : List BoundExpr). stood (standing operation) (map (tree_of k) ys)) x ∙
-    sym (tree_of-taken k operation es h) ∙ ap (tree_of k) (sym is) in
-    subst (λ y. Emits start new s (emit y (width_in k) e (drafted start).width)) tree d
-
-pub refused_bound : (k : Catalog) (expr : BoundExpr) (operation : BoundOperation)
-    (es : List BoundExpr) (e : Env) (start : Draft) → expr ≡ Operation operation es →
-    takes operation (length es) ≡ false → Emits start start (scalar_of (Constant Null))
-    (emit (tree_of k expr) (width_in k) e (drafted start).width)
-refused_bound k expr operation es e start is h =
-    let tree : Literal Null ≡ tree_of k expr = sym (tree_of-refused k operation es h) ∙
-    ap (tree_of k) (sym is) in
-    subst (λ y. Emits start start (scalar_of (Constant Null))
-    (emit y (width_in k) e (drafted start).width)) tree
-    (record { tree = refl; columns = refl; scalar = scalar_of-Constant Null })
-
--- CASE with an operand, of the first operand and the others
-pub case_bound : (k : Catalog) (es bs : List BoundExpr) (x : BoundExpr) (e : Env)
-    (start compared wide new : Draft) (first : ScalarCode) (held ss : List ScalarCode) (s : Scalar)
-    (m : ℕ) →
+-- the first operand and the others
+pub case_bound : {B : Type 0} → (k : Catalog) (es bs : List BoundExpr) (x : BoundExpr) (e : Env)
+    (start compared wide new : Draft) (first : ScalarCode) (ss : List ScalarCode) (m : ℕ)
+    (r : Result ScalarCode B) →
     3 ≤ length es → x ≡ slice_index_or es 0 x → bs ≡ take (length es - 1) (drop 1 es) →
     Emits start compared (scalar_of first)
     (emit (tree_of k x) (width_in k) e (drafted start).width) →
-    m ≡ (drafted compared).width → held ≡ first ∷ [] →
-    (drafted wide).tree ≡ extend (scalars_of held) (drafted compared).tree →
-    (drafted wide).width ≡ (drafted compared).width + length held →
+    m ≡ (drafted compared).width →
+    (drafted wide).tree ≡ extend (more (scalar_of first) none) (drafted compared).tree →
+    (drafted wide).width ≡ (drafted compared).width + 1 →
     EmitsAll wide new (scalars_of ss) (emit_all (exprs_of k bs) (width_in k) e
     (drafted wide).width) →
-    s ≡ word case_word (against m (scalars_of ss)) →
-    Emits start new s (emit (case_of (map (tree_of k) es)) (width_in k) e (drafted start).width)
-case_bound k [] bs x e start compared wide new first held ss s m many head tail one at only tree
-    columns others is = absurd (omega (arith, many))
-case_bound k (y ∷ es) bs x e start compared wide new first held ss s m many head tail one at only
-    tree columns others is =
+    IfOk r (λ s. scalar_of s ≡ word case_word (against m (scalars_of ss))) →
+    IfOk r (λ s. Emits start new (scalar_of s) (emit (case_of (map (tree_of k) es)) (width_in k) e
+    (drafted start).width))
+case_bound k [] bs x e start compared wide new first ss m r many head tail one at tree
+    columns others made = absurd (omega (arith, many))
+case_bound k (y ∷ es) bs x e start compared wide new first ss m r many head tail one at tree
+    columns others made =
     let rest_many : 2 ≤ length (map (tree_of k) es) =
     subst (λ n. 2 ≤ n) (sym (length-map (tree_of k) es)) (omega (arith, many)) in
-    case_emits (tree_of k y) (map (tree_of k) es) (width_in k) e start compared wide new
-    (scalar_of first) (scalars_of ss) s m rest_many
+    if_ok r (λ s. scalar_of s ≡ word case_word (against m (scalars_of ss)))
+    (λ s. Emits start new (scalar_of s) (emit (case_of (map (tree_of k) (y ∷ es))) (width_in k) e
+    (drafted start).width)) made
+    (λ s is. case_emits (tree_of k y) (map (tree_of k) es) (width_in k) e start compared wide new
+    (scalar_of first) (scalars_of ss) (scalar_of s) m rest_many
     (subst (λ z. Emits start compared (scalar_of first)
-    (emit (tree_of k z) (width_in k) e (drafted start).width)) head one) at
-    (tree ∙ ap (λ (xs : List ScalarCode). extend (scalars_of xs) (drafted compared).tree) only)
-    (columns ∙ ap (λ (xs : List ScalarCode). (drafted compared).width + length xs) only)
+    (emit (tree_of k z) (width_in k) e (drafted start).width)) head one) at tree columns
     (subst (λ (ys : List BoundExpr). EmitsAll wide new (scalars_of ss)
     (emit_all (exprs_of k ys) (width_in k) e (drafted wide).width))
-    (tail ∙ take_all (length (y ∷ es) - 1) es (omega arith)) others) is
+    (tail ∙ take_all (length (y ∷ es) - 1) es (omega arith)) others) is)
+
+-- ---- names of functions, of bound expressions
+
+-- the emission of a call, by its body
+pub call_bound : {B : Type 0} → (k : Catalog) (name : List ℕ) (es : List BoundExpr)
+    (types : List SqlType) (e : Env) (start listed extended new : Draft) (ss : List ScalarCode)
+    (body : ScalarCode) (m n : ℕ) (r : Result ScalarCode B) →
+    types ≡ parameters_of (routine_named name k) →
+    EmitsAll start listed (scalars_of ss)
+    (emit_args (exprs_of k es) types (width_in k) e (drafted start).width) →
+    m ≡ (drafted listed).width → n ≡ length ss →
+    (drafted extended).tree ≡ extend (scalars_of ss) (drafted listed).tree →
+    (drafted extended).width ≡ (drafted listed).width + length ss →
+    Emits extended new (scalar_of body) (emit_body (routine_named name k) (width_in k)
+    (passed m n) (drafted extended).width) →
+    IfOk r (λ s. (known : Catalog) → scalar_of s ≡ guarded
+    (checks (raising (exprs_of known es) types m)) (scalar_of body)) →
+    IfOk r (λ s. Emits start new (scalar_of s) (emit (Call name (routine_named name k)
+    (exprs_of k es)) (width_in k) e (drafted start).width))
+call_bound k name es types e start listed extended new ss body m n r typed first from many tree
+    columns second made =
+    if_ok r (λ s. (known : Catalog) → scalar_of s ≡ guarded
+    (checks (raising (exprs_of known es) types m)) (scalar_of body))
+    (λ s. Emits start new (scalar_of s) (emit (Call name (routine_named name k)
+    (exprs_of k es)) (width_in k) e (drafted start).width)) made
+    (λ s is. call_emits name (routine_named name k) (exprs_of k es) (width_in k) e start listed
+    extended new ss (scalar_of body) (scalar_of s) m n
+    (subst (λ (ts : List SqlType). EmitsAll start listed (scalars_of ss)
+    (emit_args (exprs_of k es) ts (width_in k) e (drafted start).width)) typed first) from many
+    tree columns second
+    (is k ∙ ap (λ (ts : List SqlType). guarded (checks (raising (exprs_of k es) ts m))
+    (scalar_of body)) typed))

@@ -1,8 +1,5 @@
-pub mod Places
-pub mod Own
-pub mod Choosing
+pub mod Ends
 pub mod Queries
-pub mod Rows
 pub mod Joining
 pub mod Tests
 pub mod Emitting

@@ -2,43 +2,50 @@
 use Rattle.std.proofs.Common.{ℕ, slice_index_or, ◌≡◌, ◌<◌, ◌≤◌, ◌+◌, ◌∷◌, [], ◌++◌, List, Option}
 use Rattle.std.proofs.Common.{Some, None, MatchOption, Bool, true, false, ◌&&◌, if◌then◌else◌}
 use Rattle.std.proofs.Common.{replicate, length, map, drop, get_or, slice_get, suc, refl, sym, ap}
-use Rattle.std.proofs.Common.{◌∙◌, subst, arith, append_assoc}
-use Rattle.std.proofs.lemmas.List.{drop_all, length-replicate, append-nil}
+use Rattle.std.proofs.Common.{◌∙◌, subst, arith, append_assoc, Result, IfOk, OnOk}
+use Rattle.std.proofs.lemmas.List.{drop_all, length-replicate, append-nil, nil_from_length}
 use Rattle.bound_trees.specs.declared.expr.BoundExpr.{BoundExpr}
 use Rattle.bound_trees.specs.declared.query.BoundFromItem.{BoundFromItem}
 use Rattle.bound_trees.specs.declared.query.BoundGrouping.{BoundGrouping}
+use Rattle.bound_trees.specs.declared.query.BoundQuery.{BoundQuery}
+use Rattle.bound_trees.specs.declared.query.BoundQuery.TheVariants as query
 use Rattle.bound_trees.specs.declared.query.BoundRow.{BoundRow}
 use Rattle.bound_trees.specs.declared.query.BoundSelect.{BoundSelect, out-BoundSelect}
 use Rattle.catalog_store.specs.Catalog.{Catalog}
-use Rattle.std.specs.Option.{option_map}
-use Rattle.catalog_store.specs.View.{exprs_of, row_of, rows_of, from_of, item_of, grouping_of}
-use Rattle.catalog_store.specs.View.{selected, select_of}
+use Rattle.catalog_store.specs.View.{exprs_of, row_of, rows_of, from_of, item_of, select_of}
+use Rattle.catalog_store.specs.View.{query_of}
 use Rattle.rel_algebra.specs.declared.plan.ScalarRow.{ScalarRow}
-use Rattle.rel_algebra.specs.Tree.{Aggregate, count, Values, Select, Grouped}
+use Rattle.row_types.specs.declared.sort_key.SortKey.{SortKey}
+use Rattle.rel_algebra.specs.Tree.{Aggregate, Values, Select, Grouped, Query, Ordered}
+use Rattle.catalog_store.proofs.Laws.{query_of-Ordered}
 use Rattle.rel_algebra.specs.Plan.{Scalar, Scalars, PlanTree, Nodes, no_node, extend_by, apply_by}
-use Rattle.rel_algebra.specs.Plan.{values, unit_row, on_each}
-use Rattle.rel_algebra.specs.Joins.{query_width, rows_width}
-use Rattle.rel_algebra.specs.PlanView.{scalars_of, lists_of}
+use Rattle.rel_algebra.specs.Plan.{values, unit_row, on_each, sort}
+use Rattle.rel_algebra.specs.Joins.{from_width, rows_width}
+use Rattle.rel_algebra.specs.declared.plan.Plan.{Plan}
+use Rattle.rel_algebra.specs.declared.scalar.Scalar.{Scalar as ScalarCode}
+use Rattle.rel_algebra.specs.PlanView.{scalars_of, lists_of, tree_of as plan_tree}
 use Rattle.rel_algebra.specs.Emit.{Env, Emitted, EmittedAll, top, lifted, entered, none_waits}
 use Rattle.rel_algebra.specs.Emit.{emit_all, emit_rows, emit_tests, filters, filters_width, listed}
 use Rattle.rel_algebra.specs.Emit.{list_nodes, chosen, several, numbers, is_plain, all_plain}
 use Rattle.rel_algebra.specs.Emit.{values_plan, scalars_of as all_scalars_of, plan, width}
+use Rattle.rel_algebra.specs.Emit.{from_plan}
 use Rattle.plan_expressions.specs.declared.draft.Draft.{Draft}
 use Rattle.plan_expressions.specs.Drafts.{drafted}
 use Rattle.plan_expressions.specs.Emission.{EmitsAll}
-use Rattle.plan_queries.specs.Grouping.{selected_rows, grouped_rows}
-use Rattle.plan_queries.specs.Joining.{IsFrom}
-use Rattle.plan_queries.specs.Listing.{listed_only}
-use Rattle.plan_queries.specs.Plainness.{ArePlain}
+use Rattle.plan_drafts.specs.Grouping.{grouped_rows}
+use Rattle.plan_drafts.specs.Joining.{IsFrom}
+use Rattle.plan_drafts.specs.Listing.{listed_only}
+use Rattle.plan_queries.specs.Selecting.{selected_rows, selected_groups}
+use Rattle.plan_queries.specs.Plainness.{ArePlain, IsPlain, by_number, rows_plan}
+use Rattle.plan_queries.proofs.Ends.{on_ok}
 use Rattle.plan_expressions.specs.Drafts.{is_unit_row}
-use Rattle.plan_queries.specs.Choosing.{columns_from, with_row, closed, all_arms_of}
+use Rattle.plan_drafts.specs.Choosing.{columns_from, with_row, closed, all_arms_of}
 use Rattle.catalog_store.specs.Widths.{width_in}
-use Rattle.catalog_store.proofs.Laws.{select_of-parts, grouping_of-parts}
 use Rattle.plan_expressions.proofs.Laws.{on_each-joined, width-joined}
 use Rattle.plan_expressions.proofs.Laws.{rest, map-last}
-use Rattle.plan_expressions.proofs.Laws.{plain_unit}
-use Rattle.plan_queries.proofs.Own.{listed-after}
-use Rattle.plan_queries.proofs.Choosing.{columns_more, rows_narrow, columns_first, columns_last}
+use Rattle.plan_expressions.proofs.Laws.{plain_unit, if_ok}
+use Rattle.plan_drafts.proofs.Laws.{listed-after, select_of-grouped, select_of-ungrouped}
+use Rattle.plan_drafts.proofs.Laws.{columns_more, rows_narrow, columns_first, columns_last}
 
 -- ---- a list over a plan
 
@@ -54,9 +61,9 @@ listed_emission f n t start between ss end tree wide d is =
 -- ---- SELECT
 
 -- a Filter for each conjunct over the rows of a plan, and the list
-pub selected_plan : (k : Catalog) (items tests : List BoundExpr) (e within : Env) (columns : ℕ)
-    (start filtered between : Draft) (ss : Scalars) (end : PlanTree) →
-    columns ≡ (drafted start).width →
+pub selected_plan : {B : Type 0} → (k : Catalog) (items tests : List BoundExpr)
+    (e within : Env) (columns : ℕ) (start filtered between new : Draft) (ss : Scalars)
+    (r : Result Unit B) → columns ≡ (drafted start).width →
     within ≡ entered e columns →
     (drafted filtered).tree ≡ filters (emit_tests (exprs_of k tests) (width_in k) within none_waits
     (drafted start).width) (drafted start).tree →
@@ -64,113 +71,99 @@ pub selected_plan : (k : Catalog) (items tests : List BoundExpr) (e within : Env
     none_waits (drafted start).width) (drafted start).width →
     EmitsAll filtered between ss (emit_all (exprs_of k items) (width_in k) within
     (drafted filtered).width) →
-    end ≡ listed_only ss (drafted between).width (drafted between).tree →
-    end ≡ selected_rows (exprs_of k items) (exprs_of k tests) (width_in k) e (drafted start).width
-    (drafted start).tree
-selected_plan k items tests e within columns start filtered between ss end same env kept kept_width
-    d is =
+    OnOk r ((drafted new).tree ≡ listed_only ss (drafted between).width (drafted between).tree) →
+    OnOk r ((drafted new).tree ≡ selected_rows (exprs_of k items) (exprs_of k tests) (width_in k) e
+    (drafted start).width (drafted start).tree)
+selected_plan k items tests e within columns start filtered between new ss r same env kept
+    kept_width d made =
     let S = width_in k in
     let n = (drafted start).width in
     let input = (drafted start).tree in
     let list : Env → ℕ → EmittedAll = λ q m. emit_all (exprs_of k items) S q m in
     let conjuncts : Env → List Emitted = λ q. emit_tests (exprs_of k tests) S q none_waits n in
-    listed_emission (list within) (filters_width (conjuncts within) n)
-    (filters (conjuncts within) input) filtered between ss end kept kept_width d is
+    on_ok r ((drafted new).tree ≡ listed_only ss (drafted between).width (drafted between).tree)
+    ((drafted new).tree ≡ selected_rows (exprs_of k items) (exprs_of k tests) (width_in k) e
+    (drafted start).width (drafted start).tree) made
+    (λ is. listed_emission (list within) (filters_width (conjuncts within) n)
+    (filters (conjuncts within) input) filtered between ss (drafted new).tree kept kept_width d is
     ∙ ap (λ q. let m = filters_width (conjuncts q) n in
-    listed (list q m) m (filters (conjuncts q) input)) (env ∙ ap (entered e) same)
+    listed (list q m) m (filters (conjuncts q) input)) (env ∙ ap (entered e) same))
 
--- what a bound select stands for, by its parts
-pub select_of-fields : (k : Catalog) (s : BoundSelect) →
-    select_of k s ≡ selected (option_map (grouping_of k) (out-BoundSelect s).grouping)
-    (exprs_of k (out-BoundSelect s).items) (from_of (map (item_of k) (out-BoundSelect s).from))
-    (exprs_of k (out-BoundSelect s).conjuncts)
-select_of-fields k s = select_of-parts k s
-
-pub select_of-grouped : (k : Catalog) (s : BoundSelect) (g : BoundGrouping) →
-    (out-BoundSelect s).grouping ≡ Some g →
-    select_of k s ≡ Grouped (from_of (map (item_of k) (out-BoundSelect s).from))
-    (exprs_of k (out-BoundSelect s).conjuncts) g.keys (exprs_of k g.parts) g.aggregates
-    (exprs_of k g.having) (exprs_of k (out-BoundSelect s).items)
-select_of-grouped k s g h =
-    select_of-fields k s ∙ ap (λ (o : Option BoundGrouping). selected (option_map (grouping_of k) o)
-    (exprs_of k (out-BoundSelect s).items) (from_of (map (item_of k) (out-BoundSelect s).from))
-    (exprs_of k (out-BoundSelect s).conjuncts)) h
-    ∙ ap (λ q. Grouped (from_of (map (item_of k) (out-BoundSelect s).from))
-    (exprs_of k (out-BoundSelect s).conjuncts) q.keys q.parts q.aggregates q.having
-    (exprs_of k (out-BoundSelect s).items)) (grouping_of-parts k g)
-
-pub select_of-ungrouped : (k : Catalog) (s : BoundSelect) → (out-BoundSelect s).grouping ≡ None →
-    select_of k s ≡ Select (exprs_of k (out-BoundSelect s).items)
-    (from_of (map (item_of k) (out-BoundSelect s).from))
-    (exprs_of k (out-BoundSelect s).conjuncts)
-select_of-ungrouped k s h =
-    select_of-fields k s ∙ ap (λ (o : Option BoundGrouping). selected (option_map (grouping_of k) o)
-    (exprs_of k (out-BoundSelect s).items) (from_of (map (item_of k) (out-BoundSelect s).from))
-    (exprs_of k (out-BoundSelect s).conjuncts)) h
-
--- the plan of a select over the rows of FROM that has no groups
-pub ungrouped_plan : (k : Catalog) (s : BoundSelect) (e : Env) (items tests : List BoundExpr)
-    (from : List BoundFromItem) (rows : Draft) (end : PlanTree) →
-    (out-BoundSelect s).grouping ≡ None →
-    from ≡ (out-BoundSelect s).from → items ≡ (out-BoundSelect s).items →
-    tests ≡ (out-BoundSelect s).conjuncts → IsFrom k e rows (from_of (map (item_of k) from)) →
-    end ≡ selected_rows (exprs_of k items) (exprs_of k tests) (width_in k) e (drafted rows).width
-    (drafted rows).tree →
-    end ≡ plan (select_of k s) (width_in k) e
-ungrouped_plan k s e items tests from rows end free f i c is made =
-    made ∙ (λ j. selected_rows (exprs_of k items) (exprs_of k tests) (width_in k) e (is.width j)
-    (is.tree j))
-    ∙ (λ j. plan (Select (exprs_of k (i j)) (from_of (map (item_of k) (f j))) (exprs_of k (c j)))
-    (width_in k) e)
-    ∙ ap (λ q. plan q (width_in k) e) (sym (select_of-ungrouped k s free))
-
--- and that of one that has
-pub grouped_plan : (k : Catalog) (s : BoundSelect) (g : BoundGrouping) (e : Env)
-    (items tests parts having : List BoundExpr) (from : List BoundFromItem)
-    (aggregates : List Aggregate) (rows least groups : Draft)
-    (end : PlanTree) → (out-BoundSelect s).grouping ≡ Some g → from ≡ (out-BoundSelect s).from →
+-- over the rows of FROM this is the plan of the select
+pub select_plan : (k : Catalog) (s : BoundSelect) (o : Option BoundGrouping) (e : Env)
+    (items tests : List BoundExpr) (from : List BoundFromItem) (rows : Draft) (end : PlanTree) →
+    o ≡ (out-BoundSelect s).grouping → from ≡ (out-BoundSelect s).from →
     items ≡ (out-BoundSelect s).items → tests ≡ (out-BoundSelect s).conjuncts →
-    parts ≡ g.parts → aggregates ≡ g.aggregates → having ≡ g.having →
     IsFrom k e rows (from_of (map (item_of k) from)) →
-    (drafted least).tree ≡ selected_rows (exprs_of k parts) (exprs_of k tests) (width_in k) e
+    end ≡ selected_groups k o (exprs_of k items) (exprs_of k tests) (width_in k) e
     (drafted rows).width (drafted rows).tree →
+    end ≡ plan (select_of k s) (width_in k) e
+select_plan k s o e items tests from rows end same f i c is made =
+    made ∙ (λ j. selected_groups k o (exprs_of k items) (exprs_of k tests) (width_in k) e
+    (is.width j) (is.tree j)) ∙ by o (sym same)
+  where
+    by : (q : Option BoundGrouping) → (out-BoundSelect s).grouping ≡ q →
+        selected_groups k q (exprs_of k items) (exprs_of k tests) (width_in k) e
+        (from_width (from_of (map (item_of k) from)) (width_in k))
+        (from_plan (from_of (map (item_of k) from)) (width_in k) e)
+        ≡ plan (select_of k s) (width_in k) e
+    by None h =
+        (λ j. plan (Select (exprs_of k (i j)) (from_of (map (item_of k) (f j)))
+        (exprs_of k (c j))) (width_in k) e)
+        ∙ ap (λ q. plan q (width_in k) e) (sym (select_of-ungrouped k s h))
+    by (Some g) h =
+        (λ j. plan (Grouped (from_of (map (item_of k) (f j))) (exprs_of k (c j)) g.keys
+        (exprs_of k g.parts) g.aggregates (exprs_of k g.having) (exprs_of k (i j)))
+        (width_in k) e)
+        ∙ ap (λ q. plan q (width_in k) e) (sym (select_of-grouped k s g h))
+
+-- of the groups those that HAVING leaves
+pub groups_selected : {B : Type 0} → (k : Catalog) (o : Option BoundGrouping) (g : BoundGrouping)
+    (items tests parts having : List BoundExpr) (aggregates : List Aggregate) (e : Env)
+    (start least groups new : Draft) (r : Result Unit B) → o ≡ Some g → parts ≡ g.parts →
+    aggregates ≡ g.aggregates → having ≡ g.having →
+    (drafted least).tree ≡ selected_rows (exprs_of k parts) (exprs_of k tests) (width_in k) e
+    (drafted start).width (drafted start).tree →
     (drafted groups).tree ≡ grouped_rows g.keys aggregates (drafted least).tree →
     (drafted groups).width ≡ g.keys + length aggregates →
-    end ≡ selected_rows (exprs_of k items) (exprs_of k having) (width_in k) e (drafted groups).width
-    (drafted groups).tree →
-    end ≡ plan (select_of k s) (width_in k) e
-grouped_plan k s g e items tests parts having from aggregates rows least groups end some f i c p a h
-    is made tree wide last =
+    OnOk r ((drafted new).tree ≡ selected_rows (exprs_of k items) (exprs_of k having) (width_in k)
+    e (drafted groups).width (drafted groups).tree) →
+    OnOk r ((drafted new).tree ≡ selected_groups k o (exprs_of k items) (exprs_of k tests)
+    (width_in k) e (drafted start).width (drafted start).tree)
+groups_selected k o g items tests parts having aggregates e start least groups new r some p a h
+    made tree wide last =
     let S = width_in k in
-    let below = made ∙ (λ j. selected_rows (exprs_of k parts) (exprs_of k tests) S e (is.width j)
-    (is.tree j)) in
-    let between = tree ∙ ap (grouped_rows g.keys aggregates) below in
-    last ∙ (λ j. selected_rows (exprs_of k items) (exprs_of k having) S e (wide j) (between j))
-    ∙ (λ j. plan (Grouped (from_of (map (item_of k) (f j))) (exprs_of k (c j)) g.keys
-    (exprs_of k (p j)) (a j) (exprs_of k (h j)) (exprs_of k (i j))) S e)
-    ∙ ap (λ q. plan q S e) (sym (select_of-grouped k s g some))
+    let below : (drafted least).tree ≡ selected_rows (exprs_of k g.parts) (exprs_of k tests) S e
+    (drafted start).width (drafted start).tree =
+    made ∙ ap (λ (es : List BoundExpr). selected_rows (exprs_of k es) (exprs_of k tests) S e
+    (drafted start).width (drafted start).tree) p in
+    let between : (drafted groups).tree ≡ grouped_rows g.keys g.aggregates
+    (selected_rows (exprs_of k g.parts) (exprs_of k tests) S e (drafted start).width
+    (drafted start).tree) = tree ∙ (λ j. grouped_rows g.keys (a j) (below j)) in
+    let many : (drafted groups).width ≡ g.keys + length g.aggregates =
+    wide ∙ ap (λ (xs : List Aggregate). g.keys + length xs) a in
+    on_ok r ((drafted new).tree ≡ selected_rows (exprs_of k items) (exprs_of k having) (width_in k)
+    e (drafted groups).width (drafted groups).tree)
+    ((drafted new).tree ≡ selected_groups k o (exprs_of k items) (exprs_of k tests) (width_in k) e
+    (drafted start).width (drafted start).tree) last
+    (λ is. is ∙ (λ j. selected_rows (exprs_of k items) (exprs_of k (h j)) S e (many j)
+    (between j))
+    ∙ ap (λ (q : Option BoundGrouping). selected_groups k q (exprs_of k items)
+    (exprs_of k tests) S e (drafted start).width (drafted start).tree) (sym some))
 
--- a query is as wide as its list
-pub select-width : (k : Catalog) (s : BoundSelect) (widths : List ℕ → ℕ) →
-    query_width (select_of k s) widths ≡ count (exprs_of k (out-BoundSelect s).items)
-select-width k s widths = by (out-BoundSelect s).grouping refl
-  where
-    by : (o : Option BoundGrouping) → (out-BoundSelect s).grouping ≡ o →
-        query_width (select_of k s) widths ≡ count (exprs_of k (out-BoundSelect s).items)
-    by None h = ap (λ q. query_width q widths) (select_of-ungrouped k s h)
-    by (Some g) h = ap (λ q. query_width q widths) (select_of-grouped k s g h)
+-- and without groups
+pub rows_selected : {B : Type 0} → (k : Catalog) (o : Option BoundGrouping)
+    (items tests : List BoundExpr) (e : Env) (start new : Draft) (r : Result Unit B) → o ≡ None →
+    OnOk r ((drafted new).tree ≡ selected_rows (exprs_of k items) (exprs_of k tests) (width_in k)
+    e (drafted start).width (drafted start).tree) →
+    OnOk r ((drafted new).tree ≡ selected_groups k o (exprs_of k items) (exprs_of k tests)
+    (width_in k) e (drafted start).width (drafted start).tree)
+rows_selected k o items tests e start new r free made =
+    subst (λ (q : Option BoundGrouping). OnOk r ((drafted new).tree ≡ selected_groups k q
+    (exprs_of k items) (exprs_of k tests) (width_in k) e (drafted start).width
+    (drafted start).tree)) (sym free) made
 
 -- ---- VALUES
-
-pub count-exprs : (k : Catalog) (es : List BoundExpr) → count (exprs_of k es) ≡ length es
-count-exprs k [] = refl
-count-exprs k (e ∷ es) = ap suc (count-exprs k es)
-
-pub width_first : (k : Catalog) (rs : List BoundRow) (r : BoundRow) (vs : List BoundExpr) →
-    Some r ≡ slice_get rs 0 → exprs_of k vs ≡ row_of k r → rows_width (rows_of k rs) ≡ length vs
-width_first k [] r vs h g = absurd (let never = h in cc)
-width_first k (x ∷ rs) r vs h g = let same : x ≡ r = cc in
-    ap (λ (y : BoundRow). count (row_of k y)) same ∙ ap count (sym g) ∙ count-exprs k vs
 
 rows_counted : (k : Catalog) (rs : List BoundRow) (S : List ℕ → ℕ) (e : Env) (n : ℕ) →
     length (emit_rows (rows_of k rs) S e n) ≡ length rs
@@ -247,51 +240,54 @@ numbering_next k e w rs i r start old new columns grown ss h is b d g =
       narrow = omega (arith, ap length g, rows_narrow (all_arms_of columns) i ss, b.narrow);
     }
 
--- the plan of rows over their numbers
-pub numbered_plan : (k : Catalog) (e : Env) (w : ℕ) (rs : List BoundRow) (i : ℕ) (start now : Draft)
-    (columns : List ScalarRow) (ss : Scalars) (end : PlanTree) → length rs ≤ i →
-    Numbering k e w rs i start now columns → (drafted start).tree ≡ values (numbers 0 (length rs)) →
-    (drafted start).width ≡ 1 → ss ≡ closed (all_arms_of columns) →
-    end ≡ listed_only ss (drafted now).width (drafted now).tree →
-    end ≡ several w (emit_rows (rows_of k rs) (width_in k) e 1)
-numbered_plan k e w rs i start now columns ss end h b tree wide is made =
+-- all rows, column by column
+pub numbering_done : (k : Catalog) (e : Env) (w : ℕ) (rs : List BoundRow) (i : ℕ)
+    (start now : Draft) (columns : List ScalarRow) → length rs ≤ i →
+    Numbering k e w rs i start now columns →
+    EmitsAll start now (closed (all_arms_of columns))
+    (by_number w (emit_rows (rows_of k rs) (width_in k) e (drafted start).width))
+numbering_done k e w rs i start now columns h b =
     let S = width_in k in
-    let whole : ℕ → List EmittedAll = emit_rows (rows_of k rs) S e in
     let done = drop_all i rs h in
-    let cells : ss ≡ chosen w 0 (whole (drafted start).width) =
-    is ∙ sym (columns_last (all_arms_of columns) w b.narrow)
-    ∙ ap (λ (xs : List BoundRow). columns_from (all_arms_of columns)
-    (chosen w i (emit_rows (rows_of k xs) S e (drafted now).width))) (sym done) ∙ b.cells in
-    let tree_now : (drafted now).tree ≡ on_each (list_nodes (whole (drafted start).width))
-    (drafted start).tree =
-    ap (λ (xs : List BoundRow). on_each (list_nodes
-    (emit_rows (rows_of k xs) S e (drafted now).width)) (drafted now).tree) (sym done) ∙
-    b.tree in
-    let width_now : (drafted now).width ≡ width (list_nodes (whole (drafted start).width))
-    (drafted start).width =
-    ap (λ (xs : List BoundRow). width (list_nodes
-    (emit_rows (rows_of k xs) S e (drafted now).width)) (drafted now).width) (sym done) ∙
-    b.columns in
-    listed_emission (λ n. record { nodes = list_nodes (whole n); scalars = chosen w 0 (whole n) }) 1
-    (values (numbers 0 (length rs))) start now ss end tree wide
-    (record { tree = tree_now; columns = width_now; scalars = cells }) made
-    ∙ ap (λ q. listed (record { nodes = list_nodes (whole 1); scalars = chosen w 0 (whole 1) }) 1
-    (values (numbers 0 q))) (sym (rows_counted k rs S e 1))
+    record {
+      tree = ap (λ (xs : List BoundRow). on_each (list_nodes
+          (emit_rows (rows_of k xs) S e (drafted now).width)) (drafted now).tree) (sym done) ∙
+          b.tree;
+      columns = ap (λ (xs : List BoundRow). width (list_nodes
+          (emit_rows (rows_of k xs) S e (drafted now).width)) (drafted now).width) (sym done) ∙
+          b.columns;
+      scalars = sym (columns_last (all_arms_of columns) w b.narrow)
+          ∙ ap (λ (xs : List BoundRow). columns_from (all_arms_of columns)
+          (chosen w i (emit_rows (rows_of k xs) S e (drafted now).width))) (sym done) ∙ b.cells;
+    }
+
+-- the plan of rows over their numbers
+pub numbered_plan : {B : Type 0} → (k : Catalog) (e : Env) (w : ℕ) (rs : List BoundRow)
+    (start now : Draft) (columns : List ScalarRow) (r : Result Plan B) →
+    (drafted start).tree ≡ values (numbers 0 (length rs)) → (drafted start).width ≡ 1 →
+    EmitsAll start now (closed (all_arms_of columns))
+    (by_number w (emit_rows (rows_of k rs) (width_in k) e (drafted start).width)) →
+    IfOk r (λ p. plan_tree p ≡ listed_only (closed (all_arms_of columns)) (drafted now).width
+    (drafted now).tree) →
+    IfOk r (λ p. plan_tree p ≡ several w (emit_rows (rows_of k rs) (width_in k) e 1))
+numbered_plan k e w rs start now columns r tree wide d made =
+    let S = width_in k in
+    let whole : ℕ → EmittedAll = λ n. by_number w (emit_rows (rows_of k rs) S e n) in
+    if_ok r (λ p. plan_tree p ≡ listed_only (closed (all_arms_of columns)) (drafted now).width
+    (drafted now).tree) (λ p. plan_tree p ≡ several w (emit_rows (rows_of k rs) (width_in k) e 1))
+    made
+    (λ p is. listed_emission whole 1 (values (numbers 0 (length rs))) start now
+    (closed (all_arms_of columns)) (plan_tree p) tree wide d is
+    ∙ ap (λ q. listed (whole 1) 1 (values (numbers 0 q))) (sym (rows_counted k rs S e 1)))
 
 -- one row
 pub single_plan : (k : Catalog) (e : Env) (rs : List BoundRow) (r : BoundRow) → length rs ≡ 1 →
     r ≡ slice_index_or rs 0 r →
-    listed (emit_all (row_of k r) (width_in k) (lifted e) 0) 0 unit_row ≡
-    plan (Values (rows_of k rs)) (width_in k) e
+    listed (emit_all (row_of k r) (width_in k) e 0) 0 unit_row ≡ rows_plan k rs e
 single_plan k e [] r h is = absurd (omega (arith, h))
 single_plan k e (x ∷ []) r h is = ap (λ (y : BoundRow).
-    listed (emit_all (row_of k y) (width_in k) (lifted e) 0) 0 unit_row) is
+    listed (emit_all (row_of k y) (width_in k) e 0) 0 unit_row) is
 single_plan k e (x ∷ y ∷ rs) r h is = absurd (omega (arith, h))
-
--- the plan of rows by where their names are read
-abbrev pub plan_by : Catalog → List BoundRow → Env → PlanTree
-plan_by k rs q = values_plan (rows_width (rows_of k rs)) (emit_rows (rows_of k rs) (width_in k) q 0)
-    (emit_rows (rows_of k rs) (width_in k) q 1)
 
 -- ---- rows that need no nodes
 
@@ -393,47 +389,73 @@ none_there k e rs h w numbered = ap (λ (xs : List BoundRow). values_plan w
 
 -- ---- the same of bound trees
 
-pub row_bound : (k : Catalog) (e : Env) (vs : List BoundExpr) (r : BoundRow) (start between : Draft)
-    (ss : Scalars) (end : PlanTree) → exprs_of k vs ≡ row_of k r → (drafted start).tree ≡ unit_row →
-    (drafted start).width ≡ 0 → EmitsAll start between ss
+-- the plan of one row
+pub row_bound : {B : Type 0} → (k : Catalog) (e : Env) (vs : List BoundExpr)
+    (start between : Draft) (ss : List ScalarCode) (r : Result Plan B) →
+    (drafted start).tree ≡ unit_row → (drafted start).width ≡ 0 →
+    EmitsAll start between (scalars_of ss)
     (emit_all (exprs_of k vs) (width_in k) e (drafted start).width) →
-    end ≡ listed_only ss (drafted between).width (drafted between).tree →
-    end ≡ listed (emit_all (row_of k r) (width_in k) e 0) 0 unit_row
-row_bound k e vs r start between ss end p tree wide d made =
-    listed_emission (emit_all (exprs_of k vs) (width_in k) e) 0 unit_row start between ss end tree
-    wide d made
-    ∙ ap (λ xs. listed (emit_all xs (width_in k) e 0) 0 unit_row) p
+    IfOk r (λ p. plan_tree p ≡ listed_only (scalars_of ss) (drafted between).width
+    (drafted between).tree) →
+    IfOk r (λ p. plan_tree p ≡ listed (emit_all (exprs_of k vs) (width_in k) e 0) 0 unit_row)
+row_bound k e vs start between ss r tree wide d made =
+    if_ok r (λ p. plan_tree p ≡ listed_only (scalars_of ss) (drafted between).width
+    (drafted between).tree)
+    (λ p. plan_tree p ≡ listed (emit_all (exprs_of k vs) (width_in k) e 0) 0 unit_row) made
+    (λ p is. listed_emission (emit_all (exprs_of k vs) (width_in k) e) 0 unit_row start between
+    (scalars_of ss) (plan_tree p) tree wide d is)
 
 -- one row
-pub one_row : (k : Catalog) (e within : Env) (rs : List BoundRow) (r : BoundRow)
-    (vs : List BoundExpr) (start between : Draft) (ss : Scalars) (end : PlanTree) →
-    within ≡ lifted e → length rs ≡ 1 →
-    r ≡ slice_index_or rs 0 r → exprs_of k vs ≡ row_of k r → (drafted start).tree ≡ unit_row →
-    (drafted start).width ≡ 0 →
-    EmitsAll start between ss (emit_all (exprs_of k vs) (width_in k) within (drafted start).width) →
-    end ≡ listed_only ss (drafted between).width (drafted between).tree →
-    end ≡ plan (Values (rows_of k rs)) (width_in k) e
-one_row k e within rs r vs start between ss end env one is p tree wide d made =
-    row_bound k within vs r start between ss end p tree wide d made
-    ∙ ap (λ q. listed (emit_all (row_of k r) (width_in k) q 0) 0 unit_row) env ∙
-    single_plan k e rs r one is
+pub one_row : {B : Type 0} → (k : Catalog) (e : Env) (rs : List BoundRow) (x : BoundRow)
+    (vs : List BoundExpr) (r : Result Plan B) → length rs ≡ 1 → x ≡ slice_index_or rs 0 x →
+    exprs_of k vs ≡ row_of k x →
+    IfOk r (λ p. plan_tree p ≡ listed (emit_all (exprs_of k vs) (width_in k) e 0) 0 unit_row) →
+    IfOk r (λ p. plan_tree p ≡ rows_plan k rs e)
+one_row k e rs x vs r one is same made =
+    if_ok r (λ p. plan_tree p ≡ listed (emit_all (exprs_of k vs) (width_in k) e 0) 0 unit_row)
+    (λ p. plan_tree p ≡ rows_plan k rs e) made
+    (λ p h. h ∙ ap (λ es. listed (emit_all es (width_in k) e 0) 0 unit_row) same ∙
+    single_plan k e rs x one is)
 
-pub plain_bound : (k : Catalog) (e : Env) (vs : List BoundExpr) (r : BoundRow) (start new : Draft)
-    (ss : Scalars) (b : Bool) → exprs_of k vs ≡ row_of k r → (drafted start).tree ≡ unit_row →
-    (drafted start).width ≡ 0 → EmitsAll start new ss
-    (emit_all (exprs_of k vs) (width_in k) e (drafted start).width) →
+-- whether a row is plain, and its list
+pub plain_row : (k : Catalog) (e : Env) (vs : List BoundExpr) (start new : Draft) (ss : Scalars)
+    (b : Bool) → (drafted start).tree ≡ unit_row → (drafted start).width ≡ 0 →
+    EmitsAll start new ss (emit_all (exprs_of k vs) (width_in k) e (drafted start).width) →
     b ≡ is_unit_row (drafted new).tree →
-    (b ≡ is_plain (emit_all (row_of k r) (width_in k) e 0).nodes) ×
-    (ss ≡ (emit_all (row_of k r) (width_in k) e 0).scalars)
-plain_bound k e vs r start new ss b p tree wide d is =
-    let same : emit_all (exprs_of k vs) (width_in k) e (drafted start).width ≡ emit_all (row_of k r)
-    (width_in k) e 0 =
-    λ j. emit_all (p j) (width_in k) e (wide j) in
-    let a = emit_all (row_of k r) (width_in k) e 0 in (
+    (b ≡ is_plain (emit_all (exprs_of k vs) (width_in k) e 0).nodes) ×
+    (ss ≡ (emit_all (exprs_of k vs) (width_in k) e 0).scalars)
+plain_row k e vs start new ss b tree wide d is =
+    let a = emit_all (exprs_of k vs) (width_in k) e 0 in
+    let same : emit_all (exprs_of k vs) (width_in k) e (drafted start).width ≡ a =
+    λ j. emit_all (exprs_of k vs) (width_in k) e (wide j) in (
       is ∙ ap is_unit_row (d.tree ∙ (λ j. on_each (same j).nodes (tree j))) ∙
           plain_unit a.nodes,
       d.scalars ∙ ap (λ y. y.scalars) same,
     )
+
+-- a row more that is plain
+pub plains_more : (k : Catalog) (e : Env) (rs : List BoundRow) (i : ℕ) (x : BoundRow)
+    (vs : List BoundExpr) (old new : List ScalarRow) (o : Option ScalarRow) (list : ScalarRow) →
+    i < length rs → x ≡ get_or rs i x → exprs_of k vs ≡ row_of k x → Plains k e rs i old →
+    o ≡ Some list → IsPlain o (emit_all (exprs_of k vs) (width_in k) e 0) →
+    new ≡ old ++ list ∷ [] → Plains k e rs (i + 1) new
+plains_more k e rs i x vs old new o list h is same b some p f =
+    let both : IsPlain (Some list) (emit_all (row_of k x) (width_in k) e 0) =
+    subst (λ (q : Option ScalarRow). IsPlain q (emit_all (row_of k x) (width_in k) e 0)) some
+    (subst (λ es. IsPlain o (emit_all es (width_in k) e 0)) same p) in
+    plains_next k e rs i x old new list h is b both.0 both.1 f
+
+-- a row that is not
+pub plains_not : (k : Catalog) (e : Env) (rs : List BoundRow) (i : ℕ) (x : BoundRow)
+    (vs : List BoundExpr) (old : List ScalarRow) (o : Option ScalarRow) →
+    i < length rs → x ≡ get_or rs i x → exprs_of k vs ≡ row_of k x → Plains k e rs i old →
+    o ≡ None → IsPlain o (emit_all (exprs_of k vs) (width_in k) e 0) →
+    all_plain (emit_rows (rows_of k rs) (width_in k) e 0) ≡ false
+plains_not k e rs i x vs old o h is same b none p =
+    let not_plain : IsPlain None (emit_all (row_of k x) (width_in k) e 0) =
+    subst (λ (q : Option ScalarRow). IsPlain q (emit_all (row_of k x) (width_in k) e 0)) none
+    (subst (λ es. IsPlain o (emit_all es (width_in k) e 0)) same p) in
+    plains_end k e rs i x old h is b not_plain
 
 pub numbering_bound : (k : Catalog) (e : Env) (w : ℕ) (rs : List BoundRow) (i : ℕ) (r : BoundRow)
     (vs : List BoundExpr) (start old new : Draft) (columns grown : List ScalarRow) (ss : Scalars) →
@@ -447,34 +469,72 @@ numbering_bound k e w rs i r vs start old new columns grown ss h is p b d g =
     (subst (λ es. EmitsAll old new ss (emit_all es (width_in k) e (drafted old).width)) p d) g
 
 -- rows of which there is not one, over their numbers
-pub numbered_there : (k : Catalog) (e within : Env) (rs : List BoundRow) (end : PlanTree) →
-    within ≡ lifted e → ¬ (length rs ≡ 1) →
-    (rs ≡ [] → ⊥) → all_plain (emit_rows (rows_of k rs) (width_in k) within 0) ≡ false →
-    end ≡ several (rows_width (rows_of k rs)) (emit_rows (rows_of k rs) (width_in k) within 1) →
-    end ≡ plan (Values (rows_of k rs)) (width_in k) e
-numbered_there k e within rs end env one some p made =
-    made ∙ several_there (emit_rows (rows_of k rs) (width_in k) within 0) (length rs)
-    (rows-length k within rs) one p (rows_width (rows_of k rs))
-    (emit_rows (rows_of k rs) (width_in k) within 1)
-    ∙ ap (λ q. plan_by k rs q) env
+pub numbered_there : {B : Type 0} → (k : Catalog) (e : Env) (rs : List BoundRow)
+    (r : Result Plan B) → ¬ (length rs ≡ 1) →
+    all_plain (emit_rows (rows_of k rs) (width_in k) e 0) ≡ false →
+    IfOk r (λ p. plan_tree p ≡ several (rows_width (rows_of k rs))
+    (emit_rows (rows_of k rs) (width_in k) e 1)) →
+    IfOk r (λ p. plan_tree p ≡ rows_plan k rs e)
+numbered_there k e rs r one p made =
+    if_ok r (λ q. plan_tree q ≡ several (rows_width (rows_of k rs))
+    (emit_rows (rows_of k rs) (width_in k) e 1)) (λ q. plan_tree q ≡ rows_plan k rs e) made
+    (λ q is. is ∙ several_there (emit_rows (rows_of k rs) (width_in k) e 0) (length rs)
+    (rows-length k e rs) one p (rows_width (rows_of k rs))
+    (emit_rows (rows_of k rs) (width_in k) e 1))
 
 -- none
-pub no_rows : (k : Catalog) (e within : Env) (rs : List BoundRow) (end : PlanTree) →
-    within ≡ lifted e → rs ≡ [] →
-    end ≡ several (rows_width (rows_of k rs)) (emit_rows (rows_of k rs) (width_in k) within 1) →
-    end ≡ plan (Values (rows_of k rs)) (width_in k) e
-no_rows k e within rs end env none made =
-    made ∙ none_there k within rs none (rows_width (rows_of k rs))
-    (emit_rows (rows_of k rs) (width_in k) within 1) ∙ ap (λ q. plan_by k rs q) env
+pub no_rows : {B : Type 0} → (k : Catalog) (e : Env) (rs : List BoundRow) (r : Result Plan B) →
+    rs ≡ [] →
+    IfOk r (λ p. plan_tree p ≡ several (rows_width (rows_of k rs))
+    (emit_rows (rows_of k rs) (width_in k) e 1)) →
+    IfOk r (λ p. plan_tree p ≡ rows_plan k rs e)
+no_rows k e rs r none made =
+    if_ok r (λ q. plan_tree q ≡ several (rows_width (rows_of k rs))
+    (emit_rows (rows_of k rs) (width_in k) e 1)) (λ q. plan_tree q ≡ rows_plan k rs e) made
+    (λ q is. is ∙ none_there k e rs none (rows_width (rows_of k rs))
+    (emit_rows (rows_of k rs) (width_in k) e 1))
 
 -- the lists alone
-pub plain_there : (k : Catalog) (e within : Env) (rs : List BoundRow) (lists : List Scalars) →
-    within ≡ lifted e → ¬ (length rs ≡ 1) → ¬ (length rs ≡ 0) →
-    all_plain (emit_rows (rows_of k rs) (width_in k) within 0) ≡ true →
-    lists ≡ all_scalars_of (emit_rows (rows_of k rs) (width_in k) within 0) →
-    values lists ≡ plan (Values (rows_of k rs)) (width_in k) e
-plain_there k e within rs lists env one none p is =
-    values_there (emit_rows (rows_of k rs) (width_in k) within 0) (length rs) lists
-    (rows-length k within rs) one none p is (rows_width (rows_of k rs))
-    (emit_rows (rows_of k rs) (width_in k) within 1)
-    ∙ ap (λ q. plan_by k rs q) env
+pub plain_there : (k : Catalog) (e : Env) (rs : List BoundRow) (o : Option (List ScalarRow))
+    (lists : List ScalarRow) (end : PlanTree) → ¬ (length rs ≡ 1) → ¬ (rs ≡ []) →
+    o ≡ Some lists → ArePlain o (emit_rows (rows_of k rs) (width_in k) e 0) →
+    end ≡ values (lists_of lists) → end ≡ rows_plan k rs e
+plain_there k e rs o lists end one some is are made =
+    let plain : ArePlain (Some lists) (emit_rows (rows_of k rs) (width_in k) e 0) =
+    subst (λ (x : Option (List ScalarRow)). ArePlain x
+    (emit_rows (rows_of k rs) (width_in k) e 0)) is are in
+    made ∙ values_there (emit_rows (rows_of k rs) (width_in k) e 0) (length rs) (lists_of lists)
+    (rows-length k e rs) one (λ z. some (nil_from_length rs z)) plain.0 plain.1
+    (rows_width (rows_of k rs)) (emit_rows (rows_of k rs) (width_in k) e 1)
+
+-- where names are read
+pub values_lifted : {B : Type 0} → (k : Catalog) (e within : Env) (rs : List BoundRow)
+    (r : Result Plan B) → within ≡ lifted e → IfOk r (λ p. plan_tree p ≡ rows_plan k rs within) →
+    IfOk r (λ p. plan_tree p ≡ plan (Values (rows_of k rs)) (width_in k) e)
+values_lifted k e within rs r env made =
+    if_ok r (λ p. plan_tree p ≡ rows_plan k rs within)
+    (λ p. plan_tree p ≡ plan (Values (rows_of k rs)) (width_in k) e) made
+    (λ p is. is ∙ ap (rows_plan k rs) env)
+
+-- ---- queries by how they are made
+
+pub plan_as : {B : Type 0} → (k : Catalog) (x : BoundQuery) (q : Query) (e : Env)
+    (r : Result Plan B) → q ≡ query_of k x →
+    IfOk r (λ p. plan_tree p ≡ plan q (width_in k) e) →
+    IfOk r (λ p. plan_tree p ≡ plan (query_of k x) (width_in k) e)
+plan_as k x q e r same made = subst (λ y. IfOk r (λ p. plan_tree p ≡ plan y (width_in k) e)) same
+    made
+
+-- in an order
+pub sorted_as : {B : Type 0} → (k : Catalog) (x q b : BoundQuery) (keys ks : List SortKey)
+    (e : Env) (below : Plan) (r : Result Plan B) → x ≡ query.Ordered q keys → b ≡ q → ks ≡ keys →
+    plan_tree below ≡ plan (query_of k b) (width_in k) e →
+    IfOk r (λ p. plan_tree p ≡ sort ks (plan_tree below)) →
+    IfOk r (λ p. plan_tree p ≡ plan (query_of k x) (width_in k) e)
+sorted_as k x q b keys ks e below r is same order there made =
+    plan_as k x (Ordered (query_of k q) keys) e r (sym (query_of-Ordered k q keys) ∙
+    ap (query_of k) (sym is))
+    (if_ok r (λ p. plan_tree p ≡ sort ks (plan_tree below))
+    (λ p. plan_tree p ≡ plan (Ordered (query_of k q) keys) (width_in k) e) made
+    (λ p h. h ∙ (λ j. sort (order j) ((there ∙ ap (λ y. plan (query_of k y) (width_in k) e) same)
+    j))))

@@ -1,27 +1,14 @@
--- Queries that are folded under an Apply: those of aggregates alone, without GROUP BY and HAVING.
--- ISO/IEC 9075-2, 7.13 (group by clause) and 10.9 (aggregate function).
-use Rattle.std.specs.Prelude.{◌≡◌, ℕ, zero, suc, Bool, true, false, List, [], ◌∷◌, Option, None}
-use Rattle.std.specs.Prelude.{Some}
+-- What the emission of a query that is folded under an Apply leaves. ISO/IEC 9075-2, 7.13 (group by
+-- clause) and 10.9 (aggregate function).
+use Rattle.std.specs.Prelude.{◌≡◌, ℕ, true, List, Option, None, Some}
 use Rattle.sql_values.specs.declared.value.Value.TheVariants.{Bool as Truth}
-use Rattle.rel_algebra.specs.Tree.{Aggregate}
 use Rattle.rel_algebra.specs.declared.scalar.Scalar.{Scalar as ScalarCode}
 use Rattle.rel_algebra.specs.Plan.{constant, aggregate, apply_by}
 use Rattle.rel_algebra.specs.PlanView.{scalars_of}
 use Rattle.rel_algebra.specs.Emit.{EmittedAll, Folded}
-use Rattle.bound_trees.specs.declared.expr.BoundExpr.{BoundExpr}
-use Rattle.bound_trees.specs.declared.query.BoundGrouping.{BoundGrouping}
 use Rattle.plan_expressions.specs.declared.draft.Draft.{Draft}
 use Rattle.plan_expressions.specs.Drafts.{drafted}
 use Rattle.plan_expressions.specs.Emission.{EmitsAll}
-
--- without grouping columns and conjuncts of HAVING, and with an aggregate
-abbrev pub is_fold : ℕ → List Aggregate → List BoundExpr → Bool
-is_fold zero (a ∷ ags) [] = true
-is_fold _ _ _ = false
-
--- whether a grouped query inside an expression is folded, and its list read on the row outside
-abbrev pub folds : BoundGrouping → Bool
-folds g = is_fold g.keys g.aggregates g.having
 
 -- an Apply of the aggregates, and the list on the row that has them
 abbrev pub fold_list : Folded → ℕ → EmittedAll

@@ -1,9 +1,6 @@
-pub mod Conjuncts
-pub mod Joining
-pub mod Listing
-pub mod Choosing
 pub mod Plainness
-pub mod Grouping
+pub mod Selecting
+pub mod Pairs
 pub mod Examples
 pub mod Folding
 pub mod Cost

@@ -1,9 +1,6 @@
 //! Queries inside expressions: an Apply of the query's plan (ISO/IEC 9075-2, 7.19, 8.4 and 8.10).
 
-ghost use Rattle.std.specs.Prelude.{◌≡◌, ◌+◌, true, length, IfOk, OnOk};
-ghost use Rattle.sql_values.specs.declared.value.Value.TheVariants.{Bool as Truth};
-ghost use Rattle.rel_algebra.specs.Joins.{numbered as numbered_by};
-ghost use Rattle.rel_algebra.specs.Plan.{apply, constant, aggregate};
+ghost use Rattle.std.specs.Prelude.{IfOk};
 ghost use Rattle.rel_algebra.specs.Emit.{folded, plan};
 ghost use Rattle.rel_algebra.specs.PlanView.{scalar_of};
 ghost use Rattle.catalog_store.specs.View.{query_of, select_of};
@@ -12,18 +9,18 @@ ghost use Rattle.plan_expressions.specs.Asking.{asked_by};
 ghost use Rattle.plan_expressions.specs.Drafts.{drafted};
 ghost use Rattle.plan_expressions.specs.Emission.{Emits};
 ghost use Rattle.plan_expressions.specs.Scopes.{env_of};
-ghost use Rattle.plan_queries.specs.Folding.{folds, EmitsFolded};
+ghost use Rattle.plan_queries.specs.Folding.{EmitsFolded};
 
 use crate::emit::emit_list;
 use crate::from::draft_from;
-use crate::groups::numbered;
 use crate::plans::plan_within;
-use crate::selects::selected;
-use bound_trees::{BoundGrouping, BoundQuery, BoundSelect};
+use crate::selects::select_rows;
+use bound_trees::{BoundQuery, BoundSelect};
 use catalog_store::Catalog;
+use plan_drafts::{fold_over, is_folded};
 use plan_expressions::{Asked, Draft, NameSources, answered, ask};
-use rel_algebra::{ApplyKind, Scalar};
-use sql_values::{FoldKind, NoMemory, Value};
+use rel_algebra::Scalar;
+use sql_values::NoMemory;
 use sqlite_items::Items;
 
 /// Emits a query inside an expression. A query of aggregates alone is folded: its list is emitted
@@ -43,10 +40,10 @@ pub fn emit_asked(
 {
     let column = draft.columns();
     match emit_folded(query, scope, draft, catalog)? {
-        Some(list) => Ok(answered(draft.allocator(), asked, column, list)?),
+        Some(list) => answered(draft.allocator(), asked, column, list),
         None => {
             let inner = plan_within(draft.allocator(), query, scope, catalog)?;
-            Ok(ask(asked, inner, draft)?)
+            ask(asked, inner, draft)
         }
     }
 }
@@ -88,40 +85,19 @@ fn emit_folded_select(
         return Ok(None);
     }
     let alloc = draft.allocator();
-    let rows = draft_from(alloc, select.from.as_slice(), scope, catalog)?;
     let parts = grouping.parts.as_slice();
-    let input = selected(rows, parts, select.conjuncts.as_slice(), scope, catalog)?;
+    let mut rows = draft_from(alloc, select.from.as_slice(), scope, catalog)?;
+    select_rows(
+        parts,
+        select.conjuncts.as_slice(),
+        scope,
+        &mut rows,
+        catalog,
+    )?;
     let first = draft.columns();
     let count = grouping.aggregates.len();
-    fold_over(input, grouping.aggregates.as_slice(), draft)?;
+    fold_over(rows, grouping.aggregates.as_slice(), draft)?;
     let within = scope.folded(alloc, first, count)?;
     let list = emit_list(select.items.as_slice(), &within, draft, catalog)?;
     Ok(Some(list))
-}
-
-// Puts an Apply of aggregates over a plan: of each column of the plan inside.
-fn fold_over(input: Draft, aggregates: &[FoldKind], draft: &mut Draft) -> Result<(), NoMemory>
-    ensures tree { OnOk result ((drafted draft.new).tree ≡ apply (constant (Truth true))
-        (aggregate (numbered_by 0 aggregates.now)) (drafted input).tree (drafted draft.old).tree) }
-    ensures width { OnOk result ((drafted draft.new).width ≡ (drafted draft.old).width +
-        length aggregates.now) }
-{
-    let columns = numbered(draft.allocator(), 0, aggregates)?;
-    let kind = ApplyKind::Aggregate(columns);
-    draft.apply(Scalar::Constant(Value::Bool(true)), kind, input.into_plan())?;
-    Ok(())
-}
-
-// Whether a query that is grouped so is folded.
-fn is_folded(grouping: &BoundGrouping) -> bool
-    ensures { result ≡ folds grouping.now }
-{
-    let keys = grouping.keys;
-    if keys > 0 {
-        return false;
-    }
-    if grouping.aggregates.is_empty() {
-        return false;
-    }
-    grouping.having.is_empty()
 }

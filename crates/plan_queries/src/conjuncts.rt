@@ -1,16 +1,18 @@
 //! The conjuncts of WHERE, ON and HAVING: a Filter each.
 
-ghost use Rattle.std.specs.Prelude.{◌≡◌, OnOk};
-ghost use Rattle.rel_algebra.specs.Emit.{none_waits, emit_tests, filters, filters_width};
-ghost use Rattle.catalog_store.specs.View.{exprs_of};
+ghost use Rattle.std.specs.Prelude.{◌≡◌, ℕ, List, OnOk};
+ghost use Rattle.rel_algebra.specs.Emit.{Emitted, Waiting as Waits, none_waits, emit, emit_tests};
+ghost use Rattle.rel_algebra.specs.Emit.{filters, filters_width, key_of as key_by, test_step};
+ghost use Rattle.catalog_store.specs.View.{exprs_of, tree_of};
 ghost use Rattle.catalog_store.specs.Widths.{width_in};
 ghost use Rattle.plan_expressions.specs.Drafts.{drafted};
 ghost use Rattle.plan_expressions.specs.Scopes.{env_of};
+ghost use Rattle.plan_drafts.specs.Conjuncts.{waiting_of};
 
 use crate::emit::emit_expr;
-use crate::keys::{Waiting, key_of};
 use bound_trees::BoundExpr;
 use catalog_store::Catalog;
+use plan_drafts::{Waiting, key_of};
 use plan_expressions::{Draft, NameSources};
 use sql_values::NoMemory;
 
@@ -33,16 +35,40 @@ pub fn filter_by(
 {
     let mut waiting = Waiting::none(draft.allocator());
     for conjunct in conjuncts {
-        match key_of(conjunct, scope)? {
-            Some(key) => waiting.add(key, draft)?,
-            None => {
-                waiting.filter(draft)?;
-                waiting = Waiting::none(draft.allocator());
-                let test = emit_expr(conjunct, scope, draft, catalog)?;
-                draft.filter(test)?;
-            }
+        filter_one(conjunct, scope, &mut waiting, draft, catalog)?;
+    }
+    waiting.filter(draft)
+}
+
+// Lets a conjunct wait, or puts its Filter over a plan after those of the ones that wait.
+#[cycle(query)]
+fn filter_one(
+    conjunct: &BoundExpr,
+    scope: &NameSources,
+    waiting: &mut Waiting,
+    draft: &mut Draft,
+    catalog: &Catalog,
+) -> Result<(), NoMemory>
+    ensures tree { OnOk result ((rest : Waits → ℕ → List Emitted) →
+        filters (rest (waiting_of waiting.new) (drafted draft.new).width) (drafted draft.new).tree
+        ≡ filters (test_step (key_by (tree_of catalog.now conjunct.now) (env_of scope.now))
+        (emit (tree_of catalog.now conjunct.now) (width_in catalog.now) (env_of scope.now)
+        (drafted draft.old).width) rest (waiting_of waiting.old) (drafted draft.old).width)
+        (drafted draft.old).tree) }
+    ensures width { OnOk result ((rest : Waits → ℕ → List Emitted) →
+        filters_width (rest (waiting_of waiting.new) (drafted draft.new).width)
+        (drafted draft.new).width
+        ≡ filters_width (test_step (key_by (tree_of catalog.now conjunct.now) (env_of scope.now))
+        (emit (tree_of catalog.now conjunct.now) (width_in catalog.now) (env_of scope.now)
+        (drafted draft.old).width) rest (waiting_of waiting.old) (drafted draft.old).width)
+        (drafted draft.old).width) }
+{
+    match key_of(conjunct, scope)? {
+        Some(key) => waiting.add(key, draft),
+        None => {
+            waiting.flush(draft)?;
+            let test = emit_expr(conjunct, scope, draft, catalog)?;
+            draft.filter(test)
         }
     }
-    waiting.filter(draft)?;
-    Ok(())
 }

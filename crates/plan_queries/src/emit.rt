@@ -2,27 +2,32 @@
 
 ghost use Rattle.std.specs.Prelude.{◌≡◌, ◌≤◌, ◌+◌, true, map, length, IfOk};
 ghost use Rattle.bound_trees.specs.Operands.{takes};
-ghost use Rattle.rel_algebra.specs.Tree.{Call, parameters_of};
-ghost use Rattle.rel_algebra.specs.Emit.{plain, emit, emit_links, emit_all, emit_args};
-ghost use Rattle.rel_algebra.specs.Emit.{emit_body as body_by, passed};
-ghost use Rattle.rel_algebra.specs.PlanView.{scalar_of, scalars_of};
+ghost use Rattle.rel_algebra.specs.Tree.{Call, Chain, In};
+ghost use Rattle.rel_algebra.specs.Plan.{Scalar as PlainScalar};
+ghost use Rattle.rel_algebra.specs.Emit.{plain, emit, emit_links as links_by, emit_all, emit_args};
+ghost use Rattle.rel_algebra.specs.Emit.{emit_body as body_by, passed, word_on};
+ghost use Rattle.rel_algebra.specs.PlanView.{scalar_of, scalars_of, link_of};
+ghost use Rattle.rel_algebra.specs.PlanView.{chained as chained_by};
 ghost use Rattle.catalog_store.specs.Catalog.{routine_named};
-ghost use Rattle.catalog_store.specs.View.{tree_of, exprs_of, links_of, standing, stood, case_of};
+ghost use Rattle.catalog_store.specs.View.{tree_of, exprs_of, links_of, query_of, operated};
+ghost use Rattle.catalog_store.specs.View.{case_of};
 ghost use Rattle.catalog_store.specs.Widths.{width_in};
 ghost use Rattle.plan_expressions.specs.Drafts.{drafted};
 ghost use Rattle.plan_expressions.specs.Emission.{Emits, EmitsAll};
 ghost use Rattle.plan_expressions.specs.Scopes.{env_of};
+ghost use Rattle.plan_expressions.specs.Words.{word_of};
 
 use crate::asking::emit_asked;
-use bound_trees::{BoundExpr, BoundLink, BoundOperation};
+use bound_trees::{BoundExpr, BoundLink, BoundOperation, BoundQuery};
 use catalog_store::Catalog;
-use plan_expressions::{
-    Asked, Draft, NameSources, against, argument_checks, assigned, assigned_at, guard, listed,
-    merge_kept, one, word_over,
+use plan_drafts::{
+    case_over, chained, column_read, guarded_call, literal, parameter_read, parameter_types,
+    put_column,
 };
-use rel_algebra::{ListWord, Scalar, ScalarLink};
+use plan_expressions::{Asked, Draft, NameSources, assigned, assigned_at, merge_kept, word_over};
+use rel_algebra::{Scalar, ScalarLink};
 use sql_values::{Name, NoMemory, SqlType, Value};
-use sqlite_items::{Boxed, Items};
+use sqlite_items::Items;
 
 /// Emits an expression (ISO/IEC 9075-2, 6.25).
 #[cycle(query)]
@@ -37,20 +42,14 @@ pub fn emit_expr(
         (drafted draft.old).width)) }
 {
     match expr {
-        BoundExpr::Literal(value) => Ok(Scalar::Constant(value.copied()?)),
-        BoundExpr::Column(level, place) => Ok(scope.column(*level, *place)?.read()),
-        BoundExpr::Variable(place) => Ok(scope.parameter(*place)?.read()),
+        BoundExpr::Literal(value) => literal(value),
+        BoundExpr::Column(level, place) => column_read(scope, *level, *place),
+        BoundExpr::Variable(place) => parameter_read(scope, *place),
         BoundExpr::Operation(operation, operands) => {
-            if operation.takes(operands.len()) {
-                emit_operation(*operation, operands.as_slice(), scope, draft, catalog)
-            } else {
-                Ok(Scalar::Constant(Value::Null))
-            }
+            emit_operation(*operation, operands.as_slice(), scope, draft, catalog)
         }
         BoundExpr::Chain(first, links) => {
-            let scalar = emit_expr(first.get(), scope, draft, catalog)?;
-            let chain = emit_chain(links.as_slice(), scalar, scope, draft, catalog)?;
-            Ok(chain)
+            emit_chain(first.get(), links.as_slice(), scope, draft, catalog)
         }
         BoundExpr::Call(name, arguments) => {
             emit_call(name, arguments.as_slice(), scope, draft, catalog)
@@ -61,15 +60,11 @@ pub fn emit_expr(
         BoundExpr::Exists(query) => {
             emit_asked(Asked::Exists, query.get(), scope, draft, catalog)
         }
-        BoundExpr::In(left, query) => {
-            let sought = emit_expr(left.get(), scope, draft, catalog)?;
-            let found = emit_asked(Asked::Member(sought), query.get(), scope, draft, catalog)?;
-            Ok(found)
-        }
+        BoundExpr::In(left, query) => emit_in(left.get(), query.get(), scope, draft, catalog),
     }
 }
 
-// Emits a word over as many operands as it takes.
+// Emits a word; over another number of operands than it takes it is NULL.
 #[cycle(query)]
 fn emit_operation(
     operation: BoundOperation,
@@ -78,18 +73,35 @@ fn emit_operation(
     draft: &mut Draft,
     catalog: &Catalog,
 ) -> Result<Scalar, NoMemory>
-    requires { takes operation (length operands.now) ≡ true }
     ensures { IfOk result (λ s. Emits draft.old draft.new (scalar_of s)
-        (emit (stood (standing operation) (map (tree_of catalog.now) operands.now))
+        (emit (operated operation (map (tree_of catalog.now) operands.now))
         (width_in catalog.now) (env_of scope.now) (drafted draft.old).width)) }
 {
+    if !operation.takes(operands.len()) {
+        return Ok(Scalar::Constant(Value::Null));
+    }
     match operation {
         BoundOperation::CaseOf => emit_case_of(operands, scope, draft, catalog),
-        _ => {
-            let scalars = emit_list(operands, scope, draft, catalog)?;
-            Ok(word_over(draft.allocator(), operation, scalars)?)
-        }
+        _ => emit_words(operation, operands, scope, draft, catalog),
     }
+}
+
+// Emits a word over as many operands as it takes, which are read in turn.
+#[cycle(query)]
+fn emit_words(
+    operation: BoundOperation,
+    operands: &[BoundExpr],
+    scope: &NameSources,
+    draft: &mut Draft,
+    catalog: &Catalog,
+) -> Result<Scalar, NoMemory>
+    requires { takes operation (length operands.now) ≡ true }
+    ensures { IfOk result (λ s. Emits draft.old draft.new (scalar_of s)
+        (word_on (word_of operation) (emit_all (exprs_of catalog.now operands.now)
+        (width_in catalog.now) (env_of scope.now) (drafted draft.old).width))) }
+{
+    let scalars = emit_list(operands, scope, draft, catalog)?;
+    word_over(draft.allocator(), operation, scalars)
 }
 
 // Emits CASE with an operand: the operand becomes a column, and the tests are compared with it.
@@ -106,24 +118,39 @@ fn emit_case_of(
         (env_of scope.now) (drafted draft.old).width)) }
 {
     let operand = emit_expr(&operands[0], scope, draft, catalog)?;
-    let column = draft.columns();
-    draft.extend(one(draft.allocator(), operand)?)?;
+    let column = put_column(operand, draft)?;
     let scalars = emit_list(&operands[1..], scope, draft, catalog)?;
-    let arms = against(draft.allocator(), column, scalars)?;
-    Ok(listed(ListWord::Case, arms))
+    case_over(draft.allocator(), column, scalars)
 }
 
-// Emits what stands right in a chain, over the scalar of what stands left.
+// Emits a chain.
 #[cycle(query)]
 fn emit_chain(
+    first: &BoundExpr,
     links: &[BoundLink],
-    first: Scalar,
     scope: &NameSources,
     draft: &mut Draft,
     catalog: &Catalog,
 ) -> Result<Scalar, NoMemory>
     ensures { IfOk result (λ s. Emits draft.old draft.new (scalar_of s)
-        (emit_links (links_of catalog.now links.now) (plain (scalar_of first))
+        (emit (Chain (tree_of catalog.now first.now) (links_of catalog.now links.now))
+        (width_in catalog.now) (env_of scope.now) (drafted draft.old).width)) }
+{
+    let scalar = emit_expr(first, scope, draft, catalog)?;
+    let chain = emit_links(links, scope, draft, catalog)?;
+    chained(draft.allocator(), scalar, chain)
+}
+
+// Emits what stands right in a chain, whatever the scalar of what stands left.
+#[cycle(query)]
+fn emit_links(
+    links: &[BoundLink],
+    scope: &NameSources,
+    draft: &mut Draft,
+    catalog: &Catalog,
+) -> Result<Items<ScalarLink>, NoMemory>
+    ensures { IfOk result (λ ls. (p : PlainScalar) → Emits draft.old draft.new
+        (chained_by p (map link_of ls)) (links_by (links_of catalog.now links.now) (plain p)
         (width_in catalog.now) (env_of scope.now) (drafted draft.old).width)) }
 {
     let mut chain = Items::from_vec(Vec::with_capacity(draft.allocator(), links.len())?);
@@ -134,7 +161,24 @@ fn emit_chain(
             operand,
         })?;
     }
-    Ok(Scalar::Chain(Boxed::new(draft.allocator(), first)?, chain))
+    Ok(chain)
+}
+
+// Emits IN with a query: the value that is sought first.
+#[cycle(query)]
+fn emit_in(
+    left: &BoundExpr,
+    query: &BoundQuery,
+    scope: &NameSources,
+    draft: &mut Draft,
+    catalog: &Catalog,
+) -> Result<Scalar, NoMemory>
+    ensures { IfOk result (λ s. Emits draft.old draft.new (scalar_of s)
+        (emit (In (tree_of catalog.now left.now) (query_of catalog.now query.now))
+        (width_in catalog.now) (env_of scope.now) (drafted draft.old).width)) }
+{
+    let sought = emit_expr(left, scope, draft, catalog)?;
+    emit_asked(Asked::Member(sought), query, scope, draft, catalog)
 }
 
 /// Emits several expressions, from left to right.
@@ -177,19 +221,8 @@ fn emit_call(
     let first = draft.columns();
     let count = scalars.len();
     draft.extend(scalars)?;
-    let checks = argument_checks(draft.allocator(), arguments, types, first)?;
     let body = emit_body(name, first, count, draft, catalog)?;
-    Ok(guard(draft.allocator(), checks, body)?)
-}
-
-// The types of the parameters of the function of a name; none where the catalog has no function.
-fn parameter_types<'a>(name: &Name, catalog: &'a Catalog) -> &'a [SqlType]
-    ensures { result.now ≡ parameters_of (routine_named name.now catalog.now) }
-{
-    match catalog.routine(name) {
-        Some(routine) => routine.head.parameters.as_slice(),
-        None => &[],
-    }
+    guarded_call(draft.allocator(), arguments, types, first, body)
 }
 
 // Emits arguments, from left to right, each assigned to the type of its parameter.
@@ -240,5 +273,5 @@ fn emit_body(
         Some(tree) => emit_expr(tree, &scope, draft, catalog)?,
         None => unreachable!(),
     };
-    Ok(assigned(draft.allocator(), routine.head.returns, value)?)
+    assigned(draft.allocator(), routine.head.returns, value)
 }

@@ -29,7 +29,8 @@ pub fn plan_function(
     catalog: &Catalog,
 ) -> Result<FunctionPlan, NoMemory>
     ensures { IfOk result (λ p. (types : List TypeOf) → IsPlan p
-        (emit_body (Function false types returns (tree_of catalog.now returned.now)) (width_in catalog.now) (top parameters) 0)) }
+        (emit_body (Function false types returns (tree_of catalog.now returned.now))
+        (width_in catalog.now) (top parameters) 0)) }
 {
     let mut draft = Draft::over(alloc, Leaf::Unit, 0);
     let scope = NameSources::top(alloc, parameters);

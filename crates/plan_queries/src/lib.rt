@@ -4,18 +4,13 @@
 ghost use Rattle.plan_queries.specs.Examples.{JoinsPlanned, GroupsPlanned};
 
 mod asking;
-mod chosen;
 mod conjuncts;
 mod emit;
 mod from;
 mod functions;
-mod groups;
 mod joins;
-mod keys;
-mod listing;
 mod plans;
 mod selects;
-mod tables;
 mod values;
 
 pub use functions::{plan_function, with_plan};

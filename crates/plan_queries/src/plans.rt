@@ -2,22 +2,19 @@
 
 ghost use Rattle.std.specs.Prelude.{◌≡◌, IfOk};
 ghost use Rattle.rel_algebra.specs.Emit.{top, plan};
-ghost use Rattle.rel_algebra.specs.Plan.{sort};
 ghost use Rattle.rel_algebra.specs.PlanView.{tree_of};
 ghost use Rattle.catalog_store.specs.View.{query_of};
 ghost use Rattle.catalog_store.specs.Widths.{width_in};
 ghost use Rattle.plan_expressions.specs.Scopes.{env_of};
 
 use crate::selects::plan_select;
-use crate::tables::columns_of;
 use crate::values::plan_values;
 use bound_trees::BoundQuery;
 use catalog_store::Catalog;
-use plan_expressions::{Draft, NameSources};
+use plan_drafts::{columns_of, sorted};
+use plan_expressions::NameSources;
 use rel_algebra::Plan;
-use row_types::SortKey;
 use sql_values::NoMemory;
-use sqlite_items::Items;
 use std::alloc::Global;
 
 /// The plan of a query that no query stands around (ISO/IEC 9075-2, 7.17), with the body of each
@@ -43,20 +40,11 @@ pub fn plan_within(
         (width_in catalog.now) (env_of scope.now)) }
 {
     match query {
-        BoundQuery::Select(select) => Ok(plan_select(alloc, select, scope, catalog)?),
-        BoundQuery::Values(rows) => Ok(plan_values(alloc, rows.as_slice(), scope, catalog)?),
+        BoundQuery::Select(select) => plan_select(alloc, select, scope, catalog),
+        BoundQuery::Values(rows) => plan_values(alloc, rows.as_slice(), scope, catalog),
         BoundQuery::Ordered(query, keys) => {
             let plan = plan_within(alloc, query.get(), scope, catalog)?;
-            Ok(sorted(alloc, plan, columns_of(query.get()), keys.as_slice())?)
+            sorted(alloc, plan, columns_of(query.get()), keys.as_slice())
         }
     }
-}
-
-// The rows of a plan, which have so many columns, in the order of these columns (14.3).
-fn sorted(alloc: Global, plan: Plan, columns: usize, keys: &[SortKey]) -> Result<Plan, NoMemory>
-    ensures { IfOk result (λ p. tree_of p ≡ sort keys.now (tree_of plan)) }
-{
-    let mut draft = Draft::of_plan(alloc, plan, columns);
-    draft.sort(Items::from_slice(alloc, keys)?)?;
-    Ok(draft.into_plan())
 }

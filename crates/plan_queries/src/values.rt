@@ -2,28 +2,32 @@
 
 ghost use Rattle.std.specs.Prelude.{◌≡◌, IfOk};
 ghost use Rattle.rel_algebra.specs.Tree.{Values};
-ghost use Rattle.rel_algebra.specs.Emit.{emit_rows, several, plan};
+ghost use Rattle.rel_algebra.specs.Plan.{unit_row};
+ghost use Rattle.rel_algebra.specs.Emit.{emit_all, emit_rows, listed, several, plan};
 ghost use Rattle.rel_algebra.specs.Joins.{rows_width};
 ghost use Rattle.rel_algebra.specs.PlanView.{tree_of};
-ghost use Rattle.catalog_store.specs.Catalog.{Catalog as PlainCatalog};
-ghost use Rattle.catalog_store.specs.View.{exprs_of, row_of, rows_of};
+ghost use Rattle.catalog_store.specs.View.{exprs_of, rows_of};
 ghost use Rattle.catalog_store.specs.Widths.{width_in};
+ghost use Rattle.plan_expressions.specs.Drafts.{drafted};
+ghost use Rattle.plan_expressions.specs.Emission.{EmitsAll};
 ghost use Rattle.plan_expressions.specs.Scopes.{env_of};
-ghost use Rattle.plan_queries.specs.Plainness.{ArePlain};
+ghost use Rattle.plan_drafts.specs.Choosing.{all_arms_of, closed};
+ghost use Rattle.plan_queries.specs.Plainness.{ArePlain, IsPlain, by_number, rows_plan};
 
-use crate::chosen::{add_row, close_columns, empty_columns, numbers};
 use crate::emit::emit_list;
-use crate::listing::list;
 use bound_trees::{BoundExpr, BoundRow};
 use catalog_store::Catalog;
+use plan_drafts::{
+    add_row, closed_plan, empty_columns, first_width, listed_plan, lists_plan, numbered_draft,
+    values_in,
+};
 use plan_expressions::{Draft, NameSources};
 use rel_algebra::{Leaf, Plan, ScalarRow};
 use sql_values::NoMemory;
 use sqlite_items::Items;
 use std::alloc::Global;
 
-/// The plan of VALUES (ISO/IEC 9075-2, 7.3): one row over Unit; several by Values alone where none
-/// of them needs nodes, and else over their numbers.
+/// The plan of VALUES (ISO/IEC 9075-2, 7.3).
 #[cycle(query)]
 pub fn plan_values(
     alloc: Global,
@@ -35,22 +39,46 @@ pub fn plan_values(
         (width_in catalog.now) (env_of scope.now)) }
 {
     let within = scope.lifted(alloc)?;
+    plan_rows(alloc, rows, &within, catalog)
+}
+
+// One row over Unit; several by Values alone where none of them needs nodes, and else over their
+// numbers.
+#[cycle(query)]
+fn plan_rows(
+    alloc: Global,
+    rows: &[BoundRow],
+    scope: &NameSources,
+    catalog: &Catalog,
+) -> Result<Plan, NoMemory>
+    ensures { IfOk result (λ p. tree_of p ≡ rows_plan catalog.now rows.now (env_of scope.now)) }
+{
     if rows.len() == 1 {
-        let mut draft = Draft::over(alloc, Leaf::Unit, 0);
-        let scalars = emit_list(values_in(&rows[0]), &within, &mut draft, catalog)?;
-        list(scalars, &mut draft)?;
-        return Ok(draft.into_plan());
+        return plan_row(alloc, values_in(&rows[0]), scope, catalog);
     }
     if rows.is_empty() {
-        return Ok(plan_numbered(alloc, rows, &within, catalog)?);
+        return plan_numbered(alloc, rows, scope, catalog);
     }
-    match plain_lists(alloc, rows, &within, catalog)? {
-        Some(lists) => Ok(Plan {
-            leaf: Leaf::Values(lists),
-            nodes: Items::new(alloc),
-        }),
-        None => Ok(plan_numbered(alloc, rows, &within, catalog)?),
+    match plain_lists(alloc, rows, scope, catalog)? {
+        Some(lists) => Ok(lists_plan(alloc, lists)),
+        None => plan_numbered(alloc, rows, scope, catalog),
     }
+}
+
+// The plan of one row.
+#[cycle(query)]
+fn plan_row(
+    alloc: Global,
+    values: &[BoundExpr],
+    scope: &NameSources,
+    catalog: &Catalog,
+) -> Result<Plan, NoMemory>
+    ensures { IfOk result (λ p. tree_of p ≡ listed (emit_all (exprs_of catalog.now values.now)
+        (width_in catalog.now) (env_of scope.now) 0) 0 unit_row) }
+{
+    let mut draft = Draft::over(alloc, Leaf::Unit, 0);
+    let scalars = emit_list(values, scope, &mut draft, catalog)?;
+    listed_plan(scalars, draft)
 }
 
 // The lists of rows, where none needs nodes.
@@ -66,14 +94,31 @@ fn plain_lists(
 {
     let mut lists = Items::from_vec(Vec::with_capacity(alloc, rows.len())?);
     for row in rows {
-        let mut draft = Draft::over(alloc, Leaf::Unit, 0);
-        let scalars = emit_list(values_in(row), scope, &mut draft, catalog)?;
-        if !draft.is_unit() {
-            return Ok(None);
+        match plain_list(alloc, values_in(row), scope, catalog)? {
+            Some(list) => lists.push(list)?,
+            None => return Ok(None),
         }
-        lists.push(ScalarRow { scalars })?;
     }
     Ok(Some(lists))
+}
+
+// The list of a row, where it needs no nodes.
+#[cycle(query)]
+fn plain_list(
+    alloc: Global,
+    values: &[BoundExpr],
+    scope: &NameSources,
+    catalog: &Catalog,
+) -> Result<Option<ScalarRow>, NoMemory>
+    ensures { IfOk result (λ o. IsPlain o (emit_all (exprs_of catalog.now values.now)
+        (width_in catalog.now) (env_of scope.now) 0)) }
+{
+    let mut draft = Draft::over(alloc, Leaf::Unit, 0);
+    let scalars = emit_list(values, scope, &mut draft, catalog)?;
+    if !draft.is_unit() {
+        return Ok(None);
+    }
+    Ok(Some(ScalarRow { scalars }))
 }
 
 // The plan of rows over their numbers.
@@ -87,32 +132,29 @@ fn plan_numbered(
     ensures { IfOk result (λ p. tree_of p ≡ several (rows_width (rows_of catalog.now rows.now))
         (emit_rows (rows_of catalog.now rows.now) (width_in catalog.now) (env_of scope.now) 1)) }
 {
-    let leaf = Leaf::Values(numbers(alloc, rows.len())?);
-    let mut draft = Draft::over(alloc, leaf, 1);
+    let mut draft = numbered_draft(alloc, rows.len())?;
+    let columns = emit_columns(rows, scope, &mut draft, catalog)?;
+    closed_plan(columns, draft)
+}
+
+// Emits rows, from the first to the last, column by column.
+#[cycle(query)]
+fn emit_columns(
+    rows: &[BoundRow],
+    scope: &NameSources,
+    draft: &mut Draft,
+    catalog: &Catalog,
+) -> Result<Items<ScalarRow>, NoMemory>
+    ensures { IfOk result (λ columns. EmitsAll draft.old draft.new (closed (all_arms_of columns))
+        (by_number (rows_width (rows_of catalog.now rows.now))
+        (emit_rows (rows_of catalog.now rows.now) (width_in catalog.now) (env_of scope.now)
+        (drafted draft.old).width))) }
+{
+    let alloc = draft.allocator();
     let mut columns = empty_columns(alloc, first_width(rows))?;
     for (number, row) in rows.iter().enumerate() {
-        let scalars = emit_list(values_in(row), scope, &mut draft, catalog)?;
+        let scalars = emit_list(values_in(row), scope, draft, catalog)?;
         columns = add_row(alloc, number, scalars, columns)?;
     }
-    list(close_columns(alloc, columns)?, &mut draft)?;
-    Ok(draft.into_plan())
-}
-
-// The values of a row.
-fn values_in(row: &BoundRow) -> &[BoundExpr]
-    ensures { (known : PlainCatalog) → exprs_of known result.now ≡ row_of known row.now }
-{
-    match row {
-        BoundRow::Row(values) => values.as_slice(),
-    }
-}
-
-/// How many columns the first row has; 0 where there is none.
-pub fn first_width(rows: &[BoundRow]) -> usize
-    ensures { (known : PlainCatalog) → result ≡ rows_width (rows_of known rows.now) }
-{
-    match rows.first() {
-        Some(row) => values_in(row).len(),
-        None => 0,
-    }
+    Ok(columns)
 }

@@ -2,7 +2,7 @@
 use Rattle.std.proofs.Common.{◌≡◌, ◌<◌, ◌≤◌, ℕ, List, length}
 use Rattle.sql_lex.specs.Tokens.{Lexing, IsTokens}
 use Rattle.sql_lex.proofs.Laws as lists
-use Rattle.psm_session.specs.Database.{Plain}
+use Rattle.psm_effects.specs.Database.{Plain}
 use Rattle.psm_session.specs.Statement.{Statement}
 use Rattle.psm_session.specs.Statement.{Checked}
 use Rattle.psm_session.proofs.Laws as session

@@ -11,7 +11,7 @@ use Rattle.io_edges.specs.TakenBytes.{TakenBytes, Takes, TakesFlushed, with_byte
 use Rattle.io_edges.specs.TakenBytes.{IsWithin}
 use Rattle.io_edges.proofs.Laws.{Takes-nil}
 use Rattle.sql_lex.specs.Tokens.{Lexing, IsTokens}
-use Rattle.psm_session.specs.Database.{Plain}
+use Rattle.psm_effects.specs.Database.{Plain}
 use Rattle.psm_program.specs.Script.{Runs, IsDetermined, AlwaysGoesOn, whole, has_exception}
 use Rattle.program_status.specs.Replies.{is_exception}
 use Rattle.psm_program.specs.Session.{Does, Script}

@@ -5,7 +5,7 @@ use Rattle.std.specs.Prelude.{Option, Some, None}
 use Rattle.std.specs.Io.KnownBytes.{Consumes}
 use Rattle.io_edges.specs.TakenBytes.{TakenBytes}
 use Rattle.io_edges.proofs.Laws.{Takes-nil}
-use Rattle.psm_session.specs.Database.{Plain}
+use Rattle.psm_effects.specs.Database.{Plain}
 use Rattle.program_status.specs.Reading.{TakesCount}
 use Rattle.psm_program.specs.Whole.{EndsOn}
 use Rattle.psm_words.specs.declared.command.Command.{Command}

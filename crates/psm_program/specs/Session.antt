@@ -2,7 +2,7 @@
 -- the first token on.
 use Rattle.std.specs.Prelude.{ℕ, ◌<◌, List, length}
 use Rattle.sql_lex.specs.Tokens.{Lexing, IsTokens}
-use Rattle.psm_session.specs.Database.{Plain}
+use Rattle.psm_effects.specs.Database.{Plain}
 use Rattle.psm_session.specs.Statement.{Statement}
 use Rattle.psm_session.specs.Statement.{Checked}
 use Rattle.psm_program.specs.Script.{Step, Runs}

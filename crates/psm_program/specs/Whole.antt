@@ -4,7 +4,7 @@
 use Rattle.std.specs.Prelude.{◌≡◌, ◌⊎◌, ℕ, Bool, true, List, ◌++◌, length, Option, Some}
 use Rattle.io_edges.specs.TakenBytes.{TakenBytes, Takes, TakesFlushed, with_bytes, all_flushed}
 use Rattle.sql_lex.specs.Tokens.{Lexing, IsTokens}
-use Rattle.psm_session.specs.Database.{Plain}
+use Rattle.psm_effects.specs.Database.{Plain}
 use Rattle.psm_program.specs.Script.{whole, has_exception}
 use Rattle.psm_program.specs.Session.{Does, Script}
 use Rattle.psm_words.specs.declared.command.Command.{Command}

@@ -1,7 +1,7 @@
 //! The law on scripts. The function does nothing; its contract is the law.
 
 ghost use Rattle.std.specs.Prelude.{◌≡◌, List, ℕ};
-ghost use Rattle.psm_session.specs.Database.{Plain};
+ghost use Rattle.psm_effects.specs.Database.{Plain};
 ghost use Rattle.psm_program.specs.Session.{Script};
 ghost use Rattle.psm_words.specs.declared.command.Command.{Command};
 

@@ -13,11 +13,11 @@ use Rattle.grammar_sql.specs.Sql.{rules, statement}
 use Rattle.grammar_sql.specs.Decides.{all_decide, statement_decides, statement_ends, statement_goes}
 use Rattle.bind_faults.specs.declared.fault.Fault.{Fault}
 use Rattle.bind_faults.specs.Faults.{Noted, noted, least, sooner}
-use Rattle.bind_statements.specs.declared.bound.BoundStatement.{BoundStatement}
+use Rattle.bind_direct.specs.declared.bound.BoundStatement.{BoundStatement}
 use Rattle.bind_statements.specs.Statements.{judged_statement, anchor_of}
 use Rattle.reply_text.specs.declared.fault.FaultText.{FaultText}
 use Rattle.reply_text.specs.declared.fault.FaultText.TheVariants as text
-use Rattle.psm_session.specs.Database.{Plain}
+use Rattle.psm_effects.specs.Database.{Plain}
 use Rattle.psm_session.specs.Executing.{Executes, Checks}
 use Rattle.psm_session.specs.Statement.{Reads, Stops, Doing, StatementBy}
 

@@ -2,12 +2,12 @@
 -- one end and one database left; and a prepared query lasts while the tables have their columns.
 use Rattle.std.proofs.Common.{◌≡◌, ◌<◌, ◌≤◌, ℕ, List, length}
 use Rattle.sql_lex.specs.Tokens.{Lexing}
-use Rattle.psm_session.specs.Database.{Plain}
+use Rattle.psm_effects.specs.Database.{Plain}
 use Rattle.psm_session.specs.Executing.{Executes, Checks}
 use Rattle.psm_session.specs.Statement.{Statement, Checked}
 use Rattle.psm_session.proofs.Each.{some_execution, some_check, Statement-some}
 use Rattle.psm_session.proofs.One.{one_execution, one_check, Statement-one}
-pub use Rattle.psm_session.proofs.Lasting.{query_lasts}
+pub use Rattle.psm_effects.proofs.Laws.{query_lasts}
 
 pub some_statement : (t : Lexing) (at : ℕ) (before : Plain) → at < length t.tokens
     → (reply : List ℕ) × (to : ℕ) × (after : Plain) × Statement t at before reply to after ×

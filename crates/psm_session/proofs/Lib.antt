@@ -1,12 +1,3 @@
-pub mod Shapes
-pub mod Creating
-pub mod Dropping
-pub mod Concluding
-pub mod Widths
-pub mod Answering
-pub mod Changing
-pub mod Lasting
-pub mod Preparing
 pub mod One
 pub mod Each
 pub mod Laws

@@ -8,7 +8,7 @@ use Rattle.grammar_algebra.specs.Statement.{ReadsNothing, most_open}
 use Rattle.grammar_sql.specs.Sql.{rules, statement}
 use Rattle.reply_text.specs.declared.fault.FaultText.{FaultText}
 use Rattle.reply_text.specs.Texts.{fault_text}
-use Rattle.psm_session.specs.Database.{Plain}
+use Rattle.psm_effects.specs.Database.{Plain}
 use Rattle.psm_session.specs.Statement.{Stops, Doing, StatementBy}
 
 pub unread : (Does : Doing) (t : Lexing) (at : ℕ) (before : Plain) (why : FaultText) (place : ℕ)

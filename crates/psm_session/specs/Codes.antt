@@ -9,7 +9,7 @@ use Rattle.rel_algebra.specs.Codes.{coded_back, value_code, value_from, value_ba
 use Rattle.sql_values.specs.declared.value.Value.{Value}
 use Rattle.catalog_store.specs.Catalog.{Catalog}
 use Rattle.catalog_store.specs.Codes.{coded_name, coded_column, coded_catalog}
-use Rattle.psm_session.specs.Database.{Plain}
+use Rattle.psm_effects.specs.Database.{Plain}
 
 -- a value
 abbrev pub coded_value : Coded Value

@@ -1,93 +1,21 @@
--- What a valid statement replies, and the database that it leaves. ISO/IEC 9075-2, 4.33
--- (SQL-statements), 11.3 (table definition), 11.31 and 11.62 (drop statements), 11.60 (SQL-invoked
--- routine), 14.9 (delete statement), 14.11 (insert statement), 14.14 (update statement) and 7.17
--- (query expression).
-use Rattle.std.specs.Prelude.{ℕ, List, [], ◌∷◌, ◌++◌, Some, None}
-use Rattle.row_types.specs.Tables.{Tables, without_table_named}
-use Rattle.rel_algebra.specs.World.{World, Ends, Gives, Raises, RunsOut}
-use Rattle.rel_algebra.specs.Meaning.{ask}
-use Rattle.catalog_store.specs.Catalog.{Entry, Object, TableObject, FunctionObject}
-use Rattle.catalog_store.specs.Catalog.{InterpretedObject, ProcedureObject}
+-- What a valid statement replies, and the database that it leaves, by its form. ISO/IEC 9075-2,
+-- 4.33 (SQL-statements).
 use Rattle.catalog_store.specs.Entries.{entry_of}
-use Rattle.catalog_store.specs.Users.{without}
-use Rattle.catalog_store.specs.View.{query_of}
-use Rattle.data_change.specs.Writing.{insert, update, delete}
-use Rattle.bind_statements.specs.declared.bound.Bound.{Bound}
-use Rattle.bind_statements.specs.declared.bound.Bound.TheVariants.{Create, Drop, Insert, Update}
-use Rattle.bind_statements.specs.declared.bound.Bound.TheVariants.{Delete, Query, Explain, Routine}
-use Rattle.reply_text.specs.Texts.{rows_text, done_text, area_text, spent_text}
-use Rattle.psm_session.specs.declared.budget.TheConstants.{DEFAULT_BUDGET}
-use Rattle.psm_session.specs.Database.{Plain, with_tables}
-
--- what a statement replies, and the database that it leaves
-pub record Effect : Type 0 where
-  pub reply : List ℕ
-  pub after : Plain
-
--- the tables, with the turns of a statement, and no function that calls itself is active
-abbrev pub world_of : Tables → World
-world_of tables = record { tables = tables; turns = DEFAULT_BUDGET; active = 0 }
-
--- a new table is empty
-abbrev pub with_table_of : List ℕ → Object → Tables → Tables
-with_table_of name (TableObject row_type) tables =
-    tables ++ record {
-      name = name;
-      table = record {
-        columns = row_type.columns;
-        key = row_type.key;
-        rows = [];
-      };
-    } ∷ []
-with_table_of name (FunctionObject f) tables = tables
-with_table_of name (InterpretedObject f) tables = tables
-with_table_of name (ProcedureObject p) tables = tables
-
--- a new entry of the catalog, with its table where it has one
-abbrev pub created : Entry → Plain → Effect
-created e db = record {
-  reply = done_text [] None;
-  after = record {
-    catalog = db.catalog ++ e ∷ [];
-    tables =
-        with_table_of e.name e.object db.tables;
-  };
-}
-
--- An entry less, with its table where it has one.
-abbrev pub dropped : List ℕ → Plain → Effect
-dropped name db = record {
-  reply = done_text [] None;
-  after = record { catalog = without name db.catalog; tables = without_table_named name db.tables };
-}
-
--- The reply to what an evaluation gives or raises, with the tables that it leaves. Without a turn
--- left the statement's start is put back.
-abbrev pub replied : {A : Type 0} → (A → List ℕ) → Plain → Ends A → Effect
-replied text db (Gives a w) = record { reply = text a; after = with_tables db w.tables }
-replied text db (Raises area w) = record { reply = area_text area; after = with_tables db w.tables }
-replied text db (RunsOut w) = record { reply = spent_text; after = db }
-
--- the reply to a change of rows: how many it stored, changed or removed
-abbrev pub changed_text : ℕ → List ℕ
-changed_text count = done_text [] (Some count)
-
--- what is bound alone leaves the database
-abbrev pub bound_alone : Plain → Effect
-bound_alone db = record { reply = done_text [] None; after = db }
+use Rattle.bind_direct.specs.declared.bound.Bound.{Bound}
+use Rattle.bind_direct.specs.declared.bound.Bound.TheVariants.{Create, Drop, Insert, Update}
+use Rattle.bind_direct.specs.declared.bound.Bound.TheVariants.{Delete, Query, Explain, Routine}
+use Rattle.psm_effects.specs.Database.{Plain}
+use Rattle.psm_effects.specs.Effects.{Effect, created, dropped, inserted, updated, deleted}
+use Rattle.psm_effects.specs.Effects.{answered, bound_alone}
 
 -- EXPLAIN, CALL and compound statements are not run yet
 abbrev pub effect : Bound → Plain → Effect
 effect (Create name object) db = created (entry_of db.catalog name object) db
 effect (Drop name) db = dropped name db
-effect (Insert s listed) db = replied changed_text db
-    (insert s.table listed (query_of db.catalog s.source) (world_of db.tables))
-effect (Update s) db = replied changed_text db
-    (update s.table s.targets (query_of db.catalog s.rows) (world_of db.tables))
-effect (Delete s) db = replied changed_text db
-    (delete s.table (query_of db.catalog s.rows) (world_of db.tables))
-effect (Query query) db = replied rows_text db
-    (ask (query_of db.catalog query) (world_of db.tables))
+effect (Insert s listed) db = inserted s listed db
+effect (Update s) db = updated s db
+effect (Delete s) db = deleted s db
+effect (Query query) db = answered query db
 effect (Explain query) db = bound_alone db
 effect (Routine stmt) db = bound_alone db
 

@@ -5,10 +5,10 @@ use Rattle.syntax_trees.specs.declared.anchor.Anchor.{Anchor}
 use Rattle.bind_faults.specs.declared.fault.Fault.{Fault}
 use Rattle.bind_faults.specs.declared.fault.FaultKind.TheVariants.{NotPermitted}
 use Rattle.bind_faults.specs.Faults.{Noted, least}
-use Rattle.bind_statements.specs.declared.bound.BoundStatement.{BoundStatement}
+use Rattle.bind_direct.specs.declared.bound.BoundStatement.{BoundStatement}
 use Rattle.reply_text.specs.declared.fault.FaultText.TheVariants.{Name}
 use Rattle.reply_text.specs.Texts.{fault_text}
-use Rattle.psm_session.specs.Database.{Plain}
+use Rattle.psm_effects.specs.Database.{Plain}
 use Rattle.psm_session.specs.Effects.{effect, checked}
 
 -- the reply to a fault, with its place

@@ -1,12 +1,5 @@
-pub mod Database
 pub mod Codes
-pub mod Shapes
 pub mod Effects
-pub mod Tasks
-pub mod Answering
-pub mod Preparing
 pub mod Executing
 pub mod Statement
 pub mod Typed
-pub mod Conclusions
-pub mod Examples

@@ -8,12 +8,12 @@ use Rattle.grammar_algebra.specs.Statement.{most_open}
 use Rattle.grammar_sql.specs.Sql.{rules, statement}
 use Rattle.syntax_trees.specs.declared.anchor.Anchor.{Anchor}
 use Rattle.bind_faults.specs.Faults.{Noted}
-use Rattle.bind_statements.specs.declared.bound.BoundStatement.{BoundStatement}
+use Rattle.bind_direct.specs.declared.bound.BoundStatement.{BoundStatement}
 use Rattle.bind_statements.specs.Statements.{judged_statement, anchor_of}
 use Rattle.reply_text.specs.declared.fault.FaultText.{FaultText}
 use Rattle.reply_text.specs.declared.fault.FaultText.TheVariants.{Syntax, TooDeep}
 use Rattle.reply_text.specs.Texts.{fault_text}
-use Rattle.psm_session.specs.Database.{Plain}
+use Rattle.psm_effects.specs.Database.{Plain}
 use Rattle.psm_session.specs.Executing.{Executes, Checks}
 
 -- the tree is spelled by the tokens from one up to another, with its `;` last

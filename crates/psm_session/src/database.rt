@@ -9,17 +9,17 @@ ghost use Rattle.rel_algebra.specs.Lasting.{QueryLasts};
 ghost use Rattle.rel_algebra.specs.Plain.{planned};
 ghost use Rattle.catalog_store.specs.View.{query_of};
 ghost use Rattle.bind_statements.specs.Statements.{judged_statement, anchor_of};
-ghost use Rattle.psm_session.specs.Answering.{ends_with, HasValues};
+ghost use Rattle.psm_effects.specs.Answering.{ends_with, HasValues};
+ghost use Rattle.psm_effects.specs.Preparing.{IsPrepared, plan_in, most_steps};
 ghost use Rattle.psm_session.specs.Executing.{Executes, Checks, reply_to, refusal};
-ghost use Rattle.psm_session.specs.Preparing.{IsPrepared, plan_in, most_steps};
 
 use crate::effect::{check_bound, run_bound};
-use crate::prepared::{Prepared, prepare_query, run_plan};
 use bind_faults::{Fault, FaultKind};
 use bind_statements::{NameFault, anchor_of, bind_statement};
 use bound_trees::BoundQuery;
 use catalog_store::Catalog;
 use plan_exec::Answer;
+use psm_effects::{Prepared, prepare_query, run_plan};
 use reply_text::{FaultText, Reply, fault_reply};
 use row_types::Steps;
 use sql_values::NoMemory;
@@ -41,15 +41,15 @@ pub struct Database {
 }
 
 impl Model for Database {
-    ghost use Rattle.psm_session.specs.Database.{Plain};
+    ghost use Rattle.psm_effects.specs.Database.{Plain};
     ghost use Rattle.psm_session.specs.Codes.{coded_database};
 
     ghost Value = { Plain };
 
     ghost coded = { coded_database };
 
-    ghost use Rattle.psm_session.specs.Conclusions.{database};
-    ghost use Rattle.psm_session.specs.Shapes.{IsWhole};
+    ghost use Rattle.psm_effects.specs.Conclusions.{database};
+    ghost use Rattle.psm_effects.specs.Shapes.{IsWhole};
 
     ghost view = { λ d. database d.catalog d.tables };
 
@@ -73,8 +73,8 @@ fn refuse(alloc: Global, at: Anchor) -> Result<Reply, NoMemory>
 }
 
 impl Database {
-    ghost use Rattle.psm_session.specs.Conclusions.{database};
-    ghost use Rattle.psm_session.specs.Database.{empty};
+    ghost use Rattle.psm_effects.specs.Conclusions.{database};
+    ghost use Rattle.psm_effects.specs.Database.{empty};
 
     /// A database without tables and functions. It takes no memory.
     pub fn new(alloc: Global) -> Database

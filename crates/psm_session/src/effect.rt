@@ -2,16 +2,13 @@
 
 ghost use Rattle.std.specs.Prelude.{◌≡◌, IfOk, OnErr};
 ghost use Rattle.bind_statements.specs.Binds.{StatementFits};
+ghost use Rattle.psm_effects.specs.Conclusions.{database, IsEffect};
+ghost use Rattle.psm_effects.specs.Shapes.{IsWhole};
 ghost use Rattle.psm_session.specs.Effects.{effect, checked};
-ghost use Rattle.psm_session.specs.Conclusions.{database, IsEffect};
-ghost use Rattle.psm_session.specs.Shapes.{IsWhole};
 
-use crate::change::Change;
-use crate::create::create;
-use crate::drop::drop_object;
-use crate::world::{Task, do_task};
-use bind_statements::Bound;
+use bind_direct::Bound;
 use catalog_store::Catalog;
+use psm_effects::{create, drop_object, run_delete, run_insert, run_query, run_update};
 use reply_text::{Reply, done_reply};
 use sql_values::NoMemory;
 use std::alloc::Global;
@@ -36,17 +33,10 @@ pub(crate) fn run_bound(
     match stmt {
         Bound::Create(name, object) => create(alloc, name, object, catalog, tables),
         Bound::Drop(name) => drop_object(alloc, &name, catalog, tables),
-        Bound::Insert(insert, listed) => {
-            let change = Change::Insert(&insert, &listed);
-            do_task(alloc, Task::Make(change), catalog, tables)
-        }
-        Bound::Update(update) => {
-            do_task(alloc, Task::Make(Change::Update(&update)), catalog, tables)
-        }
-        Bound::Delete(delete) => {
-            do_task(alloc, Task::Make(Change::Delete(&delete)), catalog, tables)
-        }
-        Bound::Query(query) => do_task(alloc, Task::Answer(&query), catalog, tables),
+        Bound::Insert(insert, listed) => run_insert(alloc, insert, listed, catalog, tables),
+        Bound::Update(update) => run_update(alloc, update, catalog, tables),
+        Bound::Delete(delete) => run_delete(alloc, delete, catalog, tables),
+        Bound::Query(query) => run_query(alloc, query, catalog, tables),
         Bound::Explain(query) => {
             drop(query);
             done_reply(alloc, &[], None)

@@ -15,7 +15,7 @@ use crate::targets::changed_rows;
 use atomic_undo::Changes;
 use row_types::{Row, RowList, Steps};
 use run_expressions::{Stop, World, leave};
-use run_queries::{row_values, rows_for};
+use run_rows::{row_values, rows_for};
 use sql_values::Name;
 use std::sync::ledger::Ledger;
 

@@ -14,7 +14,7 @@ use crate::places::places_in;
 use atomic_undo::Changes;
 use row_types::{Row, RowList, Steps};
 use run_expressions::{Stop, World, leave};
-use run_queries::row_values;
+use run_rows::row_values;
 use sql_values::Name;
 use std::sync::ledger::Ledger;
 

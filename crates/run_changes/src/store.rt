@@ -14,7 +14,7 @@ use crate::targets::spread_rows;
 use atomic_undo::Changes;
 use row_types::{Row, RowList, Steps};
 use run_expressions::{Stop, World, leave};
-use run_queries::{row_values, rows_for};
+use run_rows::{row_values, rows_for};
 use sql_values::Name;
 use sqlite_items::Items;
 use std::sync::ledger::Ledger;
@@ -35,7 +35,7 @@ pub fn store_rows<L: Ledger>(
 {
     match listed {
         Some(listed) => store_listed(table, listed.as_slice(), new, world, steps),
-        None => run_queries::store_rows(table, new, world, steps),
+        None => run_rows::store_rows(table, new, world, steps),
     }
 }
 

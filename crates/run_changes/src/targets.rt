@@ -8,7 +8,7 @@ ghost use Rattle.sql_values.specs.declared.value.Value.TheVariants.{Null};
 ghost use Rattle.data_change.specs.Writing.{put_all, spread, changed_row as changed_by};
 
 use row_types::Row;
-use run_queries::cut;
+use run_rows::cut;
 use sql_values::{NoMemory, Value};
 use sqlite_items::{Items, at};
 use std::alloc::Global;

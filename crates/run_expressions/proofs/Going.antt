@@ -16,6 +16,7 @@ use Rattle.run_choices.specs.declared.stop.Stop.{Stop}
 use Rattle.run_choices.specs.declared.stop.Stop.TheVariants.{Raised, Spent, NoMemory}
 use Rattle.run_expressions.specs.Content.{Content, world_of, Stays}
 use Rattle.run_expressions.specs.Ending.{Ended}
+use Rattle.run_expressions.specs.Following.{Follows}
 use Rattle.run_choices.specs.Ending.{Tells}
 use Rattle.run_choices.specs.Faults.{stopped_by}
 use Rattle.run_expressions.proofs.Stays.{stays_same, stays_on}
@@ -74,6 +75,21 @@ ends_as old now new left whole e r g is d = record {
   tells = subst (λ x. Tells (world_of new) r x)
       (sym is ∙ g.same) d.tells;
   stays = stays_on old now new g.stays d.stays;
+}
+
+-- what goes on from an answer ends as the answer that is made of it
+pub follows : {A B : Type 0} (old new : Content) (first : Result A Stop) (r : Result B Stop)
+    (e : Ends A) (go : A → Eval B) → Follows first r go → Ended old new first e →
+    Ended old new r (after e go)
+follows {A} {B} old new (Ok a) r e go h d = record {
+  tells = subst (λ (x : Ends B). Tells (world_of new) r x) (sym (ap (λ x. after x go) d.tells))
+      (h (world_of new));
+  stays = d.stays;
+}
+follows {A} {B} old new (Err s) r e go h d = record {
+  tells = subst (λ (q : Result B Stop). Tells (world_of new) q (after e go)) (sym h)
+      (stops_too {A = A} {B = B} (world_of new) s e go d.tells);
+  stays = d.stays;
 }
 
 -- ---- parts of parts
@@ -145,38 +161,75 @@ none_yet m whole vs none = going m (after whole (λ ts. give (vs ++ ts))) whole
     (ap (λ xs. after whole (λ ts. give (xs ++ ts))) none ∙ after_give whole)
 
 -- the next gives one more, or none, and more may follow
-pub one_more : {A X : Type 0} (old now new : Content) (x : X) (o : Option A) (vs us : List A)
-    (e : Ends X) (go : X → Eval (List A)) (more list whole : Ends (List A)) →
-    list ≡ after e go → Going old now (after list (λ ts. give (vs ++ ts))) whole →
-    Ended now new (Ok x) e →
-    go x (world_of new) ≡ after more (λ ts. give (with_front o ts)) → us ≡ vs ++ with_front o [] →
-    Going old new (after more (λ ts. give (us ++ ts))) whole
-one_more {A} old now new x o vs us e go more list whole is g d then front = record {
-  same =
-      ap (λ (xs : List A). after more (λ ts. give (xs ++ ts))) front ∙ regrouped vs o more
-      ∙ ap (λ y. after y (λ ts. give (vs ++ ts))) (sym (is ∙ ap (λ y. after y go) d.tells ∙ then)) ∙
-      g.same;
-  stays = stays_on old now new g.stays d.stays;
-}
+abbrev adding : {A X : Type 0} → Ends X → (X → Option A) → List A → Ends (List A)
+adding e o vs = after e (λ x. give (vs ++ with_front (o x) []))
+
+added : {A X : Type 0} (e : Ends X) (o : X → Option A) (vs : List A) (more : Eval (List A)) →
+    after (after e (λ x u. after (more u) (λ ys. give (with_front (o x) ys))))
+    (λ ts. give (vs ++ ts)) ≡ after (adding e o vs) (λ us u. after (more u)
+    (λ ts. give (us ++ ts)))
+added (Gives x w) o vs more = sym (regrouped vs (o x) (more w))
+added (Raises area w) o vs more = refl
+added (RunsOut w) o vs more = refl
+
+module _ {A X : Type 0} (old now new : Content) (e : Ends X) (o : X → Option A) (vs : List A)
+    (more : Eval (List A)) (list whole : Ends (List A)) where
+  pub adds_stop : (s : Stop) (r : Result (List A) Stop) →
+      list ≡ after e (λ x u. after (more u) (λ ys. give (with_front (o x) ys))) →
+      Going old now (after list (λ ts. give (vs ++ ts))) whole →
+      Ended {A = List A} now new (Err s) (after e (λ x. give (vs ++ with_front (o x) []))) →
+      r ≡ Err s → Ended old new r whole
+  adds_stop s r is g d answer =
+      stops {A = List A} {B = List A} old now new s (adding e o vs)
+      (λ us u. after (more u) (λ ts. give (us ++ ts))) (after list (λ ts. give (vs ++ ts))) whole r
+      (ap (λ x. after x (λ ts. give (vs ++ ts))) is ∙ added e o vs more) g d answer
+
+  pub adds_go : (us : List A) →
+      list ≡ after e (λ x u. after (more u) (λ ys. give (with_front (o x) ys))) →
+      Going old now (after list (λ ts. give (vs ++ ts))) whole →
+      Ended now new (Ok us) (after e (λ x. give (vs ++ with_front (o x) []))) →
+      Going old new (after (more (world_of new)) (λ ts. give (us ++ ts))) whole
+  adds_go us is g d =
+      goes_on old now new us (adding e o vs) (λ us u. after (more u) (λ ts. give (us ++ ts)))
+      (after list (λ ts. give (vs ++ ts))) whole
+      (ap (λ x. after x (λ ts. give (vs ++ ts))) is ∙ added e o vs more) g d
 
 -- the next gives several more, and more may follow
-pub several_more : {A : Type 0} (old now new : Content) (ys vs us : List A) (e : Ends (List A))
-    (more : Eval (List A)) (list whole : Ends (List A)) →
-    list ≡ after e (λ ys w. after (more w) (λ zs. give (ys ++ zs))) →
-    Going old now (after list (λ ts. give (vs ++ ts))) whole → Ended now new (Ok ys) e →
-    us ≡ vs ++ ys → Going old new (after (more (world_of new)) (λ ts. give (us ++ ts))) whole
-several_more {A} old now new ys vs us e more list whole is g d later = record {
-  same =
-      ap (λ (xs : List A). after (more (world_of new)) (λ ts. give (xs ++ ts))) later
-      ∙ same_after (more (world_of new)) (λ ts. give ((vs ++ ys) ++ ts))
-      (λ ts. give (vs ++ (ys ++ ts))) (λ ts w. ap (λ (xs : List A). Gives xs w)
-      (append_assoc vs ys ts))
-      ∙ sym (after_after (more (world_of new)) (λ zs. give (ys ++ zs)) (λ ts. give (vs ++ ts)))
-      ∙ ap (λ y. after y (λ ts. give (vs ++ ts)))
-      (sym (is ∙ ap (λ y. after y (λ ys w. after (more w) (λ zs. give (ys ++ zs)))) d.tells)) ∙
-      g.same;
-  stays = stays_on old now new g.stays d.stays;
-}
+grouped : {A : Type 0} (vs ys : List A) (e : Ends (List A)) →
+    after (after e (λ zs. give (ys ++ zs))) (λ ts. give (vs ++ ts)) ≡ after e
+    (λ ts. give ((vs ++ ys) ++ ts))
+grouped vs ys (Gives zs w) = ap (λ xs. Gives xs w) (sym (append_assoc vs ys zs))
+grouped vs ys (Raises area w) = refl
+grouped vs ys (RunsOut w) = refl
+
+several : {A : Type 0} (e : Ends (List A)) (vs : List A) (more : Eval (List A)) →
+    after (after e (λ ys u. after (more u) (λ zs. give (ys ++ zs)))) (λ ts. give (vs ++ ts)) ≡
+    after (after e (λ ys. give (vs ++ ys))) (λ us u. after (more u) (λ ts. give (us ++ ts)))
+several (Gives ys w) vs more = grouped vs ys (more w)
+several (Raises area w) vs more = refl
+several (RunsOut w) vs more = refl
+
+module _ {A : Type 0} (old now new : Content) (e : Ends (List A)) (vs : List A)
+    (more : Eval (List A)) (list whole : Ends (List A)) where
+  pub several_stop : (s : Stop) (r : Result (List A) Stop) →
+      list ≡ after e (λ ys u. after (more u) (λ zs. give (ys ++ zs))) →
+      Going old now (after list (λ ts. give (vs ++ ts))) whole →
+      Ended {A = List A} now new (Err s) (after e (λ ys. give (vs ++ ys))) → r ≡ Err s →
+      Ended old new r whole
+  several_stop s r is g d answer =
+      stops {A = List A} {B = List A} old now new s (after e (λ ys. give (vs ++ ys)))
+      (λ us u. after (more u) (λ ts. give (us ++ ts))) (after list (λ ts. give (vs ++ ts))) whole r
+      (ap (λ x. after x (λ ts. give (vs ++ ts))) is ∙ several e vs more) g d answer
+
+  pub several_go : (us : List A) →
+      list ≡ after e (λ ys u. after (more u) (λ zs. give (ys ++ zs))) →
+      Going old now (after list (λ ts. give (vs ++ ts))) whole →
+      Ended now new (Ok us) (after e (λ ys. give (vs ++ ys))) →
+      Going old new (after (more (world_of new)) (λ ts. give (us ++ ts))) whole
+  several_go us is g d =
+      goes_on old now new us (after e (λ ys. give (vs ++ ys)))
+      (λ us u. after (more u) (λ ts. give (us ++ ts))) (after list (λ ts. give (vs ++ ts))) whole
+      (ap (λ x. after x (λ ts. give (vs ++ ts))) is ∙ several e vs more) g d
 
 -- ---- operations
 

@@ -6,8 +6,6 @@ use Rattle.std.proofs.lemmas.Bool.{leb-true}
 use Rattle.std.proofs.lemmas.List.{length-map, take_all}
 use Rattle.sql_values.specs.declared.value.Value.{Value}
 use Rattle.sql_values.specs.declared.value.Value.TheVariants.{Null}
-use Rattle.sql_values.specs.declared.value.ValueFault.{ValueFault}
-use Rattle.sql_values.specs.Values.{UnlessNoMemory}
 use Rattle.bound_trees.specs.Operands.{takes}
 use Rattle.bound_trees.specs.declared.expr.BoundExpr.{BoundExpr}
 use Rattle.bound_trees.specs.declared.expr.BoundOperation.{BoundOperation}
@@ -16,8 +14,7 @@ use Rattle.row_types.specs.Rows.{Row}
 use Rattle.rel_algebra.specs.Tree.{Exprs, NoExpr, MoreExprs, Literal, Operation, Negation}
 use Rattle.rel_algebra.specs.Tree.{Comparing, Modulo, CharLength, Substring, Cast, Opposite}
 use Rattle.rel_algebra.specs.Tree.{NullTest, TrueTest, FalseTest, AnyOf}
-use Rattle.rel_algebra.specs.Endings.{ending_of}
-use Rattle.rel_algebra.specs.World.{World, Frame, Eval, Called, no_self, after, give}
+use Rattle.rel_algebra.specs.World.{World, Frame, Ends, Eval, Called, no_self, after, give}
 use Rattle.rel_algebra.specs.Meaning.{ev, ev_all, ev_args, ev_case, carried}
 use Rattle.catalog_store.specs.Catalog.{Catalog}
 use Rattle.catalog_store.specs.View.{tree_of, exprs_of, operated, standing, stood, over_all}
@@ -26,12 +23,10 @@ use Rattle.run_choices.specs.declared.stop.Stop.{Stop}
 use Rattle.run_expressions.specs.Content.{Content, world_of}
 use Rattle.run_expressions.specs.Cost.{cost, costs}
 use Rattle.run_expressions.specs.Ending.{Ended}
-use Rattle.run_choices.specs.Faults.{stopped_by}
+use Rattle.run_expressions.specs.Following.{Follows}
 use Rattle.run_expressions.specs.Words.{strict_value}
 use Rattle.run_choices.specs.Words.{passes_by}
-use Rattle.run_expressions.proofs.Going.{Going, going, goes_on, stops, gives, ends_as, ended_as}
-use Rattle.run_expressions.proofs.Going.{fault_carried}
-use Rattle.run_expressions.proofs.Stays.{stays_same}
+use Rattle.run_expressions.proofs.Going.{going, goes_on, stops, ends_as, follows}
 
 -- without parameters the arguments are the values themselves
 args_all : (es : Exprs) (self : Called) (rows : List Row) (f : Frame) (w : World) →
@@ -106,58 +101,17 @@ strict_ev k word es rows f w h =
     (sym h.stands)
     (over_all_ev k h.operation es rows f w)
 
--- an operand stops
-pub strict_stops : (k : Catalog) (word : BoundOperation) (es : List BoundExpr) (rows : List Row)
-    (f : Frame) (old new : Content) (s : Stop) (r : Result Value Stop) → IsStrict word (length es) →
-    Ended {A = List Value} old new (Err s) (ev_args (exprs_of k es) [] no_self rows f
-    (world_of old)) → r ≡ Err s → Ended old new r
-    (ev (operated word (map (tree_of k) es)) no_self rows f (world_of old))
-strict_stops k word es rows f old new s r h d answer =
-    let whole = ev (operated word (map (tree_of k) es)) no_self rows f (world_of old) in
-    stops {A = List Value} {B = Value} old old new s
-    (ev_args (exprs_of k es) [] no_self rows f (world_of old)) (done word) whole whole r
-    (strict_ev k word es rows f (world_of old) h) (going old whole whole refl) d answer
-
--- the operands give their values
-strict_goes : (k : Catalog) (word : BoundOperation) (es : List BoundExpr) (rows : List Row)
-    (f : Frame) (old new : Content) (vs : List Value) → IsStrict word (length es) →
-    Ended old new (Ok vs) (ev_args (exprs_of k es) [] no_self rows f (world_of old)) →
-    Going old new (done word vs (world_of new))
-    (ev (operated word (map (tree_of k) es)) no_self rows f (world_of old))
-strict_goes k word es rows f old new vs h d =
-    let whole = ev (operated word (map (tree_of k) es)) no_self rows f (world_of old) in
-    goes_on old old new vs (ev_args (exprs_of k es) [] no_self rows f (world_of old)) (done word)
-    whole whole (strict_ev k word es rows f (world_of old) h) (going old whole whole refl) d
-
-pub strict_refuses : (k : Catalog) (word : BoundOperation) (es : List BoundExpr) (rows : List Row)
-    (f : Frame) (old new : Content) (vs us : List Value) (fault : ValueFault)
-    (r : Result Value Stop) → IsStrict word (length es) →
-    Ended old new (Ok vs) (ev_args (exprs_of k es) [] no_self rows f (world_of old)) → us ≡ vs →
-    UnlessNoMemory {A = Value} (Err fault)
-    (ending_of (Err fault) ≡ strict_value (standing word) us) →
-    r ≡ Err (stopped_by fault) → Ended old new r
-    (ev (operated word (map (tree_of k) es)) no_self rows f (world_of old))
-strict_refuses k word es rows f old new vs us fault r h d same refuses answer =
-    let whole = ev (operated word (map (tree_of k) es)) no_self rows f (world_of old) in
-    let left = done word vs (world_of new) in
-    ends_as old new new left whole (done word us (world_of new)) r
-    (strict_goes k word es rows f old new vs h d)
-    (ap (λ xs. done word xs (world_of new)) (sym same))
-    (ended_as new new r (Err (stopped_by fault)) (done word us (world_of new))
-    (done word us (world_of new)) answer refl (stays_same new)
-    (fault_carried fault (strict_value (standing word) us) (world_of new) refuses))
-
-pub strict_gives : (k : Catalog) (word : BoundOperation) (es : List BoundExpr) (rows : List Row)
-    (f : Frame) (old new : Content) (vs us : List Value) (v : Value) → IsStrict word (length es) →
-    Ended old new (Ok vs) (ev_args (exprs_of k es) [] no_self rows f (world_of old)) → us ≡ vs →
-    Ok v ≡ strict_value (standing word) us →
-    Ended old new (Ok v) (ev (operated word (map (tree_of k) es)) no_self rows f (world_of old))
-strict_gives k word es rows f old new vs us v h d same is =
-    gives old new v (Ok v) (done word vs (world_of new))
-    (ev (operated word (map (tree_of k) es)) no_self rows f (world_of old))
-    (strict_goes k word es rows f old new vs h d)
-    (ap (λ xs. done word xs (world_of new)) (sym same) ∙
-    ap (λ e. carried e (world_of new)) (sym is)) refl
+-- what is made of the operands is what the word gives
+pub strict_ends : (k : Catalog) (word : BoundOperation) (es : List BoundExpr) (rows : List Row)
+    (f : Frame) (old new : Content) (values : Result (List Value) Stop) (r : Result Value Stop) →
+    IsStrict word (length es) →
+    Ended old new values (ev_args (exprs_of k es) [] no_self rows f (world_of old)) →
+    Follows values r (λ vs. carried (strict_value (standing word) vs)) →
+    Ended old new r (ev (operated word (map (tree_of k) es)) no_self rows f (world_of old))
+strict_ends k word es rows f old new values r h d made =
+    subst (λ (e : Ends Value). Ended old new r e) (sym (strict_ev k word es rows f (world_of old) h))
+    (follows old new values r (ev_args (exprs_of k es) [] no_self rows f (world_of old)) (done word)
+    made d)
 
 -- ---- CASE with an operand: x, and then its arms
 

@@ -15,7 +15,7 @@ use Rattle.catalog_store.specs.View.{matching_or_nulls, itself, Joined, closed, 
 use Rattle.catalog_store.specs.View.{begun, from_of, item_of, source_of, exprs_of, select_of}
 use Rattle.catalog_store.specs.View.{selected, grouping_of}
 use Rattle.run_expressions.specs.Cost.{costs, from_cost, query_cost}
-use Rattle.run_queries.specs.declared.from.JoinedRows.{JoinedRows}
+use Rattle.run_rows.specs.declared.from.JoinedRows.{JoinedRows}
 use Rattle.catalog_store.proofs.Laws.{item_of-Inner, item_of-Left, select_of-parts}
 use Rattle.catalog_store.proofs.Laws.{grouping_of-parts}
 use Rattle.run_expressions.proofs.Laws.{rest}

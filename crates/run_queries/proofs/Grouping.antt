@@ -11,8 +11,8 @@ use Rattle.row_types.specs.Rows.{Row}
 use Rattle.row_types.specs.Groups.{values_of_column, Group, groups}
 use Rattle.rel_algebra.specs.Tree.{Aggregate, Exprs, From}
 use Rattle.rel_algebra.specs.Endings.{after as after_end, ending_of}
-use Rattle.rel_algebra.specs.World.{World, Frame, Ends, Eval, after, give, with_front, each_kept}
-use Rattle.rel_algebra.specs.World.{no_self}
+use Rattle.rel_algebra.specs.World.{World, Frame, Ends, Gives, Raises, RunsOut, Eval, after, give}
+use Rattle.rel_algebra.specs.World.{with_front, each_kept, no_self}
 use Rattle.rel_algebra.specs.Joins.{places, numbered, finish_all, group_row}
 use Rattle.rel_algebra.specs.Meaning.{answer, carried, from_rows, record_of}
 use Rattle.catalog_store.specs.Catalog.{Catalog}
@@ -24,12 +24,13 @@ use Rattle.group_index.specs.Folded.{folded_rows}
 use Rattle.run_choices.specs.declared.stop.Stop.{Stop}
 use Rattle.run_expressions.specs.Content.{Content, world_of}
 use Rattle.run_expressions.specs.Ending.{Ended}
-use Rattle.run_queries.specs.GroupRows.{all_given, row_of_ends}
-use Rattle.run_queries.specs.Groups.{records_by, groups_by, grouped_by, argument_columns}
-use Rattle.run_queries.specs.Groups.{folded_parts, parts_folded, end_record}
-use Rattle.run_expressions.proofs.Laws.{Going, going, goes_on, stops_within, goes_within, ends_as}
-use Rattle.run_expressions.proofs.Laws.{after_after, rest}
-use Rattle.run_queries.proofs.RowByRow.{each_kept-map}
+use Rattle.run_expressions.specs.Following.{Follows}
+use Rattle.run_rows.specs.GroupRows.{all_given, row_of_ends}
+use Rattle.run_rows.specs.Groups.{argument_columns, folded_parts}
+use Rattle.run_queries.specs.Groups.{records_by, groups_by, grouped_by, parts_folded}
+use Rattle.run_queries.specs.Groups.{end_record}
+use Rattle.run_expressions.proofs.Laws.{Going, going, goes_on, stops, ends_as, follows, after_after}
+use Rattle.run_queries.proofs.RowByRow.{each_kept-map, kept_at}
 
 -- one by one, or in groups
 abbrev pub one_by_one_or_grouped : Option Grouping → Exprs → Exprs → List Row → Frame → List Row →
@@ -99,54 +100,92 @@ module _ (law : IsOfGroups) (g : Grouping) (conjuncts list : Exprs) (outer : Lis
       ∙ sym (after_after (records_by g.parts conjuncts outer f rows w)
       (λ ps. give (folded_parts g.keys g.aggregates ps)) (from_there g.having list outer f))
 
-  -- the parts are folded, and their groups go on
-  parts_end : (old now new : Content) (none x : Folded) (all : List FinishedGroup)
+  -- the groups of what is folded, each finished
+  abbrev ended : Folded → World → Ends (List FinishedGroup)
+  ended none w = after (parts none w) (λ x. give (finished x))
+
+  abbrev records : List FinishedGroup → Eval (List Row)
+  records gs = each_kept (end_record g.having list outer f) gs
+
+  ended_is : (none : Folded) (w : World) → none ≡ folded_parts g.keys g.aggregates [] →
+      whole w ≡ after (ended none w) records
+  ended_is none w is = grouped_is w ∙ ap (λ (already : Folded). after (parts already w)
+      (from_there g.having list outer f)) (sym is)
+      ∙ sym (after_after (parts none w) (λ x. give (finished x)) records)
+
+  -- they can't be made
+  parts_stop : (old new : Content) (none : Folded) (s : Stop) (r : Result (List Row) Stop) →
+      none ≡ folded_parts g.keys g.aggregates [] →
+      Ended {A = List FinishedGroup} old new (Err s) (ended none (world_of old)) → r ≡ Err s →
+      Ended old new r (whole (world_of old))
+  parts_stop old new none s r is d answer =
+      stops {A = List FinishedGroup} {B = List Row} old old new s (ended none (world_of old))
+      records
+      (whole (world_of old)) (whole (world_of old)) r (ended_is none (world_of old) is)
+      (going old (whole (world_of old)) (whole (world_of old)) refl) d answer
+
+  -- each gives its record
+  parts_end : (old now new : Content) (none : Folded) (gs all : List FinishedGroup)
       (r : Result (List Row) Stop) → none ≡ folded_parts g.keys g.aggregates [] →
-      Ended old now (Ok x) (parts none (world_of old)) →
-      all ≡ finished x → Ended now new r (each_kept (end_record g.having list outer f) all
-      (world_of now)) → Ended old new r (whole (world_of old))
-  parts_end old now new none x all r none_is d are e =
-      ends_as old now new (from_there g.having list outer f x (world_of now)) (whole (world_of old))
-      (each_kept (end_record g.having list outer f) all (world_of now)) r
-      (goes_on old old now x (parts none (world_of old)) (from_there g.having list outer f)
-      (whole (world_of old)) (whole (world_of old))
-      (grouped_is (world_of old) ∙ ap (λ (already : Folded). after (parts already (world_of old))
-      (from_there g.having list outer f)) (sym none_is))
+      Ended old now (Ok gs) (ended none (world_of old)) → all ≡ gs →
+      Ended now new r (records all (world_of now)) → Ended old new r (whole (world_of old))
+  parts_end old now new none gs all r is d are e =
+      ends_as old now new (records gs (world_of now)) (whole (world_of old))
+      (records all (world_of now)) r
+      (goes_on old old now gs (ended none (world_of old)) records (whole (world_of old))
+      (whole (world_of old)) (ended_is none (world_of old) is)
       (going old (whole (world_of old)) (whole (world_of old)) refl) d)
-      (ap (λ (gs : List FinishedGroup). each_kept (end_record g.having list outer f) gs
-      (world_of now)) (sym are)) e
+      (ap (λ (es : List FinishedGroup). records es (world_of now)) (sym are)) e
 
 -- of a bound grouping with these parts
-pub groups_end : (law : IsOfGroups) (k : Catalog) (g : BoundGrouping) (ps hs : List BoundExpr)
+module _ (law : IsOfGroups) (k : Catalog) (g : BoundGrouping) (ps hs : List BoundExpr)
     (ags : List Aggregate) (conjuncts list : Exprs) (outer : List Row) (f : Frame) (rows : List Row)
-    (old now new : Content) (none x : Folded) (es all : List FinishedGroup)
-    (r : Result (List Row) Stop) → ps ≡ (out-BoundGrouping g).parts →
-    hs ≡ (out-BoundGrouping g).having →
-    ags ≡ (out-BoundGrouping g).aggregates → none ≡ folded_parts (out-BoundGrouping g).keys ags [] →
-    Ended old now (Ok x) (parts_folded none (exprs_of k ps) conjuncts outer f rows (world_of old)) →
-    es ≡ finished x → all ≡ es →
-    Ended now new r (each_kept (end_record (exprs_of k hs) list outer f) all (world_of now)) →
-    Ended old new r (grouped_by (grouping_of k g) conjuncts list outer f rows (world_of old))
-groups_end law k g ps hs ags conjuncts list outer f rows old now new none x es all r ps_are hs_are
-    ags_are none_is d are all_is e =
-    let p : Grouping = record {
-      keys = (out-BoundGrouping g).keys;
-      parts = exprs_of k ps;
-      aggregates = ags;
-      having = exprs_of k hs;
-    } in
-    let same : p ≡ grouping_of k g =
-    (λ i. record {
-      keys = (out-BoundGrouping g).keys;
-      parts = exprs_of k (ps_are i);
-      aggregates =
-          ags_are i;
-      having = exprs_of k (hs_are i);
-    }) ∙ sym (grouping_of-parts k g) in
-    subst (λ (q : Grouping). Ended old new r (grouped_by q conjuncts list outer f rows
-    (world_of old))) same
-    (parts_end law p conjuncts list outer f rows old now new none x all r none_is d
-    (all_is ∙ are) e)
+    (old now : Content) (none : Folded) (first : Result Folded Stop)
+    (ps_are : ps ≡ (out-BoundGrouping g).parts) (hs_are : hs ≡ (out-BoundGrouping g).having)
+    (ags_are : ags ≡ (out-BoundGrouping g).aggregates)
+    (none_is : none ≡ folded_parts (out-BoundGrouping g).keys ags [])
+    (d : Ended old now first (parts_folded none (exprs_of k ps) conjuncts outer f rows
+    (world_of old))) where
+  abbrev plain : Grouping
+  plain = record {
+    keys = (out-BoundGrouping g).keys;
+    parts = exprs_of k ps;
+    aggregates = ags;
+    having = exprs_of k hs;
+  }
+
+  plain_is : plain ≡ grouping_of k g
+  plain_is = (λ i. record {
+    keys = (out-BoundGrouping g).keys;
+    parts = exprs_of k (ps_are i);
+    aggregates = ags_are i;
+    having = exprs_of k (hs_are i);
+  }) ∙ sym (grouping_of-parts k g)
+
+  plainly : (new : Content) (r : Result (List Row) Stop) →
+      Ended old new r (grouped_by plain conjuncts list outer f rows (world_of old)) →
+      Ended old new r (grouped_by (grouping_of k g) conjuncts list outer f rows (world_of old))
+  plainly new r e = subst (λ (q : Grouping). Ended old new r (grouped_by q conjuncts list outer f
+      rows (world_of old))) plain_is e
+
+  pub groups_stop : (s : Stop) (r : Result (List Row) Stop) →
+      Follows {B = List FinishedGroup} first (Err s) (λ x. give (finished x)) → r ≡ Err s →
+      Ended old now r (grouped_by (grouping_of k g) conjuncts list outer f rows (world_of old))
+  groups_stop s r made answer = plainly now r
+      (parts_stop law plain conjuncts list outer f rows old now none s r none_is
+      (follows {B = List FinishedGroup} old now first (Err s)
+      (parts_folded none (exprs_of k ps) conjuncts outer f rows (world_of old))
+      (λ x. give (finished x)) made d) answer)
+
+  pub groups_end : (new : Content) (gs all : List FinishedGroup) (r : Result (List Row) Stop) →
+      Follows first (Ok gs) (λ x. give (finished x)) → all ≡ gs →
+      Ended now new r (each_kept (end_record (exprs_of k hs) list outer f) all (world_of now)) →
+      Ended old new r (grouped_by (grouping_of k g) conjuncts list outer f rows (world_of old))
+  groups_end new gs all r made are e = plainly new r
+      (parts_end law plain conjuncts list outer f rows old now new none gs all r none_is
+      (follows old now first (Ok gs)
+      (parts_folded none (exprs_of k ps) conjuncts outer f rows (world_of old))
+      (λ x. give (finished x)) made d) are e)
 
 -- ---- the loop over rows
 
@@ -155,47 +194,54 @@ folds_on : (x : Folded) (o : Option Row) (vs : List Row) →
 folds_on x None vs = refl
 folds_on x (Some r) vs = refl
 
-module _ (part : Row → Eval (Option Row)) where
-  row_at : (xs : List Row) (i : ℕ) (x : Row) (w : World) → i < length xs → x ≡ get_or xs i x →
-      each_kept part (drop i xs) w ≡ after (part x w)
-      (λ o u. after (each_kept part (drop (i + 1) xs) u) (λ ys. give (with_front o ys)))
-  row_at xs i x w h is = ap (λ (ys : List Row). each_kept part ys w) (rest xs i x h is)
+folds_in : (x : Folded) (o : Option Row) (e : Ends (List Row)) →
+    after (after e (λ ys. give (with_front o ys))) (λ ts. give (fold with_row x ts)) ≡ after e
+    (λ ts. give (fold with_row (fold with_row x (with_front o [])) ts))
+folds_in x o (Gives ys w) = ap (λ (y : Folded). Gives y w) (folds_on x o ys)
+folds_in x o (Raises area w) = refl
+folds_in x o (RunsOut w) = refl
 
-  -- its parts can't be evaluated
-  pub part_stops : (xs : List Row) (i : ℕ) (x : Row) (old now new : Content) (s : Stop)
-      (kept : Folded) (whole : Ends Folded) (r : Result Folded Stop) → i < length xs →
-      x ≡ get_or xs i x →
-      Going old now (after (each_kept part (drop i xs) (world_of now))
-      (λ ts. give (fold with_row kept ts))) whole →
-      Ended {A = Option Row} now new (Err s) (part x (world_of now)) → r ≡ Err s →
-      Ended old new r whole
-  part_stops xs i x old now new s kept whole r h is g d answer =
-      stops_within {A = Option Row} {B = List Row} {C = Folded} old now new s
-      (part x (world_of now)) (λ o u. after (each_kept part (drop (i + 1) xs) u)
-      (λ ys. give (with_front o ys)))
-      (each_kept part (drop i xs) (world_of now)) (λ ts. give (fold with_row kept ts)) whole r
-      (row_at xs i x (world_of now) h is) g d answer
+folded_on : (x : Folded) (e : Ends (Option Row)) (more : Eval (List Row)) →
+    after (after e (λ o u. after (more u) (λ ys. give (with_front o ys))))
+    (λ ts. give (fold with_row x ts)) ≡ after
+    (after e (λ o. give (fold with_row x (with_front o []))))
+    (λ y u. after (more u) (λ ts. give (fold with_row y ts)))
+folded_on x (Gives o w) more = folds_in x o (more w)
+folded_on x (Raises area w) more = refl
+folded_on x (RunsOut w) more = refl
+
+module _ (part : Row → Eval (Option Row)) (xs : List Row) (i : ℕ) (x : Row)
+    (old now new : Content) (first : Result (Option Row) Stop) (kept : Folded)
+    (whole : Ends Folded) (h : i < length xs) (is : x ≡ get_or xs i x)
+    (g : Going old now (after (each_kept part (drop i xs) (world_of now))
+    (λ ts. give (fold with_row kept ts))) whole)
+    (d : Ended now new first (part x (world_of now))) where
+  abbrev left : Ends Folded
+  left = after (each_kept part (drop i xs) (world_of now)) (λ ts. give (fold with_row kept ts))
+
+  abbrev taken : Ends Folded
+  taken = after (part x (world_of now)) (λ o. give (fold with_row kept (with_front o [])))
+
+  abbrev later : Folded → Eval Folded
+  later y u = after (each_kept part (drop (i + 1) xs) u) (λ ts. give (fold with_row y ts))
+
+  left_is : left ≡ after taken later
+  left_is = ap (λ e. after e (λ ts. give (fold with_row kept ts)))
+      (kept_at part xs i x (world_of now) h is)
+      ∙ folded_on kept (part x (world_of now)) (each_kept part (drop (i + 1) xs))
+
+  -- its parts can't be evaluated, or taken
+  pub part_stops : (s : Stop) (r : Result Folded Stop) →
+      Follows {B = Folded} first (Err s) (λ o. give (fold with_row kept (with_front o []))) →
+      r ≡ Err s → Ended old new r whole
+  part_stops s r made answer = stops {A = Folded} {B = Folded} old now new s taken later left whole
+      r left_is g (follows {B = Folded} now new first (Err s) (part x (world_of now))
+      (λ o. give (fold with_row kept (with_front o []))) made d) answer
 
   -- they are taken, where it is kept, and the next follows
-  pub part_taken : (xs : List Row) (i : ℕ) (x : Row) (old now new : Content) (o : Option Row)
-      (kept more : Folded) (whole : Ends Folded) → i < length xs → x ≡ get_or xs i x →
-      Going old now (after (each_kept part (drop i xs) (world_of now))
-      (λ ts. give (fold with_row kept ts))) whole →
-      Ended now new (Ok o) (part x (world_of now)) →
-      more ≡ fold with_row kept (with_front o []) →
-      Going old new (after (each_kept part (drop (i + 1) xs) (world_of new))
-      (λ ts. give (fold with_row more ts))) whole
-  part_taken xs i x old now new o kept more whole h is g d taken =
-      let left = each_kept part (drop (i + 1) xs) (world_of new) in
-      let on = goes_within old now new o (part x (world_of now))
-      (λ p u. after (each_kept part (drop (i + 1) xs) u) (λ ys. give (with_front p ys)))
-      (each_kept part (drop i xs) (world_of now))
-      (λ ts. give (fold with_row kept ts)) whole (row_at xs i x (world_of now) h is) g d in
-      record {
-        same =
-            ap (λ (y : Folded). after left (λ ts. give (fold with_row y ts))) taken ∙
-            (λ j. after left (λ ts. give (sym (folds_on kept o ts) j)))
-            ∙ sym (after_after left (λ ys. give (with_front o ys))
-            (λ ts. give (fold with_row kept ts))) ∙ on.same;
-        stays = on.stays;
-      }
+  pub part_taken : (y : Folded) →
+      Follows first (Ok y) (λ o. give (fold with_row kept (with_front o []))) →
+      Going old new (later y (world_of new)) whole
+  part_taken y made = goes_on old now new y taken later left whole left_is g
+      (follows now new first (Ok y) (part x (world_of now))
+      (λ o. give (fold with_row kept (with_front o []))) made d)

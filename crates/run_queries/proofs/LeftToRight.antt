@@ -1,11 +1,13 @@
 -- FROM made from left to right gives what the nested joins give. ISO/IEC 9075-2, 7.5 (from clause)
 -- and 7.10 (joined table).
 use Rattle.std.proofs.Common.{ℕ, ◌≡◌, ◌<◌, ◌+◌, ◌∷◌, [], List, Option, Some, None, length, drop}
-use Rattle.std.proofs.Common.{get_or, map, refl, sym, ap, ◌∙◌, Result, Ok, Err}
+use Rattle.std.proofs.Common.{get_or, map, refl, sym, ap, ◌∙◌, subst, Result, Ok, Err}
 use Rattle.std.specs.Option.{option_map}
 use Rattle.bound_trees.specs.declared.expr.BoundExpr.{BoundExpr}
 use Rattle.bound_trees.specs.declared.query.BoundFromItem.{BoundFromItem}
-use Rattle.bound_trees.specs.declared.query.BoundFromItem.TheVariants.{Left}
+use Rattle.bound_trees.specs.declared.query.BoundFromItem.TheVariants.{Comma, Cross as Crossing}
+use Rattle.bound_trees.specs.declared.query.BoundFromItem.TheVariants.{Inner as InnerJoin}
+use Rattle.bound_trees.specs.declared.query.BoundFromItem.TheVariants.{Left as LeftJoin}
 use Rattle.bound_trees.specs.declared.query.BoundSource.{BoundSource}
 use Rattle.bound_trees.specs.declared.query.BoundSelect.{BoundSelect, out-BoundSelect}
 use Rattle.bound_trees.specs.declared.query.BoundGrouping.{BoundGrouping}
@@ -19,18 +21,21 @@ use Rattle.catalog_store.specs.View.{Joining, after_comma, crossing, matching, m
 use Rattle.catalog_store.specs.View.{itself, Joined, beside, closed, grown, all_grown, begun}
 use Rattle.catalog_store.specs.View.{from_of, item_of, source_of, exprs_of, select_of, selected}
 use Rattle.catalog_store.specs.View.{grouping_of}
-use Rattle.run_queries.specs.declared.from.JoinedRows.{JoinedRows}
+use Rattle.run_rows.specs.declared.from.JoinedRows.{JoinedRows}
 use Rattle.run_choices.specs.declared.stop.Stop.{Stop}
+use Rattle.run_choices.specs.Ending.{TellsAnywhere}
 use Rattle.run_expressions.specs.Content.{Content, world_of}
 use Rattle.run_expressions.specs.Ending.{Ended}
+use Rattle.run_expressions.specs.Following.{Follows}
 use Rattle.run_queries.specs.Groups.{records_by, grouped_by}
-use Rattle.run_queries.specs.Joins.{matched, beside_rows, closed_rows, with_current, joined_to}
-use Rattle.run_queries.specs.Joins.{one_joined, all_joined}
-use Rattle.catalog_store.proofs.Laws.{select_of-parts, item_of-Left}
+use Rattle.run_rows.specs.Joins.{beside_rows, closed_rows, with_current, past_comma, crossed}
+use Rattle.run_queries.specs.Joins.{matched, joined_on, joined_to, one_joined, all_joined}
+use Rattle.catalog_store.proofs.Laws.{select_of-parts, item_of-Comma, item_of-Cross, item_of-Inner}
+use Rattle.catalog_store.proofs.Laws.{item_of-Left}
 use Rattle.run_queries.proofs.Grouping.{one_by_one_or_grouped, selected_is}
 use Rattle.run_queries.proofs.RowByRow.{row_by_row}
-use Rattle.run_expressions.proofs.Laws.{Going, going, goes_on, stops, gives, ends_as, after_give}
-use Rattle.run_expressions.proofs.Laws.{after_after, deep, rest}
+use Rattle.run_expressions.proofs.Laws.{Going, going, goes_on, stops, ends_as, follows, after_give}
+use Rattle.run_expressions.proofs.Laws.{after_after, deep, rest, stays_same}
 
 abbrev joined : Option (List Row) → List Row → JoinedRows
 joined before current = record { before = before; current = current }
@@ -103,22 +108,22 @@ joins (Some b) whole c g part outer f is next w =
     next)
 
 -- a comma: all that stands before it is one side
-abbrev past_comma : From → List Row → Frame → (JoinedRows → Eval (List Row)) → JoinedRows →
+abbrev comma_step : From → List Row → Frame → (JoinedRows → Eval (List Row)) → JoinedRows →
     Eval (List Row)
-past_comma g outer f next j u = after (rows_by g outer f u)
+comma_step g outer f next j u = after (rows_by g outer f u)
     (λ r. next (joined (Some (beside_rows j.before j.current)) r))
 
 commas : (b : Option From) (c g : From) (outer : List Row) (f : Frame)
     (next : JoinedRows → Eval (List Row)) (w : World) →
-    after (so_far b c outer f w) (past_comma g outer f next) ≡ after
+    after (so_far b c outer f w) (comma_step g outer f next) ≡ after
     (so_far (Some (beside b c)) g outer f w) next
 commas None c g outer f next w =
-    after_after (rows_by c outer f w) (λ x. give (joined None x)) (past_comma g outer f next) ∙
+    after_after (rows_by c outer f w) (λ x. give (joined None x)) (comma_step g outer f next) ∙
     sym (deep (rows_by c outer f w) (λ x. rows_by g outer f) (λ x r. give (joined (Some x) r))
     next)
 commas (Some b) c g outer f next w =
     deep (rows_by b outer f w) (λ l. rows_by c outer f) (λ l x. give (joined (Some l) x))
-    (past_comma g outer f next)
+    (comma_step g outer f next)
     ∙ sym (deep (rows_by (Cross b c) outer f w) (λ x. rows_by g outer f)
     (λ x r. give (joined (Some x) r)) next
     ∙ deep (rows_by b outer f w) (λ l. rows_by c outer f) (λ l r. give (pairs l r))
@@ -171,51 +176,72 @@ from_left (i ∷ is) outer f w = from_there is (begun i) outer f w ∙
     after_after (rows_by (itself i) outer f w) (λ x. give (joined None x))
     (λ x. all_joined is outer f (Some x))
 
--- ---- LEFT JOIN, whose right side is one item
+-- ---- one item more, as the code makes it
 
-module _ (k : Catalog) (item : BoundFromItem) (source : BoundSource) (on xs : List BoundExpr)
-    (nulls : Option ℕ) (o : Option JoinedRows) (j : JoinedRows) (left right rows : List Row)
-    (outer : List Row) (f : Frame) (old : Content)
-    (there : o ≡ Some j) (is : item ≡ Left source on) (on_is : xs ≡ on)
-    (left_same : left ≡ j.current) (right_is : right ≡ rows)
-    (nulls_are : nulls ≡ Some (from_width (source_of k source) (table_width old.memory.tables)))
-  where
-    left_is : one_joined o (item_of k item) outer f rows (world_of old) ≡ after
-        (matched (exprs_of k xs) nulls outer f left right (world_of old))
-        (λ x. give (with_current j x))
-    left_is =
-        let w = world_of old in
-        ap (λ (p : Option JoinedRows). one_joined p (item_of k item) outer f rows w) there
-        ∙ ap (λ (i : Joining). joined_to j i outer f rows w)
-        (ap (item_of k) is ∙ item_of-Left k source on)
-        ∙ ap (λ n. after (matched (exprs_of k on) n outer f j.current rows w)
-        (λ x. give (with_current j x))) (sym nulls_are)
-        ∙ ap (λ (es : List BoundExpr). after (matched (exprs_of k es) nulls outer f j.current rows w)
-        (λ x. give (with_current j x))) (sym on_is)
-        ∙ ap (λ (ls : List Row). after (matched (exprs_of k xs) nulls outer f ls rows w)
-        (λ x. give (with_current j x))) (sym left_same)
-        ∙ ap (λ (rs : List Row). after (matched (exprs_of k xs) nulls outer f left rs w)
-        (λ x. give (with_current j x))) (sym right_is)
+-- the rows of JOIN after the last comma
+pub on_ends : (on : Exprs) (nulls : Option ℕ) (j : JoinedRows) (left right rows : List Row)
+    (outer : List Row) (f : Frame) (old new : Content) (found : Result (List Row) Stop)
+    (r : Result JoinedRows Stop) → left ≡ j.current → right ≡ rows →
+    Ended old new found (matched on nulls outer f left right (world_of old)) →
+    Follows found r (λ x. give (with_current j x)) →
+    Ended old new r (joined_on j on nulls outer f rows (world_of old))
+on_ends on nulls j left right rows outer f old new found r left_is right_is d made =
+    let w = world_of old in
+    subst (λ (e : Ends JoinedRows). Ended old new r e)
+    (ap (λ (ls : List Row). after (matched on nulls outer f ls right w)
+    (λ x. give (with_current j x))) left_is
+    ∙ ap (λ (rs : List Row). after (matched on nulls outer f j.current rs w)
+    (λ x. give (with_current j x))) right_is)
+    (follows old new found r (matched on nulls outer f left right w)
+    (λ x. give (with_current j x)) made d)
 
-    pub left_stops : (new : Content) (s : Stop) (r : Result JoinedRows Stop) →
-        Ended {A = List Row} old new (Err s) (matched (exprs_of k xs) nulls outer f left right
-        (world_of old)) → r ≡ Err s →
-        Ended old new r (one_joined o (item_of k item) outer f rows (world_of old))
-    left_stops new s r d answer =
-        let whole = one_joined o (item_of k item) outer f rows (world_of old) in
-        stops old old new s (matched (exprs_of k xs) nulls outer f left right (world_of old))
-        (λ x. give (with_current j x)) whole whole r left_is (going old whole whole refl) d answer
+module _ (k : Catalog) (item : BoundFromItem) (o : Option JoinedRows) (j : JoinedRows)
+    (rows : List Row) (outer : List Row) (f : Frame) (old : Content) (there : o ≡ Some j) where
+  -- as an item of this form says
+  formed : (m : Joining) (new : Content) (r : Result JoinedRows Stop) → item_of k item ≡ m →
+      Ended old new r (joined_to j m outer f rows (world_of old)) →
+      Ended old new r (one_joined o (item_of k item) outer f rows (world_of old))
+  formed m new r is d = subst (λ (e : Ends JoinedRows). Ended old new r e)
+      (sym (ap (λ (p : Option JoinedRows). one_joined p (item_of k item) outer f rows
+      (world_of old)) there
+      ∙ ap (λ (i : Joining). joined_to j i outer f rows (world_of old)) is)) d
 
-    pub left_joins : (new : Content) (current : List Row) (more : JoinedRows) →
-        Ended old new (Ok current) (matched (exprs_of k xs) nulls outer f left right (world_of old)) →
-        more ≡ with_current j current →
-        Ended old new (Ok more) (one_joined o (item_of k item) outer f rows (world_of old))
-    left_joins new current more d made =
-        let whole = one_joined o (item_of k item) outer f rows (world_of old) in
-        gives old new more (Ok more) (give (with_current j current) (world_of new)) whole
-        (goes_on old old new current (matched (exprs_of k xs) nulls outer f left right (world_of old))
-        (λ x. give (with_current j x)) whole whole left_is (going old whole whole refl) d)
-        (ap (λ (x : JoinedRows). give x (world_of new)) (sym made)) refl
+  pub comma_ends : (source : BoundSource) (r : Result JoinedRows Stop) → item ≡ Comma source →
+      TellsAnywhere r (give (past_comma j rows)) →
+      Ended old old r (one_joined o (item_of k item) outer f rows (world_of old))
+  comma_ends source r is d = formed (after_comma (source_of k source)) old r
+      (ap (item_of k) is ∙ item_of-Comma k source)
+      (record { tells = d (world_of old); stays = stays_same old })
+
+  pub cross_ends : (source : BoundSource) (r : Result JoinedRows Stop) → item ≡ Crossing source →
+      TellsAnywhere r (give (crossed j rows)) →
+      Ended old old r (one_joined o (item_of k item) outer f rows (world_of old))
+  cross_ends source r is d = formed (crossing (source_of k source)) old r
+      (ap (item_of k) is ∙ item_of-Cross k source)
+      (record { tells = d (world_of old); stays = stays_same old })
+
+  pub inner_ends : (source : BoundSource) (on xs : List BoundExpr) (new : Content)
+      (r : Result JoinedRows Stop) → item ≡ InnerJoin source on → xs ≡ on →
+      Ended old new r (joined_on j (exprs_of k xs) None outer f rows (world_of old)) →
+      Ended old new r (one_joined o (item_of k item) outer f rows (world_of old))
+  inner_ends source on xs new r is same d =
+      formed (matching (source_of k source) (exprs_of k on)) new r
+      (ap (item_of k) is ∙ item_of-Inner k source on)
+      (subst (λ (es : List BoundExpr). Ended old new r (joined_on j (exprs_of k es) None outer f
+      rows (world_of old))) same d)
+
+  pub left_ends : (source : BoundSource) (on xs : List BoundExpr) (n : ℕ) (new : Content)
+      (r : Result JoinedRows Stop) → item ≡ LeftJoin source on → xs ≡ on →
+      n ≡ from_width (source_of k source) (table_width old.memory.tables) →
+      Ended old new r (joined_on j (exprs_of k xs) (Some n) outer f rows (world_of old)) →
+      Ended old new r (one_joined o (item_of k item) outer f rows (world_of old))
+  left_ends source on xs n new r is same counted d =
+      formed (matching_or_nulls (source_of k source) (exprs_of k on)) new r
+      (ap (item_of k) is ∙ item_of-Left k source on)
+      (subst (λ (m : ℕ). Ended old new r (joined_on j (exprs_of k on) (Some m) outer f rows
+      (world_of old))) counted
+      (subst (λ (es : List BoundExpr). Ended old new r (joined_on j (exprs_of k es) (Some n) outer f
+      rows (world_of old))) same d))
 
 -- ---- the loop over items
 

@@ -1,17 +1,19 @@
--- Joins made left row by left row. ISO/IEC 9075-2, 7.10 (joined table).
+-- Joins made left row by left row, and lists made row by row. ISO/IEC 9075-2, 7.10 (joined table).
 use Rattle.std.proofs.Common.{ℕ, ◌≡◌, ◌<◌, ◌+◌, ◌++◌, ◌∷◌, [], List, Option, Some, None, length}
-use Rattle.std.proofs.Common.{drop, get_or, map, refl, sym, ap, ◌∙◌, Result, Ok, Err}
+use Rattle.std.proofs.Common.{drop, get_or, map, refl, sym, ap, ◌∙◌, subst, Result, Ok, Err, Bool}
 use Rattle.row_types.specs.Rows.{Row}
 use Rattle.rel_algebra.specs.Tree.{Exprs}
 use Rattle.rel_algebra.specs.World.{World, Frame, Ends, Eval, after, give, with_front, tested}
-use Rattle.rel_algebra.specs.World.{each_kept, each_listed, no_self}
+use Rattle.rel_algebra.specs.World.{each_kept, each_listed, kept, no_self}
 use Rattle.rel_algebra.specs.Meaning.{holds}
 use Rattle.rel_algebra.specs.Joins.{pairs}
 use Rattle.run_choices.specs.declared.stop.Stop.{Stop}
 use Rattle.run_expressions.specs.Content.{Content, world_of}
 use Rattle.run_expressions.specs.Ending.{Ended}
+use Rattle.run_expressions.specs.Following.{Follows}
 use Rattle.run_queries.specs.Joins.{match_of, matched}
-use Rattle.run_expressions.proofs.Laws.{Going, stops_within, several_more, after_give, same_after}
+use Rattle.run_expressions.proofs.Laws.{Going, follows, several_stop}
+use Rattle.run_expressions.proofs.Laws.{several_go, adds_stop, adds_go, after_give, same_after}
 use Rattle.run_expressions.proofs.Laws.{deep, rest}
 
 front : {A : Type 0} (o : Option A) (xs ys : List A) →
@@ -84,26 +86,85 @@ listed_at : (part : Row → Eval (List Row)) (xs : List Row) (i : ℕ) (x : Row)
     (λ ys u. after (each_listed part (drop (i + 1) xs) u) (λ zs. give (ys ++ zs)))
 listed_at part xs i x w h is = ap (λ (ys : List Row). each_listed part ys w) (rest xs i x h is)
 
-pub listed_stops : (part : Row → Eval (List Row)) (xs : List Row) (i : ℕ) (x : Row)
-    (old now new : Content) (s : Stop) (vs : List Row) (whole : Ends (List Row))
-    (r : Result (List Row) Stop) →
-    i < length xs → x ≡ get_or xs i x → Going old now
-    (after (each_listed part (drop i xs) (world_of now)) (λ ts. give (vs ++ ts))) whole →
-    Ended {A = List Row} now new (Err s) (part x (world_of now)) → r ≡ Err s → Ended old new r whole
-listed_stops part xs i x old now new s vs whole r h is g d answer =
-    stops_within old now new s (part x (world_of now))
-    (λ ys u. after (each_listed part (drop (i + 1) xs) u) (λ zs. give (ys ++ zs)))
-    (each_listed part (drop i xs) (world_of now)) (λ ts. give (vs ++ ts)) whole r
-    (listed_at part xs i x (world_of now) h is) g d answer
+module _ (part : Row → Eval (List Row)) (xs : List Row) (i : ℕ) (x : Row) (old now new : Content)
+    (first : Result (List Row) Stop) (vs : List Row) (whole : Ends (List Row)) where
+  -- a row stops
+  pub listed_stop : (s : Stop) (r : Result (List Row) Stop) → i < length xs → x ≡ get_or xs i x →
+      Going old now (after (each_listed part (drop i xs) (world_of now)) (λ ts. give (vs ++ ts)))
+      whole → Ended now new first (part x (world_of now)) →
+      Follows {B = List Row} first (Err s) (λ ys. give (vs ++ ys)) → r ≡ Err s →
+      Ended old new r whole
+  listed_stop s r h is g d made answer =
+      several_stop old now new (part x (world_of now)) vs (each_listed part (drop (i + 1) xs))
+      (each_listed part (drop i xs) (world_of now)) whole s r
+      (listed_at part xs i x (world_of now) h is) g
+      (follows {B = List Row} now new first (Err s) (part x (world_of now))
+      (λ ys. give (vs ++ ys)) made d) answer
 
-pub listed_more : (part : Row → Eval (List Row)) (xs : List Row) (i : ℕ) (x : Row)
-    (old now new : Content) (ys vs us : List Row) (whole : Ends (List Row)) →
-    i < length xs → x ≡ get_or xs i x → Going old now
-    (after (each_listed part (drop i xs) (world_of now)) (λ ts. give (vs ++ ts))) whole →
-    Ended now new (Ok ys) (part x (world_of now)) → us ≡ vs ++ ys →
-    Going old new (after (each_listed part (drop (i + 1) xs) (world_of new))
-    (λ ts. give (us ++ ts))) whole
-listed_more part xs i x old now new ys vs us whole h is g d later =
-    several_more old now new ys vs us (part x (world_of now)) (each_listed part (drop (i + 1) xs))
-    (each_listed part (drop i xs) (world_of now)) whole
-    (listed_at part xs i x (world_of now) h is) g d later
+  -- what it gives is added, and the next follows
+  pub listed_go : (us : List Row) → i < length xs → x ≡ get_or xs i x →
+      Going old now (after (each_listed part (drop i xs) (world_of now)) (λ ts. give (vs ++ ts)))
+      whole → Ended now new first (part x (world_of now)) →
+      Follows first (Ok us) (λ ys. give (vs ++ ys)) →
+      Going old new (after (each_listed part (drop (i + 1) xs) (world_of new))
+      (λ ts. give (us ++ ts))) whole
+  listed_go us h is g d made =
+      several_go old now new (part x (world_of now)) vs (each_listed part (drop (i + 1) xs))
+      (each_listed part (drop i xs) (world_of now)) whole us
+      (listed_at part xs i x (world_of now) h is) g
+      (follows now new first (Ok us) (part x (world_of now)) (λ ys. give (vs ++ ys)) made d)
+
+-- ---- loops that keep some
+
+pub kept_at : {A B : Type 0} (part : A → Eval (Option B)) (xs : List A) (i : ℕ) (x : A)
+    (w : World) → i < length xs → x ≡ get_or xs i x →
+    each_kept part (drop i xs) w ≡ after (part x w)
+    (λ o u. after (each_kept part (drop (i + 1) xs) u) (λ ys. give (with_front o ys)))
+kept_at {A} part xs i x w h is = ap (λ (ys : List A). each_kept part ys w) (rest xs i x h is)
+
+module _ {A B : Type 0} (part : A → Eval (Option B)) (xs : List A) (i : ℕ) (x : A)
+    (old now new : Content) (first : Result (Option B) Stop) (vs : List B)
+    (whole : Ends (List B)) where
+  -- one stops
+  pub kept_stop : (s : Stop) (r : Result (List B) Stop) → i < length xs → x ≡ get_or xs i x →
+      Going old now (after (each_kept part (drop i xs) (world_of now)) (λ ts. give (vs ++ ts)))
+      whole → Ended now new first (part x (world_of now)) →
+      Follows {B = List B} first (Err s) (λ o. give (vs ++ with_front o [])) → r ≡ Err s →
+      Ended old new r whole
+  kept_stop s r h is g d made answer =
+      adds_stop old now new (part x (world_of now)) (λ o. o) vs (each_kept part (drop (i + 1) xs))
+      (each_kept part (drop i xs) (world_of now)) whole s r
+      (kept_at part xs i x (world_of now) h is) g
+      (follows {B = List B} now new first (Err s) (part x (world_of now))
+      (λ o. give (vs ++ with_front o [])) made d) answer
+
+  -- what it gives is added, and the next follows
+  pub kept_go : (us : List B) → i < length xs → x ≡ get_or xs i x →
+      Going old now (after (each_kept part (drop i xs) (world_of now)) (λ ts. give (vs ++ ts)))
+      whole → Ended now new first (part x (world_of now)) →
+      Follows first (Ok us) (λ o. give (vs ++ with_front o [])) →
+      Going old new (after (each_kept part (drop (i + 1) xs) (world_of new))
+      (λ ts. give (us ++ ts))) whole
+  kept_go us h is g d made =
+      adds_go old now new (part x (world_of now)) (λ o. o) vs (each_kept part (drop (i + 1) xs))
+      (each_kept part (drop i xs) (world_of now)) whole us
+      (kept_at part xs i x (world_of now) h is) g
+      (follows now new first (Ok us) (part x (world_of now)) (λ o. give (vs ++ with_front o []))
+      made d)
+
+-- ---- one pair
+
+-- the pair of two rows, where ON holds of it
+pub match_ends : (on : Exprs) (outer sight : List Row) (f : Frame) (l r row : Row)
+    (old new : Content) (keep : Result Bool Stop) (answer : Result (Option Row) Stop) →
+    row ≡ l ++ r → sight ≡ row ∷ outer →
+    Ended old new keep (holds on no_self sight f (world_of old)) →
+    Follows keep answer (λ yes. kept yes (give row)) →
+    Ended old new answer (match_of on outer f l r (world_of old))
+match_ends on outer sight f l r row old new keep answer row_is seen_is d made =
+    subst (λ (p : Row). Ended old new answer (tested (holds on no_self (p ∷ outer) f) (give p)
+    (world_of old))) row_is
+    (subst (λ (s : List Row). Ended old new answer (tested (holds on no_self s f) (give row)
+    (world_of old))) seen_is
+    (follows old new keep answer (holds on no_self sight f (world_of old))
+    (λ yes. kept yes (give row)) made d))

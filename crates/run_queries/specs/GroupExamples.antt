@@ -1,9 +1,8 @@
 -- Worked rows: queries in groups, and which of several conditions ends them. ISO/IEC 9075-2, 7.13
 -- (group by clause), 7.14 (having clause) and 10.9 (aggregate function).
-use Rattle.std.specs.Prelude.{ℕ, pos, false, ◌≡◌, List, [], ◌∷◌, Ok, Err}
+use Rattle.std.specs.Prelude.{ℕ, pos, false, ◌≡◌, List, [], ◌∷◌}
 use Rattle.std.proofs.Common.{refl}
-use Rattle.sql_values.specs.declared.value.Value.TheVariants.{Null, Int, Bool as Truth}
-use Rattle.sql_values.specs.declared.value.ValueFault.TheVariants.{OutOfRange, DivZero}
+use Rattle.sql_values.specs.declared.value.Value.TheVariants.{Int, Bool as Truth}
 use Rattle.sql_values.specs.declared.fold.FoldKind.TheVariants.{Count, Sum, Max}
 use Rattle.sql_values.specs.declared.operators.Operator.{Operator}
 use Rattle.sql_values.specs.declared.operators.Operator.TheVariants.{Add, Divide}
@@ -19,7 +18,6 @@ use Rattle.rel_algebra.specs.Tree.{MoreLinks, Exprs, NoExpr, MoreExprs, Aggregat
 use Rattle.rel_algebra.specs.Tree.{Query, Grouped, Values, NoRow, MoreRows}
 use Rattle.rel_algebra.specs.World.{World, Ends, Gives, Raises, no_self, no_frame}
 use Rattle.rel_algebra.specs.Meaning.{answer}
-use Rattle.run_queries.specs.GroupRows.{row_of_ends}
 
 -- a number that is not negative
 abbrev number : ℕ → Expr
@@ -125,12 +123,3 @@ in_order_seen = refl
 of_nothing : gives (of_all (rows 0 1 0 2) (only (Literal (Truth false))) (Literal (Truth false))
     Count NoExpr (only (Column 0 0))) ≡ Gives (one 0 ∷ []) w
 of_nothing = refl
-
--- of two aggregates that raise the first ends it
-first_of_two : row_of_ends (one 1) (Ok Null ∷ Err DivZero ∷ Err OutOfRange ∷ []) ≡
-    Err (area_of DivisionByZero)
-first_of_two = refl
-
--- where each gives a value, the row is the key and these
-all_give : row_of_ends (one 1) (Ok Null ∷ Ok (Int (pos 2)) ∷ []) ≡ Ok (Int (pos 1) ∷ Null ∷ one 2)
-all_give = refl

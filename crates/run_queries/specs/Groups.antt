@@ -1,7 +1,6 @@
 -- What a SELECT makes of the rows of its FROM, one by one or in groups. ISO/IEC 9075-2, 7.13 (group
 -- by clause), 7.14 (having clause) and 7.16 (query specification).
-use Rattle.std.specs.Prelude.{ℕ, suc, List, [], ◌∷◌, fold, Option}
-use Rattle.row_types.specs.declared.aggregate_column.AggregateColumn.{AggregateColumn}
+use Rattle.std.specs.Prelude.{ℕ, List, ◌∷◌, fold, Option}
 use Rattle.row_types.specs.Rows.{Row}
 use Rattle.rel_algebra.specs.Tree.{Aggregate, Exprs}
 use Rattle.rel_algebra.specs.World.{Eval, Frame, ◌>>=◌, give, each_kept, no_self}
@@ -10,8 +9,8 @@ use Rattle.rel_algebra.specs.Groups.{Group, groups}
 use Rattle.rel_algebra.specs.Joins.{places, numbered, group_row}
 use Rattle.catalog_store.specs.View.{Grouping}
 use Rattle.group_index.specs.declared.finished_group.FinishedGroup.{FinishedGroup}
-use Rattle.group_index.specs.Folded.{Folded, with_row, folded_rows}
-use Rattle.run_queries.specs.GroupRows.{row_of_ends}
+use Rattle.group_index.specs.Folded.{Folded, with_row}
+use Rattle.run_rows.specs.GroupRows.{row_of_ends}
 
 -- one by one: of each row the tests, and where they are true the list
 abbrev pub records_by : Exprs → Exprs → List Row → Frame → List Row → Eval (List Row)
@@ -39,15 +38,6 @@ grouped_by g conjuncts list outer f rows = do
   groups_by g.keys g.aggregates g.having list outer f parts
 
 -- ---- of rows that are folded as they come
-
--- each aggregate with the column of its argument
-abbrev pub argument_columns : ℕ → List Aggregate → List AggregateColumn
-argument_columns i [] = []
-argument_columns i (a ∷ ags) = record { kind = a; place = i } ∷ argument_columns (suc i) ags
-
--- what is kept of the parts of rows
-abbrev pub folded_parts : ℕ → List Aggregate → List Row → Folded
-folded_parts keys ags parts = folded_rows (places 0 keys) (argument_columns keys ags) parts
 
 -- the parts of more rows
 abbrev pub parts_folded : Folded → Exprs → Exprs → List Row → Frame → List Row → Eval Folded

@@ -18,10 +18,10 @@ use crate::queries::answer_query;
 use bound_trees::{BoundExpr, BoundLink, BoundOperation};
 use catalog_store::Catalog;
 use run_expressions::{
-    Arguments, Frame, RowsInSight, Stop, World, assign_at, column, exists, is_false, is_true,
-    member, operation_value, passes, single,
+    Arguments, Frame, RowsInSight, Stop, World, column, is_false, is_true, passes,
 };
-use sql_values::{Name, SqlType, Value, assign};
+use run_rows::{applied, assigned, exists_of, member_of, single_of, value_of, with_argument};
+use sql_values::{Name, SqlType, Value};
 
 /// The value of an expression (ISO/IEC 9075-2, 6.25), by the rows of the queries around it, the
 /// innermost first, and the frame. Operands and arguments are evaluated from left to right. A
@@ -52,17 +52,15 @@ pub fn eval(
             call(name, arguments.as_slice(), rows, frame, world, catalog)
         }
         BoundExpr::Single(query) => {
-            let found = answer_query(query.get(), rows, frame, world, catalog)?;
-            single(found.as_slice())
+            single_of(answer_query(query.get(), rows, frame, world, catalog))
         }
         BoundExpr::Exists(query) => {
-            let found = answer_query(query.get(), rows, frame, world, catalog)?;
-            Ok(exists(found.as_slice()))
+            exists_of(answer_query(query.get(), rows, frame, world, catalog))
         }
         BoundExpr::In(operand, query) => {
             let value = eval(operand.get(), rows, frame, world, catalog)?;
-            let found = answer_query(query.get(), rows, frame, world, catalog)?;
-            Ok(member(&value, found.as_slice()))
+            let found = answer_query(query.get(), rows, frame, world, catalog);
+            member_of(value, found)
         }
     }
 }
@@ -98,8 +96,8 @@ fn operate(
             [] => Ok(Value::Null),
         },
         _ => {
-            let values = eval_arguments(operands, &[], rows, frame, world, catalog)?;
-            Ok(operation_value(world.allocator(), operation, values.as_slice())?)
+            let values = eval_arguments(operands, &[], rows, frame, world, catalog);
+            value_of(world.allocator(), operation, values)
         }
     }
 }
@@ -224,8 +222,8 @@ fn eval_links(
 {
     let mut value = first;
     for link in links {
-        let operand = eval(&link.operand, rows, frame, world, catalog)?;
-        value = link.operator.apply(world.allocator(), &value, &operand)?;
+        let operand = eval(&link.operand, rows, frame, world, catalog);
+        value = applied(world.allocator(), link.operator, value, operand)?;
     }
     Ok(value)
 }
@@ -247,8 +245,8 @@ fn eval_arguments(
 {
     let mut values = Arguments::new(world.allocator());
     for (place, argument) in arguments.iter().enumerate() {
-        let value = eval(argument, rows, frame, world, catalog)?;
-        values.push(assign_at(world.allocator(), value, parameters, place)?)?;
+        let value = eval(argument, rows, frame, world, catalog);
+        values = with_argument(world.allocator(), values, value, parameters, place)?;
     }
     Ok(values)
 }
@@ -270,13 +268,13 @@ fn call(
 {
     match catalog.routine(name) {
         Some(routine) => {
+            let Some(tree) = routine.body.tree() else {
+                unreachable!()
+            };
             let head = &routine.head;
             let parameters = head.parameters.as_slice();
             let values = eval_arguments(arguments, parameters, rows, frame, world, catalog)?;
-            match routine.body.tree() {
-                Some(tree) => run_body(tree, head.returns, values, world, catalog),
-                None => unreachable!(),
-            }
+            run_body(tree, head.returns, values, world, catalog)
         }
         None => {
             let _values = eval_arguments(arguments, &[], rows, frame, world, catalog)?;
@@ -299,6 +297,6 @@ fn run_body(
         (world_of world.old)) }
 {
     let frame = Frame::of(values);
-    let value = eval(body, &RowsInSight::NoRow, &frame, world, catalog)?;
-    Ok(assign(world.allocator(), value, returns)?)
+    let value = eval(body, &RowsInSight::NoRow, &frame, world, catalog);
+    assigned(world.allocator(), value, returns)
 }

@@ -9,10 +9,7 @@ mod joins;
 mod lists;
 mod queries;
 mod records;
-mod rows;
-mod widths;
 
 pub use expr::eval;
-pub use inserts::{run_insert, store_rows};
+pub use inserts::run_insert;
 pub use queries::run_query;
-pub use rows::{cut, row_values, rows_for};

@@ -1,10 +1,8 @@
 //! Lists of expressions: their values, and whether they all are true.
 
-ghost use Rattle.std.specs.Prelude.{◌≡◌};
 ghost use Rattle.rel_algebra.specs.World.{no_self};
 ghost use Rattle.rel_algebra.specs.Meaning.{ev_all, holds as holds_by, ev_rows};
-ghost use Rattle.catalog_store.specs.Catalog.{Catalog as Known};
-ghost use Rattle.catalog_store.specs.View.{exprs_of, row_of, rows_of};
+ghost use Rattle.catalog_store.specs.View.{exprs_of, rows_of};
 ghost use Rattle.run_expressions.specs.Content.{world_of};
 ghost use Rattle.run_expressions.specs.Ending.{Ended};
 ghost use Rattle.run_choices.specs.Sight.{seen};
@@ -14,6 +12,7 @@ use bound_trees::{BoundExpr, BoundRow};
 use catalog_store::Catalog;
 use row_types::Row;
 use run_expressions::{Frame, RowsInSight, Stop, World, is_true};
+use run_rows::{values_in, with_row, with_value};
 use sqlite_items::Items;
 
 /// The rows of VALUES (ISO/IEC 9075-2, 7.3), in turn.
@@ -31,7 +30,8 @@ pub fn eval_rows(
 {
     let mut values = Items::from_vec(Vec::with_capacity(world.allocator(), rows.len())?);
     for row in rows {
-        values.push(eval_all(values_in(row), outer, frame, world, catalog)?)?;
+        let more = eval_all(values_in(row), outer, frame, world, catalog);
+        values = with_row(values, more)?;
     }
     Ok(values)
 }
@@ -51,7 +51,8 @@ pub fn eval_all(
 {
     let mut values = Items::from_vec(Vec::with_capacity(world.allocator(), exprs.len())?);
     for expr in exprs {
-        values.push(eval(expr, rows, frame, world, catalog)?)?;
+        let value = eval(expr, rows, frame, world, catalog);
+        values = with_value(values, value)?;
     }
     Ok(values)
 }
@@ -76,13 +77,4 @@ pub fn holds(
         }
     }
     Ok(true)
-}
-
-/// The values of a row of VALUES.
-pub fn values_in(row: &BoundRow) -> &[BoundExpr]
-    ensures { (known : Known) → exprs_of known result.now ≡ row_of known row.now }
-{
-    match row {
-        BoundRow::Row(values) => values.as_slice(),
-    }
 }

@@ -1,24 +1,22 @@
 //! Queries.
 
-ghost use Rattle.std.specs.Prelude.{◌≡◌, map};
+ghost use Rattle.std.specs.Prelude.{map};
 ghost use Rattle.rel_algebra.specs.World.{no_self};
 ghost use Rattle.rel_algebra.specs.Meaning.{answer, ask, from_rows as from_by};
-ghost use Rattle.catalog_store.specs.Catalog.{Catalog as Known};
 ghost use Rattle.catalog_store.specs.View.{query_of, select_of, item_of, source_of, from_of};
-ghost use Rattle.catalog_store.specs.View.{itself};
 ghost use Rattle.run_expressions.specs.Content.{world_of};
 ghost use Rattle.run_expressions.specs.Ending.{Ended};
 ghost use Rattle.run_choices.specs.Sight.{seen};
 
-use crate::from::{closed, join, table_rows};
+use crate::from::join;
 use crate::groups::grouped;
 use crate::lists::eval_rows;
 use crate::records::records_of;
 use bound_trees::{BoundFromItem, BoundQuery, BoundSelect, BoundSource};
 use catalog_store::Catalog;
-use row_sort::sorted;
 use row_types::Row;
 use run_expressions::{Frame, RowsInSight, Stop, World, leave};
+use run_rows::{closed, item_source, ordered, table_rows};
 use sqlite_items::Items;
 
 /// The rows of a query that is a statement (ISO/IEC 9075-2, 7.17). Where it raises, the tables are
@@ -58,8 +56,8 @@ pub fn answer_query(
         BoundQuery::Select(query) => select(query, outer, frame, world, catalog),
         BoundQuery::Values(rows) => eval_rows(rows.as_slice(), outer, frame, world, catalog),
         BoundQuery::Ordered(query, keys) => {
-            let rows = answer_query(query.get(), outer, frame, world, catalog)?;
-            Ok(sorted(world.allocator(), rows, keys.as_slice())?)
+            let rows = answer_query(query.get(), outer, frame, world, catalog);
+            ordered(world.allocator(), rows, keys.as_slice())
         }
     }
 }
@@ -135,17 +133,5 @@ fn source_rows(
     match source {
         BoundSource::Table(name) => Ok(table_rows(name, world)?),
         BoundSource::Derived(query) => answer_query(query.get(), outer, frame, world, catalog),
-    }
-}
-
-// Where the rows of an item of FROM come from.
-fn item_source(item: &BoundFromItem) -> &BoundSource
-    ensures { (known : Known) → source_of known result.now ≡ itself (item_of known item.now) }
-{
-    match item {
-        BoundFromItem::Comma(source) => source,
-        BoundFromItem::Cross(source) => source,
-        BoundFromItem::Inner(source, _) => source,
-        BoundFromItem::Left(source, _) => source,
     }
 }

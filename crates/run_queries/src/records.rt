@@ -9,12 +9,12 @@ ghost use Rattle.run_expressions.specs.Ending.{Ended};
 ghost use Rattle.run_choices.specs.Sight.{seen};
 ghost use Rattle.run_queries.specs.Groups.{records_by};
 
-use crate::joins::add;
 use crate::lists::{eval_all, holds};
 use bound_trees::BoundExpr;
 use catalog_store::Catalog;
 use row_types::Row;
 use run_expressions::{Frame, RowsInSight, Stop, World, under};
+use run_rows::{some_row, with_kept};
 use sqlite_items::Items;
 
 /// The records of rows in turn (ISO/IEC 9075-2, 7.16): of each row the tests, and where they are
@@ -35,8 +35,8 @@ pub fn records_of(
 {
     let mut records = Items::new(world.allocator());
     for row in rows {
-        let record = record_of(list, tests, row, outer, frame, world, catalog)?;
-        add(&mut records, record)?;
+        let record = record_of(list, tests, row, outer, frame, world, catalog);
+        records = with_kept(records, record)?;
     }
     Ok(records)
 }
@@ -58,8 +58,7 @@ pub fn record_of(
 {
     let rows = under(row.as_slice(), &*outer);
     if holds(tests, &rows, frame, world, catalog)? {
-        let record = eval_all(list, &rows, frame, world, catalog)?;
-        Ok(Some(record))
+        some_row(eval_all(list, &rows, frame, world, catalog))
     } else {
         Ok(None)
     }

@@ -30,7 +30,7 @@ use Rattle.bind_queries.specs.Judges.{Expression, JudgedLink, QueryJudge, Judge,
 use Rattle.bind_queries.specs.Judges.{operators, places, operands, judge_literal, judge_name}
 use Rattle.bind_queries.specs.Judges.{judge_call, judge_operation, judge_aggregate, judge_chain}
 use Rattle.bind_queries.specs.Judges.{judge_single, judge_exists, judge_member}
-use Rattle.bind_queries.proofs.Sets.{front_nil, back_nil, no_fault}
+use Rattle.bind_queries.proofs.Laws.{front_nil, back_nil, no_fault}
 use Rattle.typing_trees.specs.Around.{Around, then, only_if, kind_at}
 use Rattle.typing_trees.specs.Kinds.{aggregate_allows, aggregate_gives}
 use Rattle.typing_trees.specs.Queries.{kind_of, kinds_of}

@@ -22,7 +22,7 @@ use Rattle.bind_parts.specs.From.{begun, with_item, with_from, on_level, put_com
 use Rattle.bind_parts.specs.Turns.{each_noted}
 use Rattle.bind_queries.specs.Judges.{Judge, FromJudge, RefJudge, QueryJudge}
 use Rattle.bind_queries.specs.From.{on_test, put_inner, put_left}
-use Rattle.bind_queries.proofs.Sets.{front_nil, back_nil, no_fault, equal}
+use Rattle.bind_queries.proofs.Laws.{front_nil, back_nil, no_fault, equal}
 use Rattle.typing_trees.specs.Around.{Around, with_row, then, only_if}
 use Rattle.typing_trees.specs.Queries.{ExprKind, FromRow, FromKinds, kind_of, kinds_of_item}
 use Rattle.typing_trees.specs.Queries.{kinds_of_source, tests, columns_of_table, nothing_joined}

@@ -9,7 +9,7 @@ use Rattle.bound_trees.specs.declared.expr.BoundExpr.{BoundExpr}
 use Rattle.bind_kinds.specs.declared.kind.Kind.{Kind}
 use Rattle.bind_sight.specs.Sight.{Seen, may_stand}
 use Rattle.bind_parts.specs.declared.aggregates.Parts.{Parts}
-use Rattle.bind_queries.proofs.Sets.{front_nil, back_nil}
+use Rattle.bind_queries.proofs.Laws.{front_nil, back_nil}
 use Rattle.typing_trees.specs.Around.{Around, then, only_if}
 use Rattle.typing_trees.specs.Kinds.{aggregate_allows, aggregate_gives}
 use Rattle.typing_trees.specs.Queries.{ExprKind, kind_of, kinds_of, aggregate_kinds}

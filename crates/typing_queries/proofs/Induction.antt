@@ -33,7 +33,7 @@ use Rattle.bind_queries.specs.Queries.{row_step, link_step, select_step, values_
 use Rattle.bind_queries.specs.Queries.{from_judge, query_judge, select_item, ref_judge, value_row}
 use Rattle.bind_queries.specs.Queries.{judged_link, select_judge, values_judge}
 use Rattle.bind_queries.specs.Selects.{selected}
-use Rattle.bind_queries.proofs.Sets.{front_nil, back_nil}
+use Rattle.bind_queries.proofs.Laws.{front_nil, back_nil}
 use Rattle.typing_trees.specs.Queries.{nothing_joined}
 use Rattle.typing_queries.proofs.Levels.{joined-nothing}
 use Rattle.typing_queries.proofs.Forms.{AllFitting, literal-fits, name-fits, operation-fits}

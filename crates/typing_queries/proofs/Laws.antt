@@ -17,19 +17,25 @@ use Rattle.bind_queries.specs.Lists.{judged_filter}
 use Rattle.bind_queries.specs.Names.{judge, inner}
 use Rattle.bind_queries.specs.Order.{judge_ordered_typed}
 use Rattle.bind_queries.specs.Queries.{expression, select_item, maybe, judge_parts, judge_query}
-use Rattle.bind_queries.proofs.Fits.{select_of, parts_as_query}
-use Rattle.bind_queries.proofs.Sets.{front_nil, back_nil}
+use Rattle.bind_queries.proofs.Laws.{select_of, parts_as_query, front_nil, back_nil}
 use Rattle.typing_trees.specs.Around.{Around}
 use Rattle.typing_trees.specs.Kinds.{in_turn}
 use Rattle.typing_trees.specs.Queries.{kind_of, tests}
 use Rattle.typing_queries.proofs.Order.{ordered-typed}
-use Rattle.typing_queries.proofs.Sees.{Sees}
-use Rattle.typing_queries.proofs.Shapes.{IsTyped, kinds_shown}
-use Rattle.typing_queries.proofs.Subqueries.{QueryTyped}
 use Rattle.typing_queries.proofs.Forms.{settled-typed, none-aggregating}
 use Rattle.typing_queries.proofs.Growing.{grown-alone}
 use Rattle.typing_queries.proofs.Induction.{expr-fits, query-fits}
 use Rattle.typing_queries.proofs.Lists.{test-fits}
+pub use Rattle.typing_queries.proofs.Below.{AllBelow, below-self, Below, HasAll, Has}
+pub use Rattle.typing_queries.proofs.Fits.{fitting, fits-below, fits-swap, wanted-below}
+pub use Rattle.typing_queries.proofs.Layers.{column-kind, comma-kinds, table-kinds, select-kinds}
+pub use Rattle.typing_queries.proofs.Layers.{ungrouped-kinds, literal-kind, variable-kind}
+pub use Rattle.typing_queries.proofs.Levels.{sees-row, sees-writing, joined-nothing, joined-begun}
+pub use Rattle.typing_queries.proofs.Levels.{joined-item}
+pub use Rattle.typing_queries.proofs.Sees.{Sees, ScopeIn, SlotIs, ScopesIn, SlotOf}
+pub use Rattle.typing_queries.proofs.Shapes.{Joined, kinds_shown, IsTyped}
+pub use Rattle.typing_queries.proofs.Subqueries.{QueryTyped}
+pub use Rattle.typing_queries.proofs.Names.{variable-slot}
 
 -- where no aggregate may stand
 pub expr_typed : (e : Expr) (s : Seen) (a : Around) → Sees s a → may_stand s.levels ≡ false →

@@ -21,7 +21,7 @@ use Rattle.bind_parts.specs.Typed.{no_parts}
 use Rattle.bind_queries.specs.Judges.{Expression, JudgedItem, Judge, look}
 use Rattle.bind_queries.specs.Lists.{all_item, value_item, tested, judged_test, judged_filter}
 use Rattle.bind_queries.specs.Lists.{judged_having}
-use Rattle.bind_queries.proofs.Sets.{front_nil, back_nil}
+use Rattle.bind_queries.proofs.Laws.{front_nil, back_nil}
 use Rattle.typing_trees.specs.Around.{Around}
 use Rattle.typing_trees.specs.Kinds.{in_turn}
 use Rattle.typing_trees.specs.Queries.{kind_of, kinds_of, tests}

@@ -26,7 +26,7 @@ use Rattle.bind_parts.specs.Typed.{Beside, first_parts}
 use Rattle.bind_queries.specs.Judges.{Expression, JudgedItem}
 use Rattle.bind_queries.specs.Lists.{judged_items, judged_filter, judged_having}
 use Rattle.bind_queries.specs.Selects.{with_having, grouped, selected as judged}
-use Rattle.bind_queries.proofs.Sets.{front_nil, back_nil}
+use Rattle.bind_queries.proofs.Laws.{front_nil, back_nil}
 use Rattle.typing_trees.specs.Around.{Around, with_row, then, only_if}
 use Rattle.typing_trees.specs.Kinds.{in_turn}
 use Rattle.typing_trees.specs.Queries.{FromRow, GroupKinds, kind_of, kinds_of, kinds_of_item}

@@ -18,7 +18,7 @@ use Rattle.bind_parts.specs.Typed.{no_parts}
 use Rattle.bind_parts.specs.ValueRows.{row_faults, with_row, no_rows, unnamed}
 use Rattle.bind_queries.specs.Judges.{JudgedRow, all_of}
 use Rattle.bind_queries.specs.ValueRows.{judged_row, one_row, judged_values}
-use Rattle.bind_queries.proofs.Sets.{front_nil, back_nil}
+use Rattle.bind_queries.proofs.Laws.{front_nil, back_nil}
 use Rattle.typing_trees.specs.Around.{Around, then}
 use Rattle.typing_trees.specs.Kinds.{in_turn}
 use Rattle.typing_trees.specs.Queries.{kind_of, kinds_of, kinds_of_query, exprs_of_row}

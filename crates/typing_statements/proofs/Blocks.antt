@@ -20,7 +20,7 @@ use Rattle.bind_sight.specs.declared.output.Output.{Output}
 use Rattle.bind_sight.specs.declared.scope.Variable.{Variable as Held}
 use Rattle.bind_parts.specs.Turns.{each_noted}
 use Rattle.bind_queries.specs.Order.{judge_ordered_typed}
-use Rattle.bind_queries.proofs.Sets.{front_nil, back_nil}
+use Rattle.bind_queries.proofs.Laws.{front_nil, back_nil}
 use Rattle.bind_declarations.specs.declared.declared.Declared.{Declared}
 use Rattle.bind_declarations.specs.Declarations.{nothing_declared, after_declared}
 use Rattle.bind_declarations.specs.Loops.{next_slot, next_cursor, slot_after, name_in}
@@ -33,9 +33,7 @@ use Rattle.typing_trees.specs.Statements.{with_read, holds, is_of, value_of, all
 use Rattle.typing_trees.specs.Statements.{branch_typed, branches_typed, case_typed, handler_typed}
 use Rattle.typing_trees.specs.Statements.{each_kinds, parts_typed, after_variables, is_typed}
 use Rattle.typing_trees.specs.Statements.{block_is_typed, branch_of, handler_of}
-use Rattle.typing_queries.proofs.Below.{Below, AllBelow, below-self}
-use Rattle.typing_queries.proofs.Sees.{ScopeIn, SlotIs}
-use Rattle.typing_queries.proofs.Shapes.{kinds_shown}
+use Rattle.typing_queries.proofs.Laws.{Below, AllBelow, below-self, ScopeIn, SlotIs, kinds_shown}
 use Rattle.typing_queries.proofs.Laws.{ordered_typed}
 use Rattle.bind_simple.specs.Anchors.{column_at}
 use Rattle.bind_simple.specs.Places.{Surroundings, seen_from, with_scope, within}

@@ -42,14 +42,12 @@ use Rattle.bind_queries.specs.Queries.{expr_step, from_step, query_step, item_st
 use Rattle.bind_queries.specs.Queries.{row_step, link_step, select_step, values_step, expression}
 use Rattle.bind_queries.specs.Queries.{from_judge, query_judge, select_item, ref_judge, value_row}
 use Rattle.bind_queries.specs.Queries.{judged_link, select_judge, values_judge}
-use Rattle.bind_queries.proofs.Sets.{front_nil, back_nil, no_fault, equal}
+use Rattle.bind_queries.proofs.Laws.{front_nil, back_nil, no_fault, equal}
 use Rattle.typing_trees.specs.Around.{Around, Slot}
 use Rattle.typing_trees.specs.Queries.{kind_of}
 use Rattle.typing_trees.specs.Statements.{Inside, Want, value_of, is_target, kind_of_target, wants}
 use Rattle.typing_trees.specs.Statements.{holds, argument_typed, arguments_typed, call_typed}
-use Rattle.typing_queries.proofs.Fits.{fitting}
-use Rattle.typing_queries.proofs.Names.{variable-slot}
-use Rattle.typing_queries.proofs.Sees.{Sees, ScopesIn}
+use Rattle.typing_queries.proofs.Laws.{fitting, variable-slot, Sees, ScopesIn}
 use Rattle.bind_simple.specs.Calls.{Form, procedure_named, name_faults, variable_of, if_plain}
 use Rattle.bind_simple.specs.Calls.{with_type, target_in, variable_meant, target_meant, argument_of}
 use Rattle.bind_simple.specs.Calls.{judged_argument, one_argument, judged_arguments, called}

@@ -23,7 +23,7 @@ use Rattle.bind_kinds.specs.Types.{type_of, type_faults}
 use Rattle.bind_sight.specs.declared.scope.Cursor.{Cursor}
 use Rattle.bind_sight.specs.declared.scope.Scope.{Scope}
 use Rattle.bind_sight.specs.declared.scope.Variable.{Variable as Held}
-use Rattle.bind_queries.proofs.Sets.{front_nil, back_nil}
+use Rattle.bind_queries.proofs.Laws.{front_nil, back_nil}
 use Rattle.bind_declarations.specs.declared.declared.Declared.{Declared}
 use Rattle.bind_declarations.specs.Declarations.{nothing_declared, after_declared, with_variable}
 use Rattle.bind_declarations.specs.Declarations.{with_variables, names_faults, judged_default}
@@ -39,9 +39,7 @@ use Rattle.typing_trees.specs.Around.{Around, Slot, stored, with_slots, then, on
 use Rattle.typing_trees.specs.Queries.{kinds_of_query}
 use Rattle.typing_trees.specs.Statements.{Inside, in_action, with_declared, if_there, declared}
 use Rattle.typing_trees.specs.Statements.{each_kinds, handler_typed, undoes, is_typed, handler_of}
-use Rattle.typing_queries.proofs.Below.{AllBelow, HasAll}
-use Rattle.typing_queries.proofs.Sees.{Sees, ScopeIn, SlotIs}
-use Rattle.typing_queries.proofs.Laws.{ordered_typed}
+use Rattle.typing_queries.proofs.Laws.{AllBelow, HasAll, Sees, ScopeIn, SlotIs, ordered_typed}
 use Rattle.bind_simple.specs.Places.{Surroundings, seen_from, with_scope, in_action as in_action_of}
 use Rattle.bind_simple.specs.Simple.{Judge}
 use Rattle.bind_routines.specs.Statements.{JudgedDeclaration}

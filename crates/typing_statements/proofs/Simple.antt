@@ -22,11 +22,11 @@ use Rattle.bind_faults.specs.declared.fault.FaultKind.TheVariants.{UnknownName, 
 use Rattle.bind_faults.specs.Faults.{as_value, fault_if}
 use Rattle.bind_kinds.specs.declared.kind.Kind.TheVariants.{Text}
 use Rattle.bind_kinds.specs.Kinds.{kind_of_type}
-use Rattle.bind_queries.proofs.Sets.{front_nil, back_nil, no_fault}
+use Rattle.bind_queries.proofs.Laws.{front_nil, back_nil, no_fault}
 use Rattle.typing_trees.specs.Around.{Around}
 use Rattle.typing_trees.specs.Statements.{Inside, Outer, holds, value_of, if_there, may_leave}
 use Rattle.typing_trees.specs.Statements.{may_iterate, return_typed, is_typed}
-use Rattle.typing_queries.proofs.Sees.{Sees}
+use Rattle.typing_queries.proofs.Laws.{Sees}
 use Rattle.bind_changes.specs.Writing.{judged_insert, judged_update, judged_delete}
 use Rattle.bind_simple.specs.Calls.{judged_call}
 use Rattle.bind_rules.specs.Labels.{Label, label_named, label_from, is_name}

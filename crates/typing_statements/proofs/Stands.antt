@@ -11,8 +11,7 @@ use Rattle.bind_sight.specs.declared.scope.Variable.{Variable as Held}
 use Rattle.typing_trees.specs.Around.{Around, Slot, with_slots}
 use Rattle.typing_trees.specs.Statements.{Inside, Outer, in_loop, in_block, in_action}
 use Rattle.typing_trees.specs.Statements.{with_declared, barred}
-use Rattle.typing_queries.proofs.Below.{HasAll}
-use Rattle.typing_queries.proofs.Sees.{Sees, ScopeIn, ScopesIn, SlotIs}
+use Rattle.typing_queries.proofs.Laws.{HasAll, Sees, ScopeIn, ScopesIn, SlotIs}
 use Rattle.bind_simple.specs.Calls.{procedure_named}
 use Rattle.bind_rules.specs.Labels.{Label, barred as barred_labels}
 use Rattle.bind_simple.specs.Places.{Surroundings, seen_from, within, with_scope}

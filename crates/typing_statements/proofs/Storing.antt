@@ -31,7 +31,7 @@ use Rattle.bind_sight.specs.declared.scope.Variable.{Variable as Held}
 use Rattle.bind_sight.specs.Index.{place_of}
 use Rattle.bind_sight.specs.Scopes.{variable_named, cursor_named, cursor_in, cursor_of, cursor_at}
 use Rattle.bind_sight.specs.Scopes.{or_else}
-use Rattle.bind_queries.proofs.Sets.{front_nil, back_nil, no_fault, equal}
+use Rattle.bind_queries.proofs.Laws.{front_nil, back_nil, no_fault, equal}
 use Rattle.typing_trees.specs.Around.{Around, Slot, stored, read, kind_of_slot}
 use Rattle.typing_trees.specs.Kinds.{each_fits}
 use Rattle.typing_trees.specs.Queries.{kind_of, kinds_of_query}
@@ -39,13 +39,9 @@ use Rattle.typing_trees.specs.Statements.{holds, is_of, value_of, same_type, sto
 use Rattle.typing_trees.specs.Statements.{kind_of_target, takes_value, take_row}
 use Rattle.typing_trees.specs.Statements.{statement_read_typed, condition_read_typed}
 use Rattle.typing_trees.specs.Statements.{information_typed}
-use Rattle.typing_queries.proofs.Below.{Below, AllBelow, Has, HasAll}
-use Rattle.typing_queries.proofs.Fits.{fits-below, fits-swap, fitting}
-use Rattle.typing_queries.proofs.Layers.{literal-kind, variable-kind}
-use Rattle.typing_queries.proofs.Names.{variable-slot}
-use Rattle.typing_queries.proofs.Sees.{Sees, ScopesIn, SlotIs, SlotOf}
-use Rattle.typing_queries.proofs.Shapes.{kinds_shown}
-use Rattle.typing_queries.proofs.Laws.{parts_typed}
+use Rattle.typing_queries.proofs.Laws.{Below, AllBelow, Has, HasAll, fits-below, fits-swap, fitting}
+use Rattle.typing_queries.proofs.Laws.{literal-kind, variable-kind, variable-slot, Sees, ScopesIn}
+use Rattle.typing_queries.proofs.Laws.{SlotIs, SlotOf, kinds_shown, parts_typed}
 use Rattle.bind_simple.specs.Places.{Surroundings, seen_from}
 use Rattle.bind_simple.specs.Storing.{judged_set, into_faults, judge_selection, selected_for}
 use Rattle.bind_simple.specs.Storing.{judged_select_into, cursor_faults, cursor_slot}

@@ -5,16 +5,13 @@ use Rattle.syntax_trees.specs.declared.expr.Expr.{Expr}
 use Rattle.bind_kinds.specs.declared.kind.Kind.{Kind}
 use Rattle.bind_kinds.specs.declared.kind.Kind.TheVariants.{Integer, Text, Boolean, Null}
 use Rattle.bind_kinds.specs.Kinds.{fits, misfit}
-use Rattle.bind_queries.proofs.Sets.{front_nil, back_nil}
+use Rattle.bind_queries.proofs.Laws.{front_nil, back_nil}
 use Rattle.typing_trees.specs.Around.{Around, then}
 use Rattle.typing_trees.specs.Kinds.{in_turn, each_fits}
 use Rattle.typing_trees.specs.Queries.{ExprKind, kind_of, kinds_of}
 use Rattle.typing_trees.specs.Statements.{is_of, value_of, holds}
-use Rattle.typing_queries.proofs.Below.{Below, AllBelow, Has, HasAll}
-use Rattle.typing_queries.proofs.Fits.{fits-below, wanted-below, fitting}
-use Rattle.typing_queries.proofs.Sees.{Sees}
-use Rattle.typing_queries.proofs.Shapes.{IsTyped}
-use Rattle.typing_queries.proofs.Laws.{expr_typed}
+use Rattle.typing_queries.proofs.Laws.{Below, AllBelow, Has, HasAll, fits-below, wanted-below}
+use Rattle.typing_queries.proofs.Laws.{fitting, Sees, IsTyped, expr_typed}
 use Rattle.bind_simple.specs.Places.{Surroundings, seen_from}
 use Rattle.bind_simple.specs.Values.{judged_expr, value_of_kind}
 use Rattle.typing_statements.proofs.Lists.{both-true, left-true, right-true, same-some}

@@ -34,7 +34,7 @@ use Rattle.bind_parts.specs.From.{table_source, put_comma, nothing_open, begun, 
 use Rattle.bind_parts.specs.Turns.{each_noted}
 use Rattle.bind_queries.specs.Names.{judge}
 use Rattle.bind_queries.specs.Queries.{judge_query}
-use Rattle.bind_queries.proofs.Sets.{front_nil, back_nil, no_fault, equal}
+use Rattle.bind_queries.proofs.Laws.{front_nil, back_nil, no_fault, equal}
 use Rattle.bind_rules.specs.Names.{unknown_in, places_in, at_place, repeated}
 use Rattle.bind_changes.specs.Writing.{target_of, kind_in, kind_at, kind_named, target_faults}
 use Rattle.bind_changes.specs.Writing.{kinds_into, listed, wrong_width, insert_into, into_faults}
@@ -49,15 +49,10 @@ use Rattle.typing_trees.specs.Queries.{kinds_of_source, columns_of_table, tests,
 use Rattle.typing_trees.specs.Queries.{nothing_joined, past_comma, joined_with, selected, whole_row}
 use Rattle.typing_trees.specs.Statements.{at_places, columns_into, columns_and, rows_fit}
 use Rattle.typing_trees.specs.Statements.{insert_typed, update_typed, delete_typed}
-use Rattle.typing_queries.proofs.Below.{AllBelow, below-self}
-use Rattle.typing_queries.proofs.Fits.{fitting, fits-below}
-use Rattle.typing_queries.proofs.Layers.{column-kind, comma-kinds, table-kinds, select-kinds}
-use Rattle.typing_queries.proofs.Layers.{ungrouped-kinds}
-use Rattle.typing_queries.proofs.Levels.{sees-row, sees-writing, joined-nothing, joined-begun}
-use Rattle.typing_queries.proofs.Levels.{joined-item}
-use Rattle.typing_queries.proofs.Sees.{Sees}
-use Rattle.typing_queries.proofs.Shapes.{Joined, kinds_shown}
-use Rattle.typing_queries.proofs.Subqueries.{QueryTyped}
+use Rattle.typing_queries.proofs.Laws.{AllBelow, below-self, fitting, fits-below, column-kind}
+use Rattle.typing_queries.proofs.Laws.{comma-kinds, table-kinds, select-kinds, ungrouped-kinds}
+use Rattle.typing_queries.proofs.Laws.{sees-row, sees-writing, joined-nothing, joined-begun}
+use Rattle.typing_queries.proofs.Laws.{joined-item, Sees, Joined, kinds_shown, QueryTyped}
 use Rattle.typing_queries.proofs.Laws.{expr_typed, query_typed, filter_typed}
 use Rattle.typing_statements.proofs.Lists.{both-true, not-false, append-nil}
 use Rattle.typing_statements.proofs.Values.{row-fits, each-fits-itself, each-fits-more, kinds-more}

@@ -3,7 +3,7 @@ use Rattle.std.specs.Prelude.{codes}
 use Rattle.syntax_trees.specs.declared.expr.Operation.TheVariants.{Plus, IsNot}
 use Rattle.syntax_trees.specs.declared.expr.TruthTest.TheVariants as test
 use Rattle.bind_faults.specs.Faults.{Noted}
-use Rattle.bind_statements.specs.declared.bound.BoundStatement.{BoundStatement}
+use Rattle.bind_direct.specs.declared.bound.BoundStatement.{BoundStatement}
 use Rattle.bind_queries.specs.Examples.{name, call, word}
 use Rattle.bind_statements.proofs.Rows.{select-row}
 use Rattle.bind_statements.proofs.binds_by_place_and_name.Goals as goal

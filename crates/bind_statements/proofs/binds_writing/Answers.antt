@@ -5,7 +5,7 @@ use Rattle.syntax_trees.specs.declared.expr.Operation.TheVariants.{Is}
 use Rattle.syntax_trees.specs.declared.expr.TruthTest.TheVariants as test
 use Rattle.statement_trees.specs.declared.definition.Constraint.TheVariants.{NotNull, PrimaryKey}
 use Rattle.bind_faults.specs.Faults.{Noted}
-use Rattle.bind_statements.specs.declared.bound.BoundStatement.{BoundStatement}
+use Rattle.bind_direct.specs.declared.bound.BoundStatement.{BoundStatement}
 use Rattle.bind_queries.specs.Examples.{at, called, null, number, name, word, chain, equal}
 use Rattle.bind_statements.specs.Examples.{key, a_column, k_column, k_and_a}
 use Rattle.bind_statements.proofs.Rows.{keyed-row, insert-row, listed-row, update-row, delete-row}

@@ -2,7 +2,7 @@ use Rattle.std.proofs.Common.{ap}
 use Rattle.std.specs.Prelude.{codes}
 use Rattle.statement_trees.specs.declared.definition.ObjectSort.TheVariants as sort
 use Rattle.bind_faults.specs.Faults.{Noted, least}
-use Rattle.bind_statements.specs.declared.bound.BoundStatement.{BoundStatement}
+use Rattle.bind_direct.specs.declared.bound.BoundStatement.{BoundStatement}
 use Rattle.bind_queries.specs.Examples.{catalog}
 use Rattle.bind_statements.specs.Examples.{with_user}
 use Rattle.bind_statements.proofs.Rows.{drop-row}

@@ -3,7 +3,7 @@ use Rattle.std.specs.Prelude.{codes}
 use Rattle.sql_values.specs.declared.fold.FoldKind.TheVariants.{Sum, Max}
 use Rattle.statement_trees.specs.declared.definition.Constraint.TheVariants.{NotNull, PrimaryKey}
 use Rattle.bind_faults.specs.Faults.{Noted, least}
-use Rattle.bind_statements.specs.declared.bound.BoundStatement.{BoundStatement}
+use Rattle.bind_direct.specs.declared.bound.BoundStatement.{BoundStatement}
 use Rattle.bind_queries.specs.Examples.{at, null, number, name, call, aggregate}
 use Rattle.bind_queries.specs.Written.{Subquery}
 use Rattle.bind_statements.specs.Examples.{integer, boolean, varchar, new_column, new_parameter}

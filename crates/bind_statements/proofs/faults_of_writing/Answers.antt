@@ -4,7 +4,7 @@ use Rattle.sql_values.specs.declared.operators.Operator.TheVariants.{Add}
 use Rattle.sql_values.specs.declared.fold.FoldKind.TheVariants.{Max}
 use Rattle.syntax_trees.specs.declared.expr.ChainOperator.TheVariants.{Value}
 use Rattle.bind_faults.specs.Faults.{Noted, least}
-use Rattle.bind_statements.specs.declared.bound.BoundStatement.{BoundStatement}
+use Rattle.bind_direct.specs.declared.bound.BoundStatement.{BoundStatement}
 use Rattle.bind_queries.specs.Examples.{called, null, number, text, name, qualified, chain, equal}
 use Rattle.bind_queries.specs.Examples.{aggregate}
 use Rattle.bind_statements.proofs.Rows.{listed-row, update-row, delete-row}

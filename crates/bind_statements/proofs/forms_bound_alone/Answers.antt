@@ -1,7 +1,7 @@
 use Rattle.std.proofs.Common.{ap, [], ◌∷◌, None, Some}
 use Rattle.std.specs.Prelude.{codes}
 use Rattle.bind_faults.specs.Faults.{Noted}
-use Rattle.bind_statements.specs.declared.bound.BoundStatement.{BoundStatement}
+use Rattle.bind_direct.specs.declared.bound.BoundStatement.{BoundStatement}
 use Rattle.bind_queries.specs.Examples.{called, name, call}
 use Rattle.bind_statements.specs.Examples.{integer, new_parameter, delete, deterministic, returning}
 use Rattle.bind_statements.specs.Examples.{block}

@@ -2,7 +2,7 @@ use Rattle.std.proofs.Common.{ap, [], ◌∷◌}
 use Rattle.std.specs.Prelude.{codes}
 use Rattle.statement_trees.specs.declared.definition.Constraint.TheVariants.{PrimaryKey}
 use Rattle.bind_faults.specs.Faults.{Noted, least}
-use Rattle.bind_statements.specs.declared.bound.BoundStatement.{BoundStatement}
+use Rattle.bind_direct.specs.declared.bound.BoundStatement.{BoundStatement}
 use Rattle.bind_queries.specs.Examples.{at, called}
 use Rattle.bind_statements.specs.Examples.{key, a_column, k_column, k_and_a}
 use Rattle.bind_statements.proofs.Rows.{keyed-row}

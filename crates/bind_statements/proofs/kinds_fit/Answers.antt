@@ -9,7 +9,7 @@ use Rattle.syntax_trees.specs.declared.expr.Operation.TheVariants.{CharLength, S
 use Rattle.syntax_trees.specs.declared.expr.Operation.TheVariants.{Coalesce, Case, CaseOf}
 use Rattle.syntax_trees.specs.declared.expr.TruthTest.TheVariants as test
 use Rattle.bind_faults.specs.Faults.{Noted, least}
-use Rattle.bind_statements.specs.declared.bound.BoundStatement.{BoundStatement}
+use Rattle.bind_direct.specs.declared.bound.BoundStatement.{BoundStatement}
 use Rattle.bind_queries.specs.Examples.{null, number, text, truth, name, call, word, chain}
 use Rattle.bind_statements.specs.Examples.{integer, boolean, varchar, new_parameter}
 use Rattle.bind_statements.proofs.Rows.{select-row, values-row, insert-row, function-row}

@@ -1,12 +1,12 @@
-use Rattle.std.proofs.Common.{◌≡◌, ◌+◌, map}
+use Rattle.std.proofs.Common.{◌≤◌, ◌+◌, ◌-◌, map, drop}
 use Rattle.rel_algebra.specs.Joins.{rows_width}
-use Rattle.rel_algebra.specs.PlanView.{scalar_of}
+use Rattle.rel_algebra.specs.Plan.{Scalar}
 use Rattle.catalog_store.specs.Catalog.{routine_named}
 use Rattle.catalog_store.specs.View.{tree_of, exprs_of, links_of, item_of, query_of, rows_of}
-use Rattle.catalog_store.specs.View.{select_of, source_of}
+use Rattle.catalog_store.specs.View.{select_of, source_of, operated}
 use Rattle.plan_expressions.specs.Scopes.{env_of}
 use Rattle.plan_queries.specs.Cost.{cost, costs, links_cost, routine_cost, rows_cost, from_cost}
-use Rattle.plan_queries.specs.Cost.{query_cost, joining_cost, items_cost}
+use Rattle.plan_queries.specs.Cost.{query_cost, joining_cost, items_cost, grouping_cost}
 use Rattle.plan_queries.proofs.Emitting.{Listing, Passing, Chaining}
 use Rattle.plan_queries.proofs.Joining.{Standing}
 use Rattle.plan_queries.proofs.Queries.{Numbering, Plains}
@@ -17,13 +17,25 @@ abbrev pub decreases-emit::emit_expr : goal.decreases-emit::emit_expr
 decreases-emit::emit_expr l = cost (tree_of l.catalog.now l.expr.now)
 
 abbrev pub decreases-emit::emit_operation : goal.decreases-emit::emit_operation
-decreases-emit::emit_operation l = costs (exprs_of l.catalog.now l.operands.now) + 1
+decreases-emit::emit_operation l = cost (operated l.operation
+    (map (tree_of l.catalog.now) l.operands.now)) - 1
+
+abbrev pub decreases-emit::emit_words : goal.decreases-emit::emit_words
+decreases-emit::emit_words l = costs (exprs_of l.catalog.now l.operands.now) + 1
 
 abbrev pub decreases-emit::emit_case_of : goal.decreases-emit::emit_case_of
 decreases-emit::emit_case_of l = costs (exprs_of l.catalog.now l.operands.now)
 
 abbrev pub decreases-emit::emit_chain : goal.decreases-emit::emit_chain
-decreases-emit::emit_chain l = links_cost (links_of l.catalog.now l.links.now)
+decreases-emit::emit_chain l = cost (tree_of l.catalog.now l.first.now) + links_cost
+    (links_of l.catalog.now l.links.now) + 1
+
+abbrev pub decreases-emit::emit_links : goal.decreases-emit::emit_links
+decreases-emit::emit_links l = links_cost (links_of l.catalog.now l.links.now)
+
+abbrev pub decreases-emit::emit_in : goal.decreases-emit::emit_in
+decreases-emit::emit_in l = cost (tree_of l.catalog.now l.left.now) + query_cost
+    (query_of l.catalog.now l.query.now) + 3
 
 abbrev pub decreases-emit::emit_list : goal.decreases-emit::emit_list
 decreases-emit::emit_list l = costs (exprs_of l.catalog.now l.exprs.now)
@@ -53,12 +65,19 @@ decreases-plans::plan_within l = query_cost (query_of l.catalog.now l.query.now)
 abbrev pub decreases-selects::plan_select : goal.decreases-selects::plan_select
 decreases-selects::plan_select l = query_cost (select_of l.catalog.now l.select.now)
 
-abbrev pub decreases-selects::selected : goal.decreases-selects::selected
-decreases-selects::selected l = costs (exprs_of l.catalog.now l.items.now) + costs
-    (exprs_of l.catalog.now l.conjuncts.now) + 1
+abbrev pub decreases-selects::select_over : goal.decreases-selects::select_over
+decreases-selects::select_over l = costs (exprs_of l.catalog.now l.items.now) + costs
+    (exprs_of l.catalog.now l.conjuncts.now) + grouping_cost l.catalog.now l.grouping.now + 3
+
+abbrev pub decreases-selects::select_rows : goal.decreases-selects::select_rows
+decreases-selects::select_rows l = costs (exprs_of l.catalog.now l.items.now) + costs
+    (exprs_of l.catalog.now l.conjuncts.now) + 2
 
 abbrev pub decreases-conjuncts::filter_by : goal.decreases-conjuncts::filter_by
-decreases-conjuncts::filter_by l = costs (exprs_of l.catalog.now l.conjuncts.now)
+decreases-conjuncts::filter_by l = costs (exprs_of l.catalog.now l.conjuncts.now) + 1
+
+abbrev pub decreases-conjuncts::filter_one : goal.decreases-conjuncts::filter_one
+decreases-conjuncts::filter_one l = cost (tree_of l.catalog.now l.conjunct.now) + 1
 
 abbrev pub decreases-from::draft_from : goal.decreases-from::draft_from
 decreases-from::draft_from l = items_cost (map (item_of l.catalog.now) l.items.now) + 1
@@ -70,19 +89,37 @@ abbrev pub decreases-from::draft_source : goal.decreases-from::draft_source
 decreases-from::draft_source l = from_cost (source_of l.catalog.now l.source.now)
 
 abbrev pub decreases-joins::matching : goal.decreases-joins::matching
-decreases-joins::matching l = costs (exprs_of l.catalog.now l.on.now) + 1
+decreases-joins::matching l = costs (exprs_of l.catalog.now l.on.now) + 3
+
+abbrev pub decreases-joins::filter_pairs : goal.decreases-joins::filter_pairs
+decreases-joins::filter_pairs l = costs (exprs_of l.catalog.now l.on.now) + 2
 
 abbrev pub decreases-joins::matching_or_nulls : goal.decreases-joins::matching_or_nulls
-decreases-joins::matching_or_nulls l = costs (exprs_of l.catalog.now l.on.now) + 1
+decreases-joins::matching_or_nulls l = costs (exprs_of l.catalog.now l.on.now) + 2
+
+abbrev pub decreases-joins::emit_on : goal.decreases-joins::emit_on
+decreases-joins::emit_on l = costs (exprs_of l.catalog.now l.on.now) + 1
 
 abbrev pub decreases-values::plan_values : goal.decreases-values::plan_values
-decreases-values::plan_values l = rows_cost (rows_of l.catalog.now l.rows.now) + 1
+decreases-values::plan_values l = rows_cost (rows_of l.catalog.now l.rows.now) + 3
+
+abbrev pub decreases-values::plan_rows : goal.decreases-values::plan_rows
+decreases-values::plan_rows l = rows_cost (rows_of l.catalog.now l.rows.now) + 2
+
+abbrev pub decreases-values::plan_row : goal.decreases-values::plan_row
+decreases-values::plan_row l = costs (exprs_of l.catalog.now l.values.now) + 1
 
 abbrev pub decreases-values::plain_lists : goal.decreases-values::plain_lists
-decreases-values::plain_lists l = rows_cost (rows_of l.catalog.now l.rows.now)
+decreases-values::plain_lists l = rows_cost (rows_of l.catalog.now l.rows.now) + 1
+
+abbrev pub decreases-values::plain_list : goal.decreases-values::plain_list
+decreases-values::plain_list l = costs (exprs_of l.catalog.now l.values.now) + 1
 
 abbrev pub decreases-values::plan_numbered : goal.decreases-values::plan_numbered
-decreases-values::plan_numbered l = rows_cost (rows_of l.catalog.now l.rows.now)
+decreases-values::plan_numbered l = rows_cost (rows_of l.catalog.now l.rows.now) + 1
+
+abbrev pub decreases-values::emit_columns : goal.decreases-values::emit_columns
+decreases-values::emit_columns l = rows_cost (rows_of l.catalog.now l.rows.now)
 
 abbrev pub invariant-emit::emit_list-loop-expr : goal.invariant-emit::emit_list-loop-expr
 invariant-emit::emit_list-loop-expr l = Listing l.catalog (env_of l.scope) l.exprs l.expr-index
@@ -93,12 +130,13 @@ abbrev pub invariant-emit::emit_arguments-loop-place :
 invariant-emit::emit_arguments-loop-place l = Passing l.catalog (env_of l.scope) l.arguments l.types
     l.place l.initial.draft l.draft l.scalars
 
-abbrev pub invariant-emit::emit_chain-loop-link : goal.invariant-emit::emit_chain-loop-link
-invariant-emit::emit_chain-loop-link l =
+abbrev pub invariant-emit::emit_links-loop-link : goal.invariant-emit::emit_links-loop-link
+invariant-emit::emit_links-loop-link l =
     record {
-      chaining : Chaining l.catalog (env_of l.scope) l.links l.link-index l.initial.draft l.draft
-          (scalar_of l.fn.first) l.chain;
-      same : l.first ≡ l.fn.first;
+      chaining : (p : Scalar) → Chaining l.catalog (env_of l.scope) l.links l.link-index
+          l.initial.draft l.draft p l.chain;
+      small : links_cost (links_of l.catalog (drop l.link-index l.links)) ≤ links_cost
+          (links_of l.catalog l.links);
     }
 
 abbrev pub invariant-conjuncts::filter_by-loop-conjunct :
@@ -115,8 +153,8 @@ abbrev pub invariant-values::plain_lists-loop-row : goal.invariant-values::plain
 invariant-values::plain_lists-loop-row l = Plains l.catalog (env_of l.scope) l.rows l.row-index
     l.lists
 
-abbrev pub invariant-values::plan_numbered-loop-number :
-    goal.invariant-values::plan_numbered-loop-number
-invariant-values::plan_numbered-loop-number l =
+abbrev pub invariant-values::emit_columns-loop-number :
+    goal.invariant-values::emit_columns-loop-number
+invariant-values::emit_columns-loop-number l =
     Numbering l.catalog (env_of l.scope) (rows_width (rows_of l.catalog l.rows)) l.rows l.number
     l.initial.draft l.draft l.columns

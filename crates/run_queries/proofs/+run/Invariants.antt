@@ -81,6 +81,9 @@ decreases-queries::source_rows l = 8 * from_cost (source_of l.catalog.now l.sour
 abbrev pub decreases-from::join : goal.decreases-from::join
 decreases-from::join l = 8 * step_cost l.joined (item_of l.catalog.now l.item.now)
 
+abbrev pub decreases-from::join_on : goal.decreases-from::join_on
+decreases-from::join_on l = 8 * costs (exprs_of l.catalog.now l.on.now) + 5
+
 abbrev pub decreases-joins::matched : goal.decreases-joins::matched
 decreases-joins::matched l = 8 * costs (exprs_of l.catalog.now l.on.now) + 4
 

@@ -1,15 +1,15 @@
 use Rattle.std.proofs.Common.{rules, ◌∙◌, arith}
+use Rattle.std.proofs.lemmas.Result.{IfOk-weaker, on_ok_weaker}
 use Rattle.std.specs.Option.{option_copied}
 use Rattle.bind_sight.specs.Sight.{seen_by, inside}
 use Rattle.bind_parts.specs.From.{row_level}
-use Rattle.bind_parts.specs.Grouping.{grouping_of}
-use Rattle.bind_parts.proofs.Laws.{then-notes, next}
+use Rattle.bind_parts.proofs.Laws.{then-notes}
 use Rattle.bind_parts.proofs.Laws as turns
 use Rattle.bind_queries.specs.Lists.{listed, judged_filter}
 use Rattle.bind_queries.specs.Queries.{expression, select_item, value_row, from_judge, anchor_of}
 use Rattle.bind_queries.specs.Queries.{items_of, filter_of, grouping_columns, having_of}
 use Rattle.bind_queries.specs.Queries.{anchor_of_values}
-use Rattle.bind_queries.specs.Selects.{rowed, list_typed, grouped, after_list}
+use Rattle.bind_queries.specs.Selects.{rowed, list_typed, grouped, after_list, with_grouping}
 use Rattle.bind_queries.specs.ValueRows.{one_row}
 use Rattle.bind_queries.proofs.Layers.{select-value, select-notes, comma-notes, cross-notes}
 use Rattle.bind_queries.proofs.Layers.{inner-notes, left-notes, derived-notes}
@@ -74,91 +74,89 @@ bind_rows-loop-row-preserved t c = record {
 
 pub bind_call-returns-clause-notes : goal.bind_call-returns-clause-notes
 bind_call-returns-clause-notes t c =
-    call_notes (seen_by c.args.sight.now) c.args.parts.now c.args.ident.now c.args.args.now
-    (option_copied c.function_in_sight-function.result) c.args.notes.now c.note_call.new.notes
-    c.bind_all.new.notes c.called.new.least c.in_ok-args.args
-    (search rules) (search rules) (search rules) (search rules) (search rules)
+    on_ok_weaker c.called.result (call_notes (seen_by c.args.sight.now) c.args.parts.now
+    c.args.ident.now c.args.args.now (option_copied c.function_in_sight-function.result)
+    c.args.notes.now c.note_call.new.notes c.bind_all.new.notes c.called.new.least
+    c.in_ok-args.args (search rules) (search rules) (search rules) (search rules))
+    c.called.ensures.faults
 
-pub bind_inside-returns-in_ok-chain-in-Chain-clause-value :
-    goal.bind_inside-returns-in_ok-chain-in-Chain-clause-value
-bind_inside-returns-in_ok-chain-in-Chain-clause-value t c =
-    chain_value (seen_by c.args.sight.now) c.args.parts.now c.bind_after.new.parts c.args.expr.now
-    c.in-Chain.first c.in-Chain.links c.in-Chain.is (search rules)
-    c.in_ok-first-in-Chain.first c.in_ok-chain-in-Chain.chain c.in_ok-others-in-Chain.others
-    (search rules) (search rules) (search rules)
-
-pub bind_inside-returns-in_ok-chain-in-Chain-clause-parts :
-    goal.bind_inside-returns-in_ok-chain-in-Chain-clause-parts
-bind_inside-returns-in_ok-chain-in-Chain-clause-parts t c =
-    chain_parts (seen_by c.args.sight.now) c.args.parts.now c.bind_after.new.parts c.args.expr.now
-    c.in-Chain.first c.in-Chain.links c.in-Chain.is (search rules)
-    c.bind_links.new.parts (search rules)
-
-pub bind_inside-returns-in_ok-chain-in-Chain-clause-notes :
-    goal.bind_inside-returns-in_ok-chain-in-Chain-clause-notes
-bind_inside-returns-in_ok-chain-in-Chain-clause-notes t c =
-    chain_notes (seen_by c.args.sight.now) c.args.parts.now c.bind_after.new.parts c.args.expr.now
-    c.in-Chain.first c.in-Chain.links c.args.notes.now c.bind_after.new.notes
-    c.bind_links.new.notes c.chained.new.least
-    c.in_ok-first-in-Chain.first c.in_ok-others-in-Chain.others c.in-Chain.is (search rules)
-    (search rules) (search rules) (search rules) (search rules) (search rules)
-
-pub bind_inside-returns-in_ok-word-in-Operation-clause-notes :
-    goal.bind_inside-returns-in_ok-word-in-Operation-clause-notes
-bind_inside-returns-in_ok-word-in-Operation-clause-notes t c =
-    operation_notes (seen_by c.args.sight.now) c.args.parts.now c.args.expr.now c.in-Operation.at
-    c.in-Operation.operation c.in-Operation.operands
+pub bind_inside-returns-in_ok-operands-in-Operation-clause-notes :
+    goal.bind_inside-returns-in_ok-operands-in-Operation-clause-notes
+bind_inside-returns-in_ok-operands-in-Operation-clause-notes t c =
+    on_ok_weaker c.operated.result (operation_notes (seen_by c.args.sight.now) c.args.parts.now
+    c.args.expr.now c.in-Operation.at c.in-Operation.operation c.in-Operation.operands
     c.args.notes.now c.bind_all.new.notes c.operated.new.least
-    c.in_ok-operands-in-Operation.operands c.in-Operation.is (search rules) (search rules)
+    c.in_ok-operands-in-Operation.operands c.in-Operation.is (search rules) (search rules))
+    c.operated.ensures.faults
+
+pub bind_inside-returns-in_ok-first-in-Chain-clause-value :
+    goal.bind_inside-returns-in_ok-first-in-Chain-clause-value
+bind_inside-returns-in_ok-first-in-Chain-clause-value t c =
+    IfOk-weaker c.bind_chain.result _ _ (chain_value (seen_by c.args.sight.now) c.args.parts.now
+    c.bind_after.new.parts c.args.expr.now c.in-Chain.first c.in-Chain.links c.in-Chain.is
+    c.in_ok-first-in-Chain.first (search rules) (search rules)) (search rules)
+
+pub bind_inside-returns-in_ok-first-in-Chain-clause-parts :
+    goal.bind_inside-returns-in_ok-first-in-Chain-clause-parts
+bind_inside-returns-in_ok-first-in-Chain-clause-parts t c =
+    on_ok_weaker c.bind_chain.result (chain_parts (seen_by c.args.sight.now) c.args.parts.now
+    c.bind_after.new.parts c.args.expr.now c.in-Chain.first c.in-Chain.links c.in-Chain.is
+    c.in_ok-first-in-Chain.first (search rules) (search rules) c.bind_chain.new.parts)
     (search rules)
 
-pub bind_inside-returns-in_ok-subquery-in-Subquery-clause-notes :
-    goal.bind_inside-returns-in_ok-subquery-in-Subquery-clause-notes
-bind_inside-returns-in_ok-subquery-in-Subquery-clause-notes t c =
-    single_notes (seen_by c.args.sight.now) c.args.parts.now c.args.expr.now c.in-Subquery.query
-    c.args.notes.now c.bind_typed.new.notes c.single.new.least c.in_ok-query-in-Subquery.query
-    c.in-Subquery.is (search rules) (search rules) (search rules)
+pub bind_inside-returns-in_ok-first-in-Chain-clause-notes :
+    goal.bind_inside-returns-in_ok-first-in-Chain-clause-notes
+bind_inside-returns-in_ok-first-in-Chain-clause-notes t c =
+    on_ok_weaker c.bind_chain.result (chain_notes (seen_by c.args.sight.now) c.args.parts.now
+    c.bind_after.new.parts c.args.expr.now c.in-Chain.first c.in-Chain.links c.in-Chain.is
+    c.in_ok-first-in-Chain.first (search rules) (search rules) c.args.notes.now
+    c.bind_after.new.notes c.bind_chain.new.notes (search rules)) (search rules)
+
+pub bind_inside-returns-in_ok-query-in-Subquery-clause-notes :
+    goal.bind_inside-returns-in_ok-query-in-Subquery-clause-notes
+bind_inside-returns-in_ok-query-in-Subquery-clause-notes t c =
+    on_ok_weaker c.single.result (single_notes (seen_by c.args.sight.now) c.args.parts.now
+    c.args.expr.now c.in-Subquery.query c.args.notes.now c.bind_typed.new.notes
+    c.single.new.least c.in_ok-query-in-Subquery.query c.in-Subquery.is (search rules)
+    (search rules)) c.single.ensures.faults
+
+pub bind_inside-returns-in_ok-left-in-InQuery-clause-value :
+    goal.bind_inside-returns-in_ok-left-in-InQuery-clause-value
+bind_inside-returns-in_ok-left-in-InQuery-clause-value t c =
+    IfOk-weaker c.bind_member.result _ _ (member_value (seen_by c.args.sight.now) c.args.parts.now
+    c.args.expr.now c.in-InQuery.left c.in-InQuery.at c.in-InQuery.negated c.in-InQuery.query
+    c.in-InQuery.is c.in_ok-left-in-InQuery.left (search rules)) (search rules)
+
+pub bind_inside-returns-in_ok-left-in-InQuery-clause-parts :
+    goal.bind_inside-returns-in_ok-left-in-InQuery-clause-parts
+bind_inside-returns-in_ok-left-in-InQuery-clause-parts t c =
+    on_ok_weaker c.bind_member.result (λ h. member_parts (seen_by c.args.sight.now)
+    c.args.parts.now c.args.expr.now c.in-InQuery.left c.in-InQuery.at c.in-InQuery.negated
+    c.in-InQuery.query c.in-InQuery.is c.bind_after-in-InQuery.new.parts (search rules))
+    c.bind_member.ensures.notes
+
+pub bind_inside-returns-in_ok-left-in-InQuery-clause-notes :
+    goal.bind_inside-returns-in_ok-left-in-InQuery-clause-notes
+bind_inside-returns-in_ok-left-in-InQuery-clause-notes t c =
+    on_ok_weaker c.bind_member.result (member_notes (seen_by c.args.sight.now) c.args.parts.now
+    c.args.expr.now c.in-InQuery.left c.in-InQuery.at c.in-InQuery.negated c.in-InQuery.query
+    c.in-InQuery.is c.in_ok-left-in-InQuery.left (search rules) c.args.notes.now
+    c.bind_after-in-InQuery.new.notes c.bind_member.new.notes (search rules)) (search rules)
 
 pub bind_value_row-returns-clause-notes : goal.bind_value_row-returns-clause-notes
 bind_value_row-returns-clause-notes t c =
-    row_notes (seen_by c.args.sight.now) c.args.at c.args.targets.now c.args.so.now
-    (value_row c.args.row.now)
-    c.args.notes.now c.bind_row_values.new.notes c.ask_row.new.least c.in_ok-values.values
-    c.in_ok-values.ensures.notes c.in_ok-values.ensures.value (search rules)
-
-pub bind_inside-returns-in_ok-test-in-InQuery-clause-value :
-    goal.bind_inside-returns-in_ok-test-in-InQuery-clause-value
-bind_inside-returns-in_ok-test-in-InQuery-clause-value t c =
-    member_value (seen_by c.args.sight.now) c.args.parts.now c.args.expr.now c.in-InQuery.left
-    c.in-InQuery.at c.in-InQuery.negated c.in-InQuery.query c.in-InQuery.is
-    c.in_ok-left-in-InQuery.left c.in_ok-test-in-InQuery.test c.in_ok-query-in-InQuery.query
-    (search rules) (cc (c.in_ok-query-in-InQuery.ensures.value, c.get-in-InQuery-2.ensures))
-    (search rules)
-
-pub bind_inside-returns-in_ok-test-in-InQuery-clause-parts :
-    goal.bind_inside-returns-in_ok-test-in-InQuery-clause-parts
-bind_inside-returns-in_ok-test-in-InQuery-clause-parts t c =
-    member_parts (seen_by c.args.sight.now) c.args.parts.now c.args.expr.now c.in-InQuery.left
-    c.in-InQuery.at c.in-InQuery.negated c.in-InQuery.query c.in-InQuery.is
-    c.bind_after-in-InQuery.new.parts (search rules)
-
-pub bind_inside-returns-in_ok-test-in-InQuery-clause-notes :
-    goal.bind_inside-returns-in_ok-test-in-InQuery-clause-notes
-bind_inside-returns-in_ok-test-in-InQuery-clause-notes t c =
-    member_notes (seen_by c.args.sight.now) c.args.parts.now c.args.expr.now c.in-InQuery.left
-    c.in-InQuery.at c.in-InQuery.negated c.in-InQuery.query c.in-InQuery.is
-    c.args.notes.now c.bind_after-in-InQuery.new.notes c.bind_typed-in-InQuery.new.notes
-    c.member.new.least
-    c.in_ok-left-in-InQuery.left c.in_ok-query-in-InQuery.query (search rules) (search rules)
-    (search rules) (search rules) (search rules)
+    on_ok_weaker c.put_row.result (row_notes (seen_by c.args.sight.now) c.args.at
+    c.args.targets.now c.args.so.now (value_row c.args.row.now) c.args.notes.now
+    c.bind_row_values.new.notes c.put_row.new.least c.in_ok-values.values
+    c.in_ok-values.ensures.notes c.in_ok-values.ensures.value) c.put_row.ensures.faults
 
 pub bind_row-returns-clause-notes : goal.bind_row-returns-clause-notes
 bind_row-returns-clause-notes t c =
     let seen = inside (row_level c.args.opened.now) (seen_by c.args.outside.now) in
-    next c.args.notes.now c.bind_filter.new.notes c.bind_row_grouping.new.notes
-    (judged_filter (filter_of c.args.select.now) seen)
-    (grouping_of (grouping_columns c.args.select.now) seen)
-    (search rules) (search rules)
+    on_ok_weaker c.bind_row_clauses.result (then-notes c.args.notes.now c.bind_filter.new.notes
+    c.bind_row_clauses.new.notes (judged_filter (filter_of c.args.select.now) seen)
+    (λ conjuncts. with_grouping conjuncts (grouping_columns c.args.select.now) seen)
+    c.in_ok-conjuncts.conjuncts (search rules) (search rules)) (search rules)
 
 pub bind_listed-returns-clause-notes : goal.bind_listed-returns-clause-notes
 bind_listed-returns-clause-notes t c =
@@ -173,12 +171,13 @@ pub bind_opened-returns-clause-notes : goal.bind_opened-returns-clause-notes
 bind_opened-returns-clause-notes t c =
     let select = c.args.select.now in
     let outer = seen_by c.args.outside.now in
-    then-notes c.args.notes.now c.bind_row.new.notes c.bind_grouped.new.notes
+    on_ok_weaker c.bind_grouped.result (then-notes c.args.notes.now c.bind_row.new.notes
+    c.bind_grouped.new.notes
     (rowed (filter_of select) (grouping_columns select) (inside (row_level c.args.opened) outer))
     (list_typed (anchor_of select) (items_of select) (having_of select)
     (grouped (items_of select) (grouping_columns select) (having_of select)) c.args.targets.now
-    outer c.args.opened) c.in_ok-row.row
-    c.in_ok-row.ensures.notes c.in_ok-row.ensures.value c.in_ok-query.ensures.notes
+    outer c.args.opened) c.in_ok-row.row c.in_ok-row.ensures.notes c.in_ok-row.ensures.value)
+    c.bind_grouped.ensures.notes
 
 pub bind_from-loop-item-preserved : goal.bind_from-loop-item-preserved
 bind_from-loop-item-preserved t c = record {
@@ -195,55 +194,55 @@ bind_from-loop-item-preserved t c = record {
 
 pub bind_select-returns-clause-value : goal.bind_select-returns-clause-value
 bind_select-returns-clause-value t c =
-    select-value c.args.select.now c.args.targets.now (seen_by c.args.outside.now)
-    c.in_ok-opened.opened c.in_ok-query.query
-    (cc (c.in_ok-opened.ensures.value, c.as_slice.ensures)) (search rules)
+    IfOk-weaker c.bind_opened.result _ _ (λ q. select-value c.args.select.now c.args.targets.now
+    (seen_by c.args.outside.now) c.in_ok-opened.opened q
+    (cc (c.in_ok-opened.ensures.value, c.as_slice.ensures))) (search rules)
 
 pub bind_select-returns-clause-notes : goal.bind_select-returns-clause-notes
 bind_select-returns-clause-notes t c =
-    select-notes c.args.select.now c.args.targets.now (seen_by c.args.outside.now)
-    c.in_ok-opened.opened c.args.notes.now c.bind_from.new.notes c.bind_opened.new.notes
-    (cc (c.in_ok-opened.ensures.notes, c.as_slice.ensures))
-    (cc (c.in_ok-opened.ensures.value, c.as_slice.ensures)) (search rules)
+    on_ok_weaker c.bind_opened.result (select-notes c.args.select.now c.args.targets.now
+    (seen_by c.args.outside.now) c.in_ok-opened.opened c.args.notes.now c.bind_from.new.notes
+    c.bind_opened.new.notes (cc (c.in_ok-opened.ensures.notes, c.as_slice.ensures))
+    (cc (c.in_ok-opened.ensures.value, c.as_slice.ensures))) (search rules)
 
-pub bind_from_item-returns-in_ok-put_comma-in-Comma-clause-notes :
-    goal.bind_from_item-returns-in_ok-put_comma-in-Comma-clause-notes
-bind_from_item-returns-in_ok-put_comma-in-Comma-clause-notes t c =
-    comma-notes c.args.item.now c.in-Comma.table (seen_by c.args.outside.now) c.args.so.now
-    c.in_ok-sourced-in-Comma.sourced c.args.notes.now c.bind_table_ref.new.notes
-    c.put_comma.new.notes
-    (search rules) (search rules) c.in-Comma.is (search rules)
+pub bind_from_item-returns-in_ok-sourced-in-Comma-clause-notes :
+    goal.bind_from_item-returns-in_ok-sourced-in-Comma-clause-notes
+bind_from_item-returns-in_ok-sourced-in-Comma-clause-notes t c =
+    on_ok_weaker c.put_comma.result (comma-notes c.args.item.now c.in-Comma.table
+    (seen_by c.args.outside.now) c.args.so.now c.in_ok-sourced-in-Comma.sourced c.args.notes.now
+    c.bind_table_ref.new.notes c.put_comma.new.notes (search rules) (search rules)
+    c.in-Comma.is) c.put_comma.ensures.notes
 
-pub bind_from_item-returns-in_ok-put_cross-in-Cross-clause-notes :
-    goal.bind_from_item-returns-in_ok-put_cross-in-Cross-clause-notes
-bind_from_item-returns-in_ok-put_cross-in-Cross-clause-notes t c =
-    cross-notes c.args.item.now c.in-Cross.table (seen_by c.args.outside.now) c.args.so.now
-    c.in_ok-sourced-in-Cross.sourced c.args.notes.now c.bind_table_ref-in-Cross.new.notes
-    c.put_cross.new.notes
-    (search rules) (search rules) c.in-Cross.is (search rules)
+pub bind_from_item-returns-in_ok-sourced-in-Cross-clause-notes :
+    goal.bind_from_item-returns-in_ok-sourced-in-Cross-clause-notes
+bind_from_item-returns-in_ok-sourced-in-Cross-clause-notes t c =
+    on_ok_weaker c.put_cross.result (cross-notes c.args.item.now c.in-Cross.table
+    (seen_by c.args.outside.now) c.args.so.now c.in_ok-sourced-in-Cross.sourced c.args.notes.now
+    c.bind_table_ref-in-Cross.new.notes c.put_cross.new.notes (search rules) (search rules)
+    c.in-Cross.is) c.put_cross.ensures.notes
 
-pub bind_from_item-returns-in_ok-put_inner-in-Inner-clause-notes :
-    goal.bind_from_item-returns-in_ok-put_inner-in-Inner-clause-notes
-bind_from_item-returns-in_ok-put_inner-in-Inner-clause-notes t c =
-    inner-notes c.args.item.now c.in-Inner.table (seen_by c.args.outside.now) c.args.so.now
-    c.in_ok-sourced-in-Inner.sourced c.args.notes.now c.bind_table_ref-in-Inner.new.notes
-    c.put_inner.new.notes
-    (search rules) (search rules) c.in-Inner.condition c.in-Inner.is (search rules)
+pub bind_from_item-returns-in_ok-sourced-in-Inner-clause-notes :
+    goal.bind_from_item-returns-in_ok-sourced-in-Inner-clause-notes
+bind_from_item-returns-in_ok-sourced-in-Inner-clause-notes t c =
+    on_ok_weaker c.put_joined.result (inner-notes c.args.item.now c.in-Inner.table
+    (seen_by c.args.outside.now) c.args.so.now c.in_ok-sourced-in-Inner.sourced c.args.notes.now
+    c.bind_table_ref-in-Inner.new.notes c.put_joined.new.notes (search rules)
+    (search rules) c.in-Inner.condition c.in-Inner.is) c.put_joined.ensures.notes
 
-pub bind_from_item-returns-in_ok-put_left-in-Left-clause-notes :
-    goal.bind_from_item-returns-in_ok-put_left-in-Left-clause-notes
-bind_from_item-returns-in_ok-put_left-in-Left-clause-notes t c =
-    left-notes c.args.item.now c.in-Left.table (seen_by c.args.outside.now) c.args.so.now
-    c.in_ok-sourced-in-Left.sourced c.args.notes.now c.bind_table_ref-in-Left.new.notes
-    c.put_left.new.notes
-    (search rules) (search rules) c.in-Left.condition c.in-Left.is (search rules)
+pub bind_from_item-returns-in_ok-sourced-in-Left-clause-notes :
+    goal.bind_from_item-returns-in_ok-sourced-in-Left-clause-notes
+bind_from_item-returns-in_ok-sourced-in-Left-clause-notes t c =
+    on_ok_weaker c.put_joined-in-Left.result (left-notes c.args.item.now c.in-Left.table
+    (seen_by c.args.outside.now) c.args.so.now c.in_ok-sourced-in-Left.sourced c.args.notes.now
+    c.bind_table_ref-in-Left.new.notes c.put_joined-in-Left.new.notes (search rules)
+    (search rules) c.in-Left.condition c.in-Left.is) c.put_joined-in-Left.ensures.notes
 
-pub bind_table_ref-returns-in_ok-sourced-in-Derived-clause-notes :
-    goal.bind_table_ref-returns-in_ok-sourced-in-Derived-clause-notes
-bind_table_ref-returns-in_ok-sourced-in-Derived-clause-notes t c =
-    derived-notes c.args.table.now c.in-Derived.query c.in-Derived.ident c.in-Derived.names
-    (seen_by c.args.outside.now) c.in_ok-query-in-Derived.query
-    c.args.notes.now c.bind_typed.new.notes c.derived_source.new.notes c.in-Derived.is
+pub bind_table_ref-returns-in_ok-query-in-Derived-clause-notes :
+    goal.bind_table_ref-returns-in_ok-query-in-Derived-clause-notes
+bind_table_ref-returns-in_ok-query-in-Derived-clause-notes t c =
+    on_ok_weaker c.derived_source.result (derived-notes c.args.table.now c.in-Derived.query
+    c.in-Derived.ident c.in-Derived.names (seen_by c.args.outside.now)
+    c.in_ok-query-in-Derived.query c.args.notes.now c.bind_typed.new.notes
+    c.derived_source.new.notes c.in-Derived.is
     (cc (c.in_ok-query-in-Derived.ensures.notes, c.get.ensures))
-    (cc (c.in_ok-query-in-Derived.ensures.value, c.get.ensures))
-    (cc (c.in_ok-sourced-in-Derived.ensures.notes, c.as_slice.ensures))
+    (cc (c.in_ok-query-in-Derived.ensures.value, c.get.ensures))) (search rules)

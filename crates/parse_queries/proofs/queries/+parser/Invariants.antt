@@ -7,154 +7,163 @@ use Rattle.parse_queries.proofs.Ranks.{rank}
 use Rattle.parse_queries.proofs.queries.+parser.Given as goal
 
 abbrev pub decreases-operand : goal.decreases-operand
-decreases-operand l = l.room * 32 + (rank l.level + 0)
+decreases-operand l = l.room * 40 + (rank l.level + 0)
 
 abbrev pub decreases-link : goal.decreases-link
-decreases-link l = l.room * 32 + (rank l.level + 1)
+decreases-link l = l.room * 40 + (rank l.level + 1)
 
 abbrev pub decreases-links : goal.decreases-links
-decreases-links l = l.room * 32 + (rank l.level + 2)
+decreases-links l = l.room * 40 + (rank l.level + 2)
 
 abbrev pub decreases-chain : goal.decreases-chain
-decreases-chain l = l.room * 32 + (rank l.level + 3)
+decreases-chain l = l.room * 40 + (rank l.level + 3)
 
 abbrev pub decreases-arguments : goal.decreases-arguments
-decreases-arguments l = l.room * 32 + 0
-
-abbrev pub decreases-bracketed_exprs : goal.decreases-bracketed_exprs
-decreases-bracketed_exprs l = l.room * 32 + 0
+decreases-arguments l = l.room * 40 + 0
 
 abbrev pub decreases-bracketed_operands : goal.decreases-bracketed_operands
-decreases-bracketed_operands l = l.room * 32 + 0
+decreases-bracketed_operands l = l.room * 40 + 0
 
 abbrev pub decreases-in_brackets : goal.decreases-in_brackets
-decreases-in_brackets l = l.room * 32 + 0
+decreases-in_brackets l = l.room * 40 + 0
 
 abbrev pub decreases-in_value : goal.decreases-in_value
-decreases-in_value l = l.room * 32 + 0
+decreases-in_value l = l.room * 40 + 0
 
 abbrev pub decreases-case_expression : goal.decreases-case_expression
-decreases-case_expression l = l.room * 32 + 0
+decreases-case_expression l = l.room * 40 + 0
 
 abbrev pub decreases-bracketed_query : goal.decreases-bracketed_query
-decreases-bracketed_query l = l.room * 32 + 0
+decreases-bracketed_query l = l.room * 40 + 0
 
 abbrev pub decreases-named : goal.decreases-named
-decreases-named l = l.room * 32 + 1
+decreases-named l = l.room * 40 + 1
 
 abbrev pub decreases-function_call : goal.decreases-function_call
-decreases-function_call l = l.room * 32 + 1
+decreases-function_call l = l.room * 40 + 1
 
 abbrev pub decreases-exists : goal.decreases-exists
-decreases-exists l = l.room * 32 + 1
+decreases-exists l = l.room * 40 + 1
 
 abbrev pub decreases-row : goal.decreases-row
-decreases-row l = l.room * 32 + 1
+decreases-row l = l.room * 40 + 1
 
 abbrev pub decreases-table_ref : goal.decreases-table_ref
-decreases-table_ref l = l.room * 32 + 2
+decreases-table_ref l = l.room * 40 + 2
 
 abbrev pub decreases-primary : goal.decreases-primary
-decreases-primary l = l.room * 32 + 2
+decreases-primary l = l.room * 40 + 2
 
 abbrev pub decreases-rows : goal.decreases-rows
-decreases-rows l = l.room * 32 + 2
+decreases-rows l = l.room * 40 + 2
 
 abbrev pub decreases-values : goal.decreases-values
-decreases-values l = l.room * 32 + 3
+decreases-values l = l.room * 40 + 3
 
 abbrev pub decreases-compared : goal.decreases-compared
-decreases-compared l = l.room * 32 + 11
+decreases-compared l = l.room * 40 + 11
 
 abbrev pub decreases-predicate_part : goal.decreases-predicate_part
-decreases-predicate_part l = l.room * 32 + 12
+decreases-predicate_part l = l.room * 40 + 12
 
 abbrev pub decreases-predicate : goal.decreases-predicate
-decreases-predicate l = l.room * 32 + 13
+decreases-predicate l = l.room * 40 + 13
 
 abbrev pub decreases-expr : goal.decreases-expr
-decreases-expr l = l.room * 32 + 22
+decreases-expr l = l.room * 40 + 22
 
 abbrev pub decreases-after : goal.decreases-after
-decreases-after l = l.room * 32 + 23
+decreases-after l = l.room * 40 + 23
 
 abbrev pub decreases-aggregate : goal.decreases-aggregate
-decreases-aggregate l = l.room * 32 + 23
+decreases-aggregate l = l.room * 40 + 23
 
 abbrev pub decreases-select_value : goal.decreases-select_value
-decreases-select_value l = l.room * 32 + 23
+decreases-select_value l = l.room * 40 + 23
+
+abbrev pub decreases-if_expr : goal.decreases-if_expr
+decreases-if_expr l = l.room * 40 + 23
 
 abbrev pub decreases-if_after : goal.decreases-if_after
-decreases-if_after l = l.room * 32 + 24
+decreases-if_after l = l.room * 40 + 24
 
 abbrev pub decreases-when_clause : goal.decreases-when_clause
-decreases-when_clause l = l.room * 32 + 24
+decreases-when_clause l = l.room * 40 + 24
 
 abbrev pub decreases-exprs : goal.decreases-exprs
-decreases-exprs l = l.room * 32 + 24
+decreases-exprs l = l.room * 40 + 24
 
 abbrev pub decreases-select_values : goal.decreases-select_values
-decreases-select_values l = l.room * 32 + 24
+decreases-select_values l = l.room * 40 + 24
 
 abbrev pub decreases-joined_after : goal.decreases-joined_after
-decreases-joined_after l = l.room * 32 + 24
+decreases-joined_after l = l.room * 40 + 24
 
 abbrev pub decreases-when_clauses : goal.decreases-when_clauses
-decreases-when_clauses l = l.room * 32 + 25
+decreases-when_clauses l = l.room * 40 + 25
 
 abbrev pub decreases-modulo : goal.decreases-modulo
-decreases-modulo l = l.room * 32 + 24
+decreases-modulo l = l.room * 40 + 24
 
 abbrev pub decreases-substring : goal.decreases-substring
-decreases-substring l = l.room * 32 + 26
+decreases-substring l = l.room * 40 + 26
 
 abbrev pub decreases-cast : goal.decreases-cast
-decreases-cast l = l.room * 32 + 23
+decreases-cast l = l.room * 40 + 23
 
 abbrev pub decreases-query_or_expr : goal.decreases-query_or_expr
-decreases-query_or_expr l = l.room * 32 + 31
+decreases-query_or_expr l = l.room * 40 + 32
+
+abbrev pub decreases-query_or_exprs : goal.decreases-query_or_exprs
+decreases-query_or_exprs l = l.room * 40 + 32
 
 abbrev pub decreases-operands : goal.decreases-operands
-decreases-operands l = l.room * 32 + 27
+decreases-operands l = l.room * 40 + 27
 
 abbrev pub decreases-select_list : goal.decreases-select_list
-decreases-select_list l = l.room * 32 + 25
+decreases-select_list l = l.room * 40 + 25
 
 abbrev pub decreases-conditions : goal.decreases-conditions
-decreases-conditions l = l.room * 32 + 26
+decreases-conditions l = l.room * 40 + 26
 
 abbrev pub decreases-from_item : goal.decreases-from_item
-decreases-from_item l = l.room * 32 + 25
+decreases-from_item l = l.room * 40 + 25
 
 abbrev pub decreases-arms : goal.decreases-arms
-decreases-arms l = l.room * 32 + 26
+decreases-arms l = l.room * 40 + 26
 
 abbrev pub decreases-from_items : goal.decreases-from_items
-decreases-from_items l = l.room * 32 + 26
+decreases-from_items l = l.room * 40 + 26
 
 abbrev pub decreases-cases : goal.decreases-cases
-decreases-cases l = l.room * 32 + 27
+decreases-cases l = l.room * 40 + 27
 
 abbrev pub decreases-from_clause : goal.decreases-from_clause
-decreases-from_clause l = l.room * 32 + 27
+decreases-from_clause l = l.room * 40 + 27
+
+abbrev pub decreases-selection : goal.decreases-selection
+decreases-selection l = l.room * 40 + 29
+
+abbrev pub decreases-if_exprs : goal.decreases-if_exprs
+decreases-if_exprs l = l.room * 40 + 25
 
 abbrev pub decreases-select : goal.decreases-select
-decreases-select l = l.room * 32 + 29
+decreases-select l = l.room * 40 + 30
 
 abbrev pub decreases-query : goal.decreases-query
-decreases-query l = l.room * 32 + 30
+decreases-query l = l.room * 40 + 31
 
 abbrev pub decreases-derived_table : goal.decreases-derived_table
-decreases-derived_table l = l.room * 32 + 1
+decreases-derived_table l = l.room * 40 + 1
 
 abbrev pub decreases-places : goal.decreases-places
-decreases-places l = l.room * 32 + 25
+decreases-places l = l.room * 40 + 25
 
 abbrev pub decreases-grouping : goal.decreases-grouping
-decreases-grouping l = l.room * 32 + 25
+decreases-grouping l = l.room * 40 + 25
 
 abbrev pub decreases-table_expression : goal.decreases-table_expression
-decreases-table_expression l = l.room * 32 + 28
+decreases-table_expression l = l.room * 40 + 28
 
 abbrev pub decreases-links-more : goal.decreases-links-more
 decreases-links-more l = length l.input.rest.now

@@ -3,10 +3,10 @@ use Rattle.std.proofs.lemmas.Result.{on_ok_weaker}
 use Rattle.rel_algebra.specs.Plan.{collapse, collected, grouped}
 use Rattle.rel_algebra.specs.PlanView.{aggregates_of, kind_of}
 use Rattle.rel_algebra.specs.declared.plan.ApplyKind.TheVariants.{Aggregate}
-use Rattle.plan_exec.specs.declared.received.Received.TheVariants.{Rows}
-use Rattle.plan_exec.specs.Answers.{values_end}
-use Rattle.plan_exec.specs.Fates.{passed}
-use Rattle.plan_exec.specs.Receiving.{nothing_of, received}
+use Rattle.plan_nodes.specs.declared.received.Received.TheVariants.{Rows}
+use Rattle.plan_rows.specs.Firsts.{values_end}
+use Rattle.plan_nodes.specs.Fates.{passed}
+use Rattle.plan_nodes.specs.Receiving.{nothing_of, received}
 use Rattle.plan_exec.proofs.Collapsing.{judged_cells, judged_length, row_cells_are, row_length}
 use Rattle.plan_exec.proofs.collapse.add_collapsed.Goals as goal
 

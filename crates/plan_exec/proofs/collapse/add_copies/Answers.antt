@@ -1,5 +1,5 @@
 use Rattle.std.proofs.Common.{◌≡◌, ◌∷◌, [], ◌++◌, replicate, ap, ◌∙◌, arith}
-use Rattle.plan_exec.proofs.Matching.{copy_more}
+use Rattle.plan_rows.proofs.Laws.{copy_more}
 use Rattle.plan_exec.proofs.collapse.add_copies.Goals as goal
 
 pub loop-preserved : goal.loop-preserved

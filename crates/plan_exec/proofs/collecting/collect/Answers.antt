@@ -1,6 +1,6 @@
 use Rattle.std.proofs.Common.{Err, sym, ap, ◌∙◌, arith}
 use Rattle.plan_exec.specs.Answers.{shown_end}
-use Rattle.plan_exec.proofs.Collected.{one_more, area_found, all_looked}
+use Rattle.plan_exec.proofs.Looked.{one_more, area_found, all_looked}
 use Rattle.plan_exec.proofs.collecting.collect.Goals as goal
 
 pub returns-in-Some-clause-answer : goal.returns-in-Some-clause-answer

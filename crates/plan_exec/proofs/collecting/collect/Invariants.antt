@@ -1,5 +1,5 @@
 use Rattle.std.proofs.Common.{◌+◌, ◌≤◌}
-use Rattle.plan_exec.proofs.Collected.{Looked}
+use Rattle.plan_exec.proofs.Looked.{Looked}
 use Rattle.plan_exec.proofs.collecting.collect.Given as goal
 
 abbrev pub invariant-loop-at : goal.invariant-loop-at

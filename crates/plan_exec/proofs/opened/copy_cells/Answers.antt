@@ -1,5 +1,5 @@
 use Rattle.std.proofs.Common.{◌++◌, arith}
-use Rattle.plan_exec.proofs.Picks.{cell_more}
+use Rattle.plan_nodes.proofs.Laws.{cell_more}
 use Rattle.plan_exec.proofs.opened.copy_cells.Goals as goal
 
 pub loop-place-preserved : goal.loop-place-preserved

@@ -1,7 +1,7 @@
 use Rattle.std.proofs.Common.{arith, ap, sym, subst, ◌∙◌, ◌≡◌, length, [], inl, inr}
 use Rattle.std.specs.Prelude.{Option}
 use Rattle.io_edges.specs.TakenBytes.{TakenBytes, Takes}
-use Rattle.psm_session.specs.Database.{Plain}
+use Rattle.psm_effects.specs.Database.{Plain}
 use Rattle.psm_words.specs.declared.command.Command.{Command}
 use Rattle.program_status.specs.declared.status.Status.TheVariants as Status
 use Rattle.psm_program.specs.Whole.{SaysExceptions, LeavesTheOnlyRun, WritesFront}

@@ -1,6 +1,6 @@
 use Rattle.std.proofs.Common.{drop}
 use Rattle.grammar_algebra.specs.Statement.{most_open}
-use Rattle.grammar_order_law.proofs.Spelled.{spelled_in_order}
+use Rattle.grammar_order_law.proofs.Laws.{spelled_in_order}
 use Rattle.bind_statements.proofs.Laws.{faultless-typed}
 use Rattle.psm_session.proofs.typing.statements_are_typed.Goals as goal
 

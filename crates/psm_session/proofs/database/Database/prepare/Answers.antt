@@ -3,11 +3,10 @@ use Rattle.std.proofs.Common.{subst}
 use Rattle.std.specs.Prelude.{IfOk}
 use Rattle.rel_algebra.specs.Joins.{table_width}
 use Rattle.catalog_store.specs.View.{query_of}
-use Rattle.psm_session.specs.Conclusions.{database}
-use Rattle.psm_session.specs.Database.{Plain}
-use Rattle.psm_session.specs.Preparing.{IsPrepared, plan_in}
-use Rattle.psm_session.proofs.Answering.{if_ok}
-use Rattle.psm_session.proofs.Preparing.{for_tables}
+use Rattle.psm_effects.specs.Conclusions.{database}
+use Rattle.psm_effects.specs.Database.{Plain}
+use Rattle.psm_effects.specs.Preparing.{IsPrepared, plan_in}
+use Rattle.psm_effects.proofs.Laws.{if_ok, for_tables}
 use Rattle.psm_session.proofs.database.Database.prepare.Goals as goal
 
 pub returns : goal.returns

@@ -1,0 +1,118 @@
+-- Direct SQL statements that hold no statement of a routine: the bound statement that each stands
+-- for, the name faults in it, and whether it is run. ISO/IEC 9075-2, 22.1 (direct SQL statement),
+-- 11.3 (table definition), 11.31 and 11.62 (drop statements), 14.9, 14.11 and 14.14 (changes) and
+-- 15.1 (call statement).
+use Rattle.std.specs.Prelude.{Bool, true, false, [], None}
+use Rattle.syntax_trees.specs.declared.anchor.Ident.{Ident}
+use Rattle.syntax_trees.specs.declared.query.OrderedQuery.{OrderedQuery}
+use Rattle.statement_trees.specs.declared.definition.CreateTable.{CreateTable}
+use Rattle.statement_trees.specs.declared.definition.DropObject.{DropObject}
+use Rattle.statement_trees.specs.declared.writing.Call.{Call}
+use Rattle.statement_trees.specs.declared.writing.Delete.{Delete}
+use Rattle.statement_trees.specs.declared.writing.Insert.{Insert}
+use Rattle.statement_trees.specs.declared.writing.Update.{Update}
+use Rattle.bound_trees.specs.declared.statement.BoundStmt.TheVariants as stmt
+use Rattle.catalog_store.specs.Catalog.{Catalog}
+use Rattle.catalog_store.specs.declared.entry.Object.{Object as NewObject}
+use Rattle.catalog_store.specs.declared.entry.Object.TheVariants as new
+use Rattle.bind_faults.specs.Faults.{Noted, as_value}
+use Rattle.bind_sight.specs.Sight.{at_top}
+use Rattle.bind_queries.specs.Order.{judge_ordered}
+use Rattle.bind_queries.specs.Runs.{all_run}
+use Rattle.bind_changes.specs.Writing.{judged_insert, judged_update, judged_delete}
+use Rattle.bind_definitions.specs.Tables.{judged_table}
+use Rattle.bind_definitions.specs.Removals.{judged_drop}
+use Rattle.bind_simple.specs.Calls.{judged_call}
+use Rattle.bind_simple.specs.Places.{Surroundings}
+use Rattle.bind_direct.specs.declared.bound.Bound.{Bound}
+use Rattle.bind_direct.specs.declared.bound.BoundStatement.{BoundStatement}
+use Rattle.bind_direct.specs.declared.bound.Bound.TheVariants as bound
+
+-- ---- whether a statement is run
+
+-- a bound statement, and whether it is run
+abbrev pub with_runs : Bool → Bound → BoundStatement
+with_runs runs b = record { bound = b; runs = runs }
+
+-- a statement that is run
+abbrev pub run : {A : Type 0} → (A → Bound) → Noted A → Noted BoundStatement
+run make x = as_value (λ a. with_runs true (make a)) x
+
+-- a statement that is bound alone
+abbrev pub not_run : {A : Type 0} → (A → Bound) → Noted A → Noted BoundStatement
+not_run make x = as_value (λ a. with_runs false (make a)) x
+
+-- a query or a change is run where all functions that it calls have plans
+abbrev pub runs_over : {A : Type 0} → Catalog → Noted A → Bool
+runs_over catalog x = all_run catalog x.uses
+
+-- a statement that is run where all functions that it calls have plans
+abbrev pub run_over : {A : Type 0} → Catalog → (A → Bound) → Noted A → Noted BoundStatement
+run_over catalog make x = record {
+  value = with_runs (runs_over catalog x) (make x.value);
+  faults =
+      x.faults;
+  uses = x.uses;
+}
+
+-- a table or a function with a plan is made by what is run
+abbrev pub is_run : NewObject → Bool
+is_run (new.Table t) = true
+is_run (new.Function r) = true
+is_run (new.Interpreted f) = false
+is_run (new.Procedure p) = false
+
+-- ---- definitions
+
+-- a new entry of the catalog, under its name
+abbrev pub created : Ident → NewObject → BoundStatement
+created i o = with_runs (is_run o) (bound.Create i.name o)
+
+-- a direct CREATE TABLE
+abbrev pub direct_table : CreateTable → Catalog → Noted BoundStatement
+direct_table s catalog = as_value (created s.name) (judged_table s catalog)
+
+-- a direct DROP
+abbrev pub direct_drop : DropObject → Catalog → Noted BoundStatement
+direct_drop s catalog = run (λ name. bound.Drop name) (judged_drop s catalog)
+
+-- ---- queries and changes
+
+-- a direct query
+abbrev pub direct_query : OrderedQuery → Catalog → Noted BoundStatement
+direct_query q catalog = run_over catalog (λ b. bound.Query b) (judge_ordered q (at_top catalog))
+
+-- EXPLAIN, which is bound alone
+abbrev pub explained : OrderedQuery → Catalog → Noted BoundStatement
+explained q catalog = not_run (λ b. bound.Explain b) (judge_ordered q (at_top catalog))
+
+-- a direct INSERT
+abbrev pub direct_insert : Insert → Catalog → Noted BoundStatement
+direct_insert s catalog = run_over catalog (λ b. bound.Insert b.insert b.listed)
+    (judged_insert s (at_top catalog))
+
+-- a direct UPDATE
+abbrev pub direct_update : Update → Catalog → Noted BoundStatement
+direct_update s catalog = run_over catalog (λ b. bound.Update b) (judged_update s (at_top catalog))
+
+-- a direct DELETE
+abbrev pub direct_delete : Delete → Catalog → Noted BoundStatement
+direct_delete s catalog = run_over catalog (λ b. bound.Delete b) (judged_delete s (at_top catalog))
+
+-- ---- CALL
+
+-- outside of routines
+abbrev pub at_script : Catalog → Surroundings
+at_script catalog = record {
+  scopes = [];
+  labels = [];
+  returns = None;
+  own = None;
+  procedure = None;
+  catalog = catalog;
+}
+
+-- a direct CALL, which is bound alone
+abbrev pub direct_call : Call → Catalog → Noted BoundStatement
+direct_call s catalog = not_run (λ b. bound.Routine (stmt.Call b))
+    (judged_call true s (at_script catalog))

@@ -1,0 +1,11 @@
+use Rattle.std.proofs.Common.{◌≡◌, ◌++◌, [], drop}
+use Rattle.row_types.specs.OuterRows.{outer_rows}
+use Rattle.rel_algebra.specs.Plan.{list_rows}
+use Rattle.rel_algebra.specs.PlanView.{lists_of}
+use Rattle.plan_scalars.specs.Sights.{sight_of}
+use Rattle.plan_nodes.proofs.lists.listed.Given as goal
+
+abbrev pub invariant-loop-list : goal.invariant-loop-list
+invariant-loop-list l =
+    let s = sight_of [] (outer_rows l.outer) l.args in
+    l.rows ++ list_rows (lists_of (drop l.list-index l.lists)) s ≡ list_rows (lists_of l.lists) s

@@ -1,0 +1,7 @@
+pub mod Examples
+pub mod Fates
+pub mod Grouping
+pub mod Joins
+pub mod Passing
+pub mod Receiving
+pub mod Ways

@@ -1,7 +1,0 @@
-use Rattle.std.proofs.Common.{sym}
-use Rattle.plan_queries.proofs.Queries.{width_first}
-use Rattle.plan_queries.proofs.values.first_width.Goals as goal
-
-pub returns-in-Some : goal.returns-in-Some
-returns-in-Some c = λ k. sym (width_first k c.args.rows.now c.in-Some.row.now c.values_in.result.now
-    c.in-Some.ensures.value (c.values_in.ensures k))

@@ -1,0 +1,12 @@
+-- The plan that is made is the query's own.
+use Rattle.rel_algebra.specs.PlanView.{tree_of}
+use Rattle.catalog_store.specs.View.{query_of}
+use Rattle.catalog_store.specs.Widths.{width_in}
+use Rattle.psm_effects.proofs.Preparing.{own_plan}
+use Rattle.psm_effects.proofs.prepared.prepare_query.Goals as goal
+
+pub returns : goal.returns
+returns c =
+    let known = c.args.catalog.now in
+    own_plan (query_of known c.args.query.now) (width_in known) (tree_of c.in_ok-plan.plan)
+    c.requires.planned c.in_ok-plan.ensures

@@ -1,0 +1,19 @@
+//! Effects: what a statement whose names are resolved does to the catalog and the tables, and what
+//! it replies. Each is a function of its parts; no statement is read or bound here.
+#![tactic(auto)]
+
+mod budget;
+mod change;
+mod conclude;
+mod creation;
+mod drop;
+mod planned;
+mod prepared;
+mod run;
+mod world;
+
+pub use budget::DEFAULT_BUDGET;
+pub use creation::create;
+pub use drop::drop_object;
+pub use prepared::{Prepared, prepare_query, run_plan};
+pub use run::{run_delete, run_insert, run_query, run_update};

@@ -1,0 +1,5 @@
+pub mod Joins
+pub mod Groups
+pub mod GroupRows
+pub mod Listed
+pub mod Examples
