@@ -8,20 +8,12 @@ ghost use Rattle.bind_direct.specs.Direct as spec;
 
 use crate::bound::{Bound, BoundStatement};
 use bind_faults::{Fault, Notes};
-use bind_selects::{all_run, bind_ordered};
+use bind_selects::{Asked, all_run, bind_ordered};
 use bind_sight::Sight;
-use bound_trees::BoundQuery;
 use catalog_store::Catalog;
 use sql_values::NoMemory;
 use std::alloc::Global;
 use syntax_trees::OrderedQuery;
-
-// A bound query, and whether all functions that it calls have plans.
-#[derive(Drop)]
-struct Asked {
-    query: BoundQuery,
-    runs: bool,
-}
 
 // A query outside of which no name is in sight but those of the catalog.
 fn bind_asked(

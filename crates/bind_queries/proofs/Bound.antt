@@ -74,23 +74,34 @@ module _ (known : Known) where
   abbrev MS : List BoundExpr → Mark
   MS = marks known
 
-  -- a tree that uses nothing and has a plan
-  plain-covers : (e : BoundExpr) → uses_in e ≡ [] → planned_expr (tree_of known.catalog e) ≡ true →
-      Covers known [] (M e)
-  plain-covers e u p = covers-as known [] nothing (M e) (covers-nothing known)
-      (alike-same known nothing (M e) u (λ q. p))
+  -- a tree that uses nothing and has a plan in any case
+  alike-plain : (e : BoundExpr) → uses_in e ≡ [] → planned_expr (tree_of known.catalog e) ≡ true →
+      Alike known nothing (M e)
+  alike-plain e u p = alike-same known nothing (M e) u (λ q. p)
 
-  pub literal-covers : (v : Value) → Covers known [] (M (bound.Literal v))
-  literal-covers v = plain-covers (bound.Literal v) (uses_in-Literal v)
+  pub alike-literal : (v : Value) → Alike known nothing (M (bound.Literal v))
+  alike-literal v = alike-plain (bound.Literal v) (uses_in-Literal v)
       (ap planned_expr (tree_of-Literal known.catalog v))
 
-  pub column-covers : (level place : ℕ) → Covers known [] (M (bound.Column level place))
-  column-covers level place = plain-covers (bound.Column level place) (uses_in-Column level place)
+  pub alike-column : (level place : ℕ) → Alike known nothing (M (bound.Column level place))
+  alike-column level place = alike-plain (bound.Column level place) (uses_in-Column level place)
       (ap planned_expr (tree_of-Column known.catalog level place))
 
-  pub variable-covers : (place : ℕ) → Covers known [] (M (bound.Variable place))
-  variable-covers place = plain-covers (bound.Variable place) (uses_in-Variable place)
+  alike-variable : (place : ℕ) → Alike known nothing (M (bound.Variable place))
+  alike-variable place = alike-plain (bound.Variable place) (uses_in-Variable place)
       (ap planned_expr (tree_of-Variable known.catalog place))
+
+  covers-plain : (e : BoundExpr) → Alike known nothing (M e) → Covers known [] (M e)
+  covers-plain e p = covers-as known [] nothing (M e) (covers-nothing known) p
+
+  pub literal-covers : (v : Value) → Covers known [] (M (bound.Literal v))
+  literal-covers v = covers-plain (bound.Literal v) (alike-literal v)
+
+  pub column-covers : (level place : ℕ) → Covers known [] (M (bound.Column level place))
+  column-covers level place = covers-plain (bound.Column level place) (alike-column level place)
+
+  pub variable-covers : (place : ℕ) → Covers known [] (M (bound.Variable place))
+  variable-covers place = covers-plain (bound.Variable place) (alike-variable place)
 
   alike-word : (w : BoundOperation) (es : List BoundExpr) →
       Alike known (MS es) (M (bound.Operation w es))

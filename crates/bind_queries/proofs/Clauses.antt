@@ -1,4 +1,5 @@
--- Clauses of queries without faults: what is noted is what they use, and they have plans.
+-- Clauses of queries without faults: what is noted is what they use, and they have plans
+-- where each function that is used has one.
 use Rattle.std.proofs.Common.{◌≡◌, refl, sym, ap, ap₂, ◌∙◌, ◌-◌, false, List, [], ◌∷◌, ◌++◌}
 use Rattle.std.proofs.Common.{append_assoc, Option, Some, None}
 use Rattle.std.proofs.lemmas.List.{append-nil}

@@ -1,10 +1,9 @@
--- An expression without faults fits the catalog, a query without faults has a plan, and what they
--- use is there.
+-- Where all that they use may be run, an expression without faults fits the catalog, and a query
+-- without faults has a plan. What they use is there.
 use Rattle.std.proofs.Common.{◌≡◌, refl, sym, ap, ap₂, ◌∙◌, subst, arith, ℕ, ◌<◌, Bool, true, false}
-use Rattle.std.proofs.Common.{◌||◌, List, [], ◌∷◌, ◌++◌, map, length, Option, Some, None}
-use Rattle.std.proofs.Common.{if◌then◌else◌}
+use Rattle.std.proofs.Common.{◌||◌, List, [], ◌∷◌, ◌++◌, map, Option, Some, None}
 use Rattle.std.specs.Prelude.{is_some}
-use Rattle.std.proofs.lemmas.Bool.{and_parts, or_left, or_right}
+use Rattle.std.proofs.lemmas.Bool.{or_left, or_right}
 use Rattle.std.proofs.lemmas.List.{append-nil}
 use Rattle.std.proofs.lemmas.Slice.Eq.{bytes_eq-Decides}
 use Rattle.std.specs.Str.{bytes_eq}
@@ -23,14 +22,13 @@ use Rattle.row_types.specs.declared.sort_key.SortKey.{SortKey}
 use Rattle.bound_trees.specs.declared.expr.BoundExpr.{BoundExpr}
 use Rattle.bound_trees.specs.declared.query.BoundQuery.{BoundQuery}
 use Rattle.rel_algebra.specs.Plain.{planned, planned_expr, planned_all}
-use Rattle.catalog_store.specs.Catalog.{Function, Object, TableObject, FunctionObject}
-use Rattle.catalog_store.specs.Catalog.{InterpretedObject, ProcedureObject, Catalog, object_named}
+use Rattle.catalog_store.specs.Catalog.{Object, Catalog, object_named}
 use Rattle.catalog_store.specs.declared.entry.FunctionHead.{FunctionHead}
 use Rattle.catalog_store.specs.Planning.{AllPlanned}
 use Rattle.catalog_store.specs.Uses.{Use, calls, reads, Uses, joined, CallFits, AllFit, uses_in}
 use Rattle.catalog_store.specs.Uses.{uses_in_query, name_used, names_used, SameNames}
 use Rattle.catalog_store.specs.View.{tree_of, exprs_of}
-use Rattle.catalog_store.proofs.Laws.{query_of-Ordered}
+use Rattle.catalog_store.proofs.Laws.{query_of-Ordered, uses_in_query-Ordered}
 use Rattle.bind_faults.specs.Faults.{noted}
 use Rattle.bind_faults.proofs.Laws.{is_free}
 use Rattle.bind_kinds.specs.Conjuncts.{conjuncts_of}
@@ -38,73 +36,26 @@ use Rattle.bind_kinds.specs.declared.kind.Kind.{Kind}
 use Rattle.bind_sight.specs.declared.output.Hit.{Hit}
 use Rattle.bind_sight.specs.declared.output.Hit.TheVariants.{Nowhere, Once, Twice}
 use Rattle.bind_sight.specs.declared.output.Output.{Output}
-use Rattle.bind_sight.specs.declared.scope.EnclosingRoutine.{EnclosingRoutine}
 use Rattle.bind_sight.specs.Columns.{hits}
 use Rattle.bind_sight.specs.Sight.{Seen, may_stand}
 use Rattle.bind_parts.specs.Order.{place_at, one_key, ordered_by, keys_of, in_order_of}
 use Rattle.bind_parts.specs.Turns.{each_noted}
-use Rattle.bind_parts.specs.Typed.{no_parts, head_in, head_named, is_own, own_head, function_known}
+use Rattle.bind_parts.specs.Typed.{no_parts, head_in, is_own}
 use Rattle.bind_queries.specs.Binds.{HasPlan}
 use Rattle.bind_queries.specs.Heights.{height_of, height_named, greatest_height}
 use Rattle.bind_queries.specs.Names.{judge, inner}
 use Rattle.bind_queries.specs.Order.{judge_ordered, judge_ordered_typed}
 use Rattle.bind_queries.specs.Queries.{select_item, maybe, judge_parts, judge_query}
-use Rattle.bind_queries.specs.Runs.{is_run, all_run, Runs, IsNew}
+use Rattle.bind_queries.specs.Runs.{is_run, Runs, IsNew}
 use Rattle.bind_queries.proofs.Sets.{Names, has, front_nil}
+use Rattle.bind_queries.proofs.Runs.{not-own, in-catalog, with-a-plan, one-runs, runs-same}
+use Rattle.bind_queries.proofs.Runs.{runs-parts}
 use Rattle.bind_queries.proofs.Marks.{Known, known_in, Mark, Stands, AllStand, Covers, mark}
 use Rattle.bind_queries.proofs.Marks.{grown-alone}
 use Rattle.bind_queries.proofs.Bound.{query-mark}
 use Rattle.bind_queries.proofs.Conjuncts.{same, alike-conjuncts}
 use Rattle.bind_queries.proofs.Induction.{expr-fits, query-fits}
 use Rattle.bind_queries.proofs.Layers.{made-select}
-
--- ---- what a name in sight stands for in the catalog
-
-not-own : (known : Catalog) (own : Option EnclosingRoutine) (name : List ℕ) → IsNew known own →
-    is_run (object_named name known) ≡ true → is_own name own ≡ false
-not-own known None name new r = refl
-not-own known (Some o) name new r = by (bytes_eq o.name name) refl
-  where
-    none : is_run None ≡ true → ⊥
-    none p = cc
-
-    by : (b : Bool) → bytes_eq o.name name ≡ b → bytes_eq o.name name ≡ false
-    by true e =
-        absurd (none
-        (ap is_run (sym (subst (λ n. object_named n known ≡ None)
-        ((bytes_eq-Decides o.name name).0 e) new)) ∙ r))
-    by false e = e
-
-in-catalog : (known : Catalog) (own : Option EnclosingRoutine) (name : List ℕ) (h : FunctionHead) →
-    is_own name own ≡ false → function_known name own known ≡ Some h →
-    head_named name known ≡ Some h
-in-catalog known own name h n p = sym (ap (λ b. if b then own_head own else head_named name known)
-    n) ∙ p
-
-with-a-plan : (known : Catalog) (name : List ℕ) (h : FunctionHead) (o : Option Object) →
-    object_named name known ≡ o → head_in o ≡ Some h → is_run o ≡ true
-    → (f : Function) × (object_named name known ≡ Some (FunctionObject f)) ×
-    (length f.parameters ≡ length h.parameters)
-with-a-plan known name h None is p r = absurd cc
-with-a-plan known name h (Some (TableObject t)) is p r = absurd cc
-with-a-plan known name h (Some (FunctionObject f)) is p r =
-    let same : f.parameters ≡ h.parameters = cc in (f, is, ap (λ ps. length ps) same)
-with-a-plan known name h (Some (InterpretedObject f)) is p r = absurd cc
-with-a-plan known name h (Some (ProcedureObject q)) is p r = absurd cc
-
-one-runs : (known : Catalog) (xs : Names) (name : List ℕ) → Runs known xs → has name xs ≡ true →
-    is_run (object_named name known) ≡ true
-one-runs known [] name r h = absurd cc
-one-runs known (x ∷ xs) name r h =
-    let both = and_parts (is_run (object_named x known)) (all_run known xs) r in
-    by both.0 (bytes_eq x name) refl h (λ q. one-runs known xs name both.1 q)
-  where
-    by : is_run (object_named x known) ≡ true → (b : Bool) → bytes_eq x name ≡ b →
-        (b || has name xs) ≡ true → (has name xs ≡ true → is_run (object_named name known) ≡ true) →
-        is_run (object_named name known) ≡ true
-    by here true e q rest = subst (λ n. is_run (object_named n known) ≡ true)
-        ((bytes_eq-Decides x name).0 e) here
-    by here false e q rest = rest q
 
 -- ---- heights
 
@@ -209,13 +160,14 @@ module _ (known : Catalog) (all : AllPlanned known) (e : Expr) (s : Seen) (is : 
       (mark (around known s) x.value.value.tree) m
       (expr-fits (around known s) all e s no_parts (seen-around known s is) p)
 
-  -- Where no aggregate may stand, an expression without faults fits the catalog, if all that it
-  -- uses has a plan and the routine in whose body it stands is new there. It has a plan in any
-  -- case, and uses what was noted.
+  -- Where no aggregate may stand, an expression without faults fits the catalog and has a plan, if
+  -- all that it uses has a plan and the routine in whose body it stands is new there. It uses what
+  -- was noted.
   pub fitting : (IsNew known s.own → Runs known (judge e s).uses → (height : ℕ) →
       greatest_height known (judge e s).uses < height →
       AllFit known height (uses_in (judge e s).value.tree))
-      × (planned_expr (tree_of known (judge e s).value.tree) ≡ true)
+      × (IsNew known s.own → Runs known (judge e s).uses →
+      planned_expr (tree_of known (judge e s).value.tree) ≡ true)
       × SameNames (judge e s).uses (names_used (uses_in (judge e s).value.tree))
   fitting =
       let c = expr-covers in (
@@ -225,7 +177,10 @@ module _ (known : Catalog) (all : AllPlanned known) (e : Expr) (s : Seen) (is : 
               one-runs
                   known (judge e s).uses name r (c.2 name ∙ h),
             )),
-        c.1,
+        λ new r. c.1 (
+          new,
+          runs-same known (judge e s).uses (names_used (uses_in (judge e s).value.tree)) c.2 r,
+        ),
         c.2,
       )
 
@@ -244,8 +199,13 @@ module _ (known : Catalog) (all : AllPlanned known) (targets : List Kind) (q : Q
       (query-mark (around known s) (judge_query targets q s).value.tree)
   query-covers = query-fits (around known s) all q targets s (seen-around known s is) p
 
-  pub query_planned : HasPlan known (judge_query targets q s).value.tree
-  query_planned = query-covers.1
+  -- a query has a plan where all that it uses does and the routine in whose body it stands is new
+  pub query_planned : IsNew known s.own → Runs known (judge_query targets q s).uses →
+      HasPlan known (judge_query targets q s).value.tree
+  query_planned new r =
+      let c = query-covers in
+      let x = judge_query targets q s in
+      c.1 (new, runs-same known x.uses (names_used (uses_in_query x.value.tree)) c.2 r)
 
   -- a query fits the catalog as an expression does
   pub query_fitting : (IsNew known s.own → Runs known (judge_query targets q s).uses →
@@ -277,6 +237,11 @@ in-order-planned : (known : Catalog) (q : BoundQuery) (keys : List SortKey) → 
 in-order-planned known q [] p = p
 in-order-planned known q (k ∷ ks) p = ap planned (query_of-Ordered known q (k ∷ ks)) ∙ p
 
+in-order-uses : (q : BoundQuery) (keys : List SortKey) →
+    uses_in_query (in_order_of q keys) ≡ uses_in_query q
+in-order-uses q [] = refl
+in-order-uses q (k ∷ ks) = uses_in_query-Ordered q (k ∷ ks)
+
 -- the uses of ORDER BY's columns are none
 no-uses : (columns : List Output) (so : List SortKey) (order : List SortSpecification) →
     (each_noted (one_key columns) so order).uses ≡ []
@@ -295,29 +260,45 @@ module _ (known : Catalog) (all : AllPlanned known) (q : OrderedQuery) (s : Seen
   inside-free = front_nil (judge_query [] q.query s).faults
       (ordered_by q.order (judge_query [] q.query s).value).faults p
 
-  pub ordered_typed_planned : HasPlan known (judge_ordered_typed q s).value.tree
-  ordered_typed_planned =
+  pub ordered_typed_planned : IsNew known s.own → Runs known (judge_ordered_typed q s).uses →
+      HasPlan known (judge_ordered_typed q s).value.tree
+  ordered_typed_planned new r =
       let query = judge_query [] q.query s in
-      in-order-planned known query.value.tree (keys_of query.value.columns q.order).value
-      (query_planned known all [] q.query s is inside-free)
+      let keys = keys_of query.value.columns q.order in
+      in-order-planned known query.value.tree keys.value
+      (query_planned known all [] q.query s is inside-free new
+      (runs-parts known query.uses keys.uses r).0)
+
+  uses-inside : (judge_ordered_typed q s).uses ≡ (judge_query [] q.query s).uses
+  uses-inside =
+      let query = judge_query [] q.query s in
+      ap (λ (us : Names). query.uses ++ us) (no-uses query.value.columns [] q.order) ∙
+      append-nil query.uses
+
+  -- it uses what was noted
+  pub ordered_names : SameNames (judge_ordered_typed q s).uses
+      (names_used (uses_in_query (judge_ordered_typed q s).value.tree))
+  ordered_names name =
+      let query = judge_query [] q.query s in
+      ap (has name) uses-inside ∙ (query_fitting known all [] q.query s is inside-free).1 name ∙
+      ap (λ us. has name (names_used us))
+      (sym (in-order-uses query.value.tree (keys_of query.value.columns q.order).value))
 
   pub ordered_used : (name : List ℕ) → has name (judge_ordered_typed q s).uses ≡ true →
       is_own name s.own ≡ false → is_some (object_named name known) ≡ true
   ordered_used name h n =
-      let query = judge_query [] q.query s in
-      let same : (judge_ordered_typed q s).uses ≡ query.uses = ap (λ (us : Names). query.uses ++ us)
-      (no-uses query.value.columns [] q.order) ∙ append-nil query.uses in
-      query_used known all [] q.query s is inside-free name (sym (ap (has name) same) ∙ h) n
+      query_used known all [] q.query s is inside-free name (sym (ap (has name) uses-inside) ∙ h) n
 
 pub ordered_planned : (known : Catalog) → AllPlanned known → (q : OrderedQuery) (s : Seen) →
-    s.catalog ≡ known → (judge_ordered q s).faults ≡ [] → HasPlan known (judge_ordered q s).value
-ordered_planned known all q s is p = ordered_typed_planned known all q s is p
+    s.catalog ≡ known → (judge_ordered q s).faults ≡ [] → IsNew known s.own →
+    Runs known (judge_ordered q s).uses → HasPlan known (judge_ordered q s).value
+ordered_planned known all q s is p new r = ordered_typed_planned known all q s is p new r
 
 pub bound_planned : (known : Catalog) (q : Query) (s : Seen) (b : BoundQuery) → s.catalog ≡ known →
     b ≡ (judge_query [] q s).value.tree → noted None (judge_query [] q s).faults ≡ None →
-    AllPlanned known → HasPlan known b
-bound_planned known q s b is same p all = subst (HasPlan known) (sym same)
-    (query_planned known all [] q s is (is_free (judge_query [] q s).faults p))
+    AllPlanned known → IsNew known s.own → Runs known (judge_query [] q s).uses → HasPlan known b
+bound_planned known q s b is same p all new r = subst (HasPlan known) (sym same)
+    (query_planned known all [] q s is (is_free (judge_query [] q s).faults p) new r)
 
 -- ---- the parts of a SELECT, which are judged as a query of these parts
 

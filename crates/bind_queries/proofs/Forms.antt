@@ -1,8 +1,9 @@
 -- Expressions without faults, of each form: what is noted is what the bound tree uses, and it has a
--- plan.
+-- plan where each function that is used has one.
 use Rattle.std.proofs.Common.{◌≡◌, refl, sym, ap, ◌∙◌, arith, ℕ, suc, Bool, true, false, not, ◌&&◌}
 use Rattle.std.proofs.Common.{◌==◌, nat_lt, List, [], ◌∷◌, ◌++◌, map, length, Option, Some, None}
 use Rattle.std.specs.Prelude.{nat_le}
+use Rattle.std.proofs.lemmas.Bool.{and_parts}
 use Rattle.std.proofs.lemmas.List.{length-map}
 use Rattle.std.proofs.lemmas.Bool.Decides.{nat_tests}
 use Rattle.sql_values.specs.declared.fold.FoldKind.{FoldKind}
@@ -13,6 +14,7 @@ use Rattle.syntax_trees.specs.declared.anchor.Ident.{Ident}
 use Rattle.syntax_trees.specs.declared.expr.Operation.{Operation}
 use Rattle.bound_trees.specs.declared.expr.BoundExpr.{BoundExpr}
 use Rattle.bound_trees.specs.declared.expr.BoundExpr.TheVariants as bound
+use Rattle.catalog_store.specs.Catalog.{object_named}
 use Rattle.catalog_store.specs.Planning.{AllPlanned}
 use Rattle.catalog_store.specs.Uses.{uses_in}
 use Rattle.catalog_store.specs.declared.entry.FunctionHead.{FunctionHead}
@@ -33,12 +35,15 @@ use Rattle.bind_queries.specs.Judges.{Expression, JudgedLink, QueryJudge, Judge,
 use Rattle.bind_queries.specs.Judges.{operators, places, operands, called, judge_call}
 use Rattle.bind_queries.specs.Judges.{judge_operation, judge_aggregate, judge_chain, judge_single}
 use Rattle.bind_queries.specs.Judges.{judge_exists, judge_member}
+use Rattle.bind_queries.specs.Runs.{is_run}
 use Rattle.bind_queries.proofs.Sets.{front_nil, back_nil, no_fault, equal}
+use Rattle.bind_queries.proofs.Runs.{planned-call}
 use Rattle.bind_queries.proofs.Marks.{Known, known_in, Mark, ◌⊕◌, Covers, covers-as, covers-nothing}
 use Rattle.bind_queries.proofs.Marks.{Grows, grows-nothing, grows-as, grows-then, grown-alone}
 use Rattle.bind_queries.proofs.Marks.{right-nothing, marks-one, mark, marks, Alike, alike-is}
 use Rattle.bind_queries.proofs.Marks.{alike-then, alike-both, alike-self}
 use Rattle.bind_queries.proofs.Bound.{literal-covers, column-covers, variable-covers}
+use Rattle.bind_queries.proofs.Bound.{alike-literal, alike-column}
 use Rattle.bind_queries.proofs.Bound.{alike-operation, alike-chain, call-mark, alike-call}
 use Rattle.bind_queries.proofs.Bound.{query-mark, alike-single, alike-exists, alike-member}
 
@@ -127,7 +132,12 @@ module _ (known : Known) (planned : AllPlanned known.catalog) where
   call-covers : (name : List ℕ) (h : FunctionHead) (arguments : ℕ) →
       function_known name known.own known.catalog ≡ Some h → arguments ≡ length h.parameters →
       Covers known (name ∷ []) (call-mark known name arguments)
-  call-covers name h arguments p n = (((h, p, sym n), tt), planned name, λ other. refl)
+  call-covers name h arguments p n = (
+    ((h, p, sym n), tt),
+    λ may. planned-call known.catalog known.own name h planned may.0 p
+        (and_parts (is_run (object_named name known.catalog)) true may.1).0,
+    λ other. refl,
+  )
 
   called-fits : (i : Ident) (es : List Expression) (s : Seen) (p : Parts) (f : Option FunctionHead)
       → AllFitting es → known_in s ≡ known → function_in_sight i.name s ≡ f
@@ -196,10 +206,9 @@ module _ (known : Known) (planned : AllPlanned known.catalog) where
       of-trees : (es : List BoundExpr) → nat_lt 1 (length es) ≡ false →
           Alike known (marks known es) (marks known (argument_of es ∷ []))
       of-trees [] q =
-          let c = literal-covers known (Truth true) in
           alike-then known (marks known []) (mark known (bound.Literal (Truth true)))
-          (marks known (bound.Literal (Truth true) ∷ []))
-          ((λ x. c.0), (λ x. c.1), c.2) (alike-is known (mark known (bound.Literal (Truth true)))
+          (marks known (bound.Literal (Truth true) ∷ [])) (alike-literal known (Truth true))
+          (alike-is known (mark known (bound.Literal (Truth true)))
           (marks known (bound.Literal (Truth true) ∷ []))
           (marks-one known (bound.Literal (Truth true))))
       of-trees (e ∷ []) q = alike-self known (marks known (e ∷ []))
@@ -224,8 +233,7 @@ module _ (known : Known) (planned : AllPlanned known.catalog) where
       let may = no_fault (not (may_stand s.levels)) NotPermitted at
       (front_nil bar (so.faults ++ (asked ++ many)) e) in
       let argument = argument_of so.value.value.trees in
-      let column = bound.Column 0 (length p.trees) in
-      let c = column-covers known 0 (length p.trees) in (
+      let column = bound.Column 0 (length p.trees) in (
         argument ∷ [],
         refl,
         covers-as known so.uses (marks known so.value.value.trees)
@@ -233,7 +241,8 @@ module _ (known : Known) (planned : AllPlanned known.catalog) where
             (alike-then known (marks known so.value.value.trees) (marks known (argument ∷ []))
             (marks known (argument ∷ []) ⊕ mark known column)
             (alike-argument so.value.value (as-many inner no_parts es) one)
-            (with-nothing (marks known (argument ∷ [])) (mark known column) c)),
+            (with-nothing (marks known (argument ∷ [])) (mark known column)
+            (alike-column known 0 (length p.trees)))),
         λ m. absurd (barred (may_stand s.levels) m may),
       )
     where
@@ -241,12 +250,11 @@ module _ (known : Known) (planned : AllPlanned known.catalog) where
       barred true m n = cc
       barred false m n = cc
 
-      with-nothing : (a b : Mark) → Covers known [] b → Alike known a (a ⊕ b)
-      with-nothing a b c =
+      with-nothing : (a b : Mark) → Alike known (marks known []) b → Alike known a (a ⊕ b)
+      with-nothing a b same =
           alike-then known a (a ⊕ marks known []) (a ⊕ b)
           (alike-is known a (a ⊕ marks known []) (right-nothing known a))
-          (alike-both known a a (marks known []) b (alike-self known a)
-          ((λ x. c.0), (λ x. c.1), c.2))
+          (alike-both known a a (marks known []) b (alike-self known a) same)
 
   -- ---- subqueries
 

@@ -1,4 +1,5 @@
--- The items of FROM without faults: what is noted is what they use, and they have plans.
+-- The items of FROM without faults: what is noted is what they use, and they have plans
+-- where each function that is used has one.
 use Rattle.std.proofs.Common.{◌≡◌, refl, sym, ap, ap₂, ◌∙◌, ℕ, Bool, true, ◌&&◌, List, [], ◌∷◌}
 use Rattle.std.proofs.Common.{◌++◌, append_assoc, map, Option, Some, None}
 use Rattle.std.proofs.lemmas.Bool.{and_parts, and_from}
@@ -170,7 +171,7 @@ module _ (known : Known) (planned : AllPlanned known.catalog) where
           },
           tt,
         ),
-        refl,
+        λ may. refl,
         λ name. refl,
       )
       (alike-same known read (source-mark (source.Table i.name)) (uses_in_source-Table i.name)

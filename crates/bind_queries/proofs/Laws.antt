@@ -1,7 +1,10 @@
 -- The laws on which upper crates stand.
 pub use Rattle.bind_queries.proofs.Sets.{has, front_nil, back_nil, no_fault}
+pub use Rattle.bind_queries.proofs.Runs.{in-catalog, runs-by-name, runs-same, runs-both}
+pub use Rattle.bind_queries.proofs.Runs.{runs-parts}
 pub use Rattle.bind_queries.proofs.Fits.{fitting, expr_used, query_planned, query_fitting}
 pub use Rattle.bind_queries.proofs.Fits.{query_used, ordered_planned, ordered_typed_planned}
+pub use Rattle.bind_queries.proofs.Fits.{ordered_names}
 pub use Rattle.bind_queries.proofs.Fits.{ordered_used, select_of, parts_as_query, conjuncts_planned}
 pub use Rattle.bind_queries.proofs.Fits.{conjuncts_uses, bound_planned}
 pub use Rattle.bind_queries.proofs.Rows.{plain, plains, expr_plain, exprs_plain, plain_query}

@@ -1,6 +1,7 @@
 pub mod Steps
 pub mod Layers
 pub mod Sets
+pub mod Runs
 pub mod Marks
 pub mod Bound
 pub mod Conjuncts

@@ -1,5 +1,5 @@
--- What bound trees use, and whether they have plans, added up over the parts of a statement, and
--- beside it the names that were noted.
+-- What bound trees use, and whether they have plans where all that they use may be run, added up
+-- over the parts of a statement, and beside it the names that were noted.
 use Rattle.std.proofs.Common.{◌≡◌, refl, sym, ap, ap₂, ◌∙◌, subst, Bool, true, ◌&&◌, false, List}
 use Rattle.std.proofs.Common.{[], ◌∷◌, ◌++◌, append_assoc, map, length, Option, Some}
 use Rattle.std.proofs.lemmas.Bool.{and_parts, and_from}
@@ -17,6 +17,8 @@ use Rattle.bind_parts.specs.declared.aggregates.Parts.{Parts}
 use Rattle.bind_parts.specs.Typed.{function_known}
 use Rattle.bind_queries.proofs.Sets.{Names, same-names, same-then, same-append, same-swap}
 use Rattle.bind_queries.proofs.Sets.{same-between}
+use Rattle.bind_queries.proofs.Runs.{runs-same, runs-parts}
+use Rattle.bind_queries.specs.Runs.{Runs, IsNew}
 
 -- what is used, and whether all of it has a plan
 pub record Mark : Type 0 where
@@ -66,9 +68,14 @@ module _ (known : Known) where
   stand-back [] vs p = p
   stand-back (u ∷ us) vs p = stand-back us vs p.1
 
-  -- the names are those of the uses, which stand, and all has a plan
+  -- the routine that is made is new, and a plan may use what each of these names stands for
+  abbrev pub MayRun : Names → Type 0
+  MayRun u = IsNew known.catalog known.own × Runs known.catalog u
+
+  -- the names are those of the uses, which stand, and all has a plan where each function that is
+  -- used has one
   abbrev pub Covers : Names → Mark → Type 0
-  Covers u m = AllStand m.uses × (m.planned ≡ true) × SameNames u (names m)
+  Covers u m = AllStand m.uses × (MayRun (names m) → m.planned ≡ true) × SameNames u (names m)
 
   -- the second covers what the first does
   abbrev pub Alike : Mark → Mark → Type 0
@@ -76,10 +83,17 @@ module _ (known : Known) where
       SameNames (names a) (names b)
 
   pub covers-as : (u : Names) (a b : Mark) → Covers u a → Alike a b → Covers u b
-  covers-as u a b p q = (q.0 p.0, q.1 p.1, same-then u (names a) (names b) p.2 q.2)
+  covers-as u a b p q = (
+    q.0 p.0,
+    λ may. q.1 (p.1 (
+      may.0,
+      runs-same known.catalog (names b) (names a) (λ name. sym (q.2 name)) may.1,
+    )),
+    same-then u (names a) (names b) p.2 q.2,
+  )
 
   pub covers-nothing : Covers [] nothing
-  covers-nothing = (tt, refl, λ name. refl)
+  covers-nothing = (tt, λ may. refl, λ name. refl)
 
   names-both : (a b : Mark) → names (a ⊕ b) ≡ names a ++ names b
   names-both a b = map-append name_used a.uses b.uses
@@ -87,7 +101,10 @@ module _ (known : Known) where
   pub covers-both : (u v : Names) (a b : Mark) → Covers u a → Covers v b → Covers (u ++ v) (a ⊕ b)
   covers-both u v a b p q = (
     stand-append a.uses b.uses p.0 q.0,
-    and_from a.planned b.planned p.1 q.1,
+    λ may.
+        let both = runs-parts known.catalog (names a) (names b)
+        (subst (Runs known.catalog) (names-both a b) may.1) in
+        and_from a.planned b.planned (p.1 (may.0, both.0)) (q.1 (may.0, both.1)),
     same-then (u ++ v) (names a ++ names b) (names (a ⊕ b))
         (same-append u (names a) v (names b) p.2 q.2) (same-names _ _ (sym (names-both a b))),
   )

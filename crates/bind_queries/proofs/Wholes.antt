@@ -1,4 +1,5 @@
--- VALUES and SELECT without faults: what is noted is what they use, and they have plans.
+-- VALUES and SELECT without faults: what is noted is what they use, and they have plans
+-- where each function that is used has one.
 use Rattle.std.proofs.Common.{◌≡◌, refl, sym, ap, ap₂, ◌∙◌, subst, arith, ℕ, suc, Bool, true, false}
 use Rattle.std.proofs.Common.{not, ◌||◌, ◌&&◌, nat_eq, ◌==◌, List, [], ◌∷◌, ◌++◌, append_assoc, map}
 use Rattle.std.proofs.Common.{length, Option, Some, None}

@@ -6,6 +6,6 @@ mod order;
 mod runs;
 mod select_parts;
 
-pub use order::{bind_ordered, bind_ordered_typed, bind_query};
+pub use order::{Asked, bind_ordered, bind_ordered_typed, bind_query};
 pub use runs::all_run;
 pub use select_parts::{SelectParts, bind_select_parts};

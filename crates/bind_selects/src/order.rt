@@ -1,12 +1,15 @@
 //! ORDER BY (ISO/IEC 9075-2, 10.10 and 14.3), and the public call for a query.
 
-ghost use Rattle.std.specs.Prelude.{◌≡◌, [], IfOk, OnOk};
-ghost use Rattle.bind_faults.specs.Faults.{as_value, noted, taken};
+ghost use Rattle.std.specs.Prelude.{◌≡◌, true, [], IfOk, OnOk};
+ghost use Rattle.bind_faults.specs.Faults.{noted, taken};
 ghost use Rattle.bind_sight.specs.Sight.{seen_by, over_catalog};
 ghost use Rattle.bind_queries.specs.Binds.{Binds, HasPlan};
 ghost use Rattle.bind_queries.specs.Order as spec;
 ghost use Rattle.bind_queries.specs.Queries.{judge_query};
+ghost use Rattle.bind_queries.specs.Runs.{IsNew};
+ghost use Rattle.bind_selects.specs.Asked.{asked};
 
+use crate::runs::all_run;
 use bind_faults::{Fault, Notes};
 use bind_parts::{NameFault, TypedQuery, ordered_by};
 use bind_queries::bind_typed;
@@ -47,6 +50,13 @@ pub fn bind_ordered(
     Ok(query.tree)
 }
 
+/// A bound query, and whether it can be run: whether all functions that it calls have plans.
+#[derive(Drop)]
+pub struct Asked {
+    pub query: BoundQuery,
+    pub runs: bool,
+}
+
 // A query, and the least fault in it.
 fn bind_top(
     alloc: Global,
@@ -54,10 +64,10 @@ fn bind_top(
     sight: &Sight<'_>,
     catalog: &Catalog,
     least: &mut Option<Fault>,
-) -> Result<BoundQuery, NoMemory>
+) -> Result<Asked, NoMemory>
     ensures value { IfOk result
-        (λ q. q ≡
-        (judge_query [] query.now (over_catalog catalog.now (seen_by sight.now))).value.tree) }
+        (λ a. a ≡ (asked catalog.now
+        (judge_query [] query.now (over_catalog catalog.now (seen_by sight.now)))).value) }
     ensures faults { OnOk result (least.new ≡ noted least.old
         (judge_query [] query.now (over_catalog catalog.now (seen_by sight.now))).faults) }
 {
@@ -71,22 +81,27 @@ fn bind_top(
     let mut notes = Notes::after(alloc, *least);
     let bound = bind_typed(alloc, query, &[], &sight, &mut notes)?;
     *least = notes.least;
-    Ok(bound.tree)
+    let runs = all_run(notes.uses.as_slice(), catalog);
+    Ok(Asked {
+        query: bound.tree,
+        runs,
+    })
 }
 
-/// A query with its names resolved, by what is in sight outside of it and the catalog. Fault:
-/// exactly where it has a fault, and then the least, by place and then kind. What is bound has a
-/// plan.
+/// A query with its names resolved, by what is in sight outside of it and the catalog, and whether
+/// it can be run. Fault: exactly where it has a fault, and then the least, by place and then kind.
+/// What can be run has a plan, where the routine in whose body it stands, if any, is new.
 #[tactic(auto, using(bind_faults::proofs::Laws::is_free))]
 pub fn bind_query(
     alloc: Global,
     query: &Query,
     sight: &Sight<'_>,
     catalog: &Catalog,
-) -> Result<BoundQuery, NameFault>
-    ensures binds { Binds (as_value (λ q. q.tree)
+) -> Result<Asked, NameFault>
+    ensures binds { Binds (asked catalog.now
         (judge_query [] query.now (over_catalog catalog.now (seen_by sight.now)))) result }
-    ensures fits { IfOk result (HasPlan catalog.now) }
+    ensures fits { IfOk result (λ a. IsNew catalog.now (seen_by sight.now).own → a.runs ≡ true →
+        HasPlan catalog.now a.query) }
 {
     let _entries = catalog.len();
     let mut least = None;

@@ -6,6 +6,7 @@ use Rattle.std.proofs.lemmas.Bool.Decides.{nat_tests}
 use Rattle.syntax_trees.specs.declared.anchor.Ident.{Ident}
 use Rattle.statement_trees.specs.declared.definition.CreateTable.{CreateTable}
 use Rattle.syntax_trees.specs.declared.expr.Expr.{Expr}
+use Rattle.syntax_trees.specs.declared.query.OrderedQuery.{OrderedQuery}
 use Rattle.statement_trees.specs.declared.statement.CreateFunction.{out-CreateFunction}
 use Rattle.statement_trees.specs.declared.statement.CreateProcedure.{out-CreateProcedure}
 use Rattle.statement_trees.specs.declared.definition.DropObject.{DropObject}
@@ -21,7 +22,7 @@ use Rattle.catalog_store.specs.Catalog.{Object, Catalog, object_named}
 use Rattle.catalog_store.specs.Entries.{ObjectFits}
 use Rattle.catalog_store.specs.Planning.{AllPlanned}
 use Rattle.catalog_store.specs.Users.{users_of}
-use Rattle.catalog_store.specs.Uses.{UsesStand}
+use Rattle.catalog_store.specs.Uses.{UsesStand, names_used, uses_in_query}
 use Rattle.bind_faults.specs.Faults.{noted}
 use Rattle.bind_faults.specs.declared.fault.FaultKind.TheVariants.{DuplicateName, NotPermitted}
 use Rattle.bind_faults.specs.declared.fault.FaultKind.TheVariants.{TooHigh}
@@ -33,18 +34,20 @@ use Rattle.bind_queries.specs.Binds.{HasPlan}
 use Rattle.bind_queries.specs.Heights.{greatest_height}
 use Rattle.bind_queries.specs.Names.{judge}
 use Rattle.bind_queries.specs.Queries.{judge_query}
-use Rattle.bind_queries.specs.Runs.{all_run}
+use Rattle.bind_queries.specs.Order.{judge_ordered, judge_ordered_typed}
+use Rattle.bind_queries.specs.Runs.{all_run, Runs}
 use Rattle.bind_queries.proofs.Laws.{front_nil, back_nil, no_fault, fitting, query_planned}
-use Rattle.bind_queries.proofs.Laws.{ordered_planned}
+use Rattle.bind_queries.proofs.Laws.{ordered_planned, ordered_names, runs-same, runs-parts}
 use Rattle.bind_rules.specs.Names.{taken_name}
-use Rattle.bind_changes.specs.Writing.{target_named, kinds_into, into_faults, wrong_width}
+use Rattle.bind_changes.specs.Writing.{target_named, uses_of, kinds_into, into_faults}
+use Rattle.bind_changes.specs.Writing.{wrong_width}
 use Rattle.bind_changes.specs.Writing.{judged_insert, opened, in_row, judged_values, judged_where}
 use Rattle.bind_changes.specs.Writing.{target_faults, assigned, judged_update, judged_delete}
 use Rattle.bind_simple.specs.Places.{seen_from}
 use Rattle.bind_direct.specs.declared.bound.BoundStatement.{BoundStatement}
 use Rattle.bind_direct.specs.declared.bound.Bound.TheVariants as bound
 use Rattle.bind_rules.specs.declared.heights.TheConstants.{MOST_HEIGHT}
-use Rattle.bind_statements.specs.Binds.{FaultlessFits, StatementFits}
+use Rattle.bind_statements.specs.Binds.{FaultlessFits, StatementFits, MeetsRows}
 use Rattle.bind_definitions.specs.Characteristics.{group_faults, null_call_faults, need_of}
 use Rattle.bind_rules.specs.Definitions.{Definition, ProcedureDefinition}
 use Rattle.bind_direct.specs.Returning.{in_function, judged_returning}
@@ -130,7 +133,7 @@ returning-fits s result catalog all p =
           (λ runs. record {
             all = covers.0 new runs (height_above called) (low_enough called low);
             uses = covers.2;
-            planned = covers.1;
+            planned = covers.1 new runs;
           }),
     )
 
@@ -191,19 +194,22 @@ drop-fits s catalog p =
 
 insert-fits : (s : Insert) (catalog : Catalog) → AllPlanned catalog →
     (judged_insert s (at_top catalog)).faults ≡ []
-    → HasPlan catalog (judged_insert s (at_top catalog)).value.insert.source
-insert-fits s catalog all p =
+    → Runs catalog (judged_insert s (at_top catalog)).uses →
+    HasPlan catalog (judged_insert s (at_top catalog)).value.insert.source
+insert-fits s catalog all p runs =
     let to = target_named s.table.name catalog in
     let seen = inside_writing (at_top catalog) in
     let source = judge_query (kinds_into to s.columns) s.source seen in
     let width = wrong_width to s.columns source.value in
     query_planned catalog all (kinds_into to s.columns) s.source seen refl
-    (front_nil source.faults width (back_nil (into_faults s to) (source.faults ++ width) p))
+    (front_nil source.faults width (back_nil (into_faults s to) (source.faults ++ width) p)) tt
+    (runs-parts catalog (uses_of s.table to).uses source.uses runs).1
 
 update-fits : (s : Update) (catalog : Catalog) → AllPlanned catalog →
     (judged_update s (at_top catalog)).faults ≡ []
-    → StatementFits catalog (bound.Update (judged_update s (at_top catalog)).value)
-update-fits s catalog all p =
+    → Runs catalog (judged_update s (at_top catalog)).uses →
+    MeetsRows catalog s.table.name (judged_update s (at_top catalog)).value.rows
+update-fits s catalog all p runs =
     let to = target_named s.table.name catalog in
     let outer = inside_writing (at_top catalog) in
     let row = opened s.table outer in
@@ -213,39 +219,52 @@ update-fits s catalog all p =
     let rows = values.faults ++ conjuncts.faults in
     let asked = back_nil (target_faults to (assigned s)) rows
     (back_nil row.faults (target_faults to (assigned s) ++ rows) p) in
+    let inside = (runs-parts catalog row.uses (values.uses ++ conjuncts.uses) runs).1 in
+    let both = runs-parts catalog values.uses conjuncts.uses inside in
     rows-met catalog s.table.name values.value conjuncts.value
-    (values-planned catalog all seen refl refl s.table.name [] s.assignments refl
-    (front_nil values.faults conjuncts.faults asked))
-    (where-planned catalog all seen refl refl s.filter
-    (back_nil values.faults conjuncts.faults asked))
+    (values-planned catalog all seen refl refl tt s.table.name [] s.assignments refl
+    (front_nil values.faults conjuncts.faults asked) both.0)
+    (where-planned catalog all seen refl refl tt s.filter
+    (back_nil values.faults conjuncts.faults asked) both.1)
 
 delete-fits : (s : Delete) (catalog : Catalog) → AllPlanned catalog →
     (judged_delete s (at_top catalog)).faults ≡ []
-    → StatementFits catalog (bound.Delete (judged_delete s (at_top catalog)).value)
-delete-fits s catalog all p =
+    → Runs catalog (judged_delete s (at_top catalog)).uses →
+    MeetsRows catalog s.table.name (judged_delete s (at_top catalog)).value.rows
+delete-fits s catalog all p runs =
     let outer = inside_writing (at_top catalog) in
     let row = opened s.table outer in
     let seen = in_row outer row.value in
     let conjuncts = judged_where s.filter seen in
     rows-met catalog s.table.name [] conjuncts.value refl
-    (where-planned catalog all seen refl refl s.filter (back_nil row.faults conjuncts.faults p))
+    (where-planned catalog all seen refl refl tt s.filter (back_nil row.faults conjuncts.faults p)
+    (runs-parts catalog row.uses conjuncts.uses runs).1)
+
+explain-fits : (q : OrderedQuery) (catalog : Catalog) → AllPlanned catalog →
+    (judge_ordered q (at_top catalog)).faults ≡ []
+    → Runs catalog (names_used (uses_in_query (judge_ordered q (at_top catalog)).value)) →
+    HasPlan catalog (judge_ordered q (at_top catalog)).value
+explain-fits q catalog all p runs =
+    let x = judge_ordered_typed q (at_top catalog) in
+    ordered_planned catalog all q (at_top catalog) refl p tt
+    (runs-same catalog (names_used (uses_in_query x.value.tree)) x.uses
+    (λ name. sym (ordered_names catalog all q (at_top catalog) refl p name)) runs)
 
 form-fits : (y : Form) (whole : Stmt) (catalog : Catalog) → AllPlanned catalog →
     (judged_form y whole catalog).faults ≡ []
-    → StatementFits catalog (judged_form y whole catalog).value.bound
+    → StatementFits catalog (judged_form y whole catalog).value
 form-fits (Stmt-F.CreateTable s) whole catalog all p = table-fits s catalog p
 form-fits (Stmt-F.CreateFunction s) whole catalog all p =
     definition-fits (out-CreateFunction s) (result_of (out-CreateFunction s)) catalog all p
 form-fits (Stmt-F.CreateProcedure s) whole catalog all p =
     procedure-fits (out-CreateProcedure s) catalog p
 form-fits (Stmt-F.Drop s) whole catalog all p = drop-fits s catalog p
-form-fits (Stmt-F.Insert s) whole catalog all p = insert-fits s catalog all p
-form-fits (Stmt-F.Update s) whole catalog all p = update-fits s catalog all p
-form-fits (Stmt-F.Delete s) whole catalog all p = delete-fits s catalog all p
-form-fits (Stmt-F.Query q) whole catalog all p =
-    ordered_planned catalog all q (at_top catalog) refl p
-form-fits (Stmt-F.Explain anchor q) whole catalog all p =
-    ordered_planned catalog all q (at_top catalog) refl p
+form-fits (Stmt-F.Insert s) whole catalog all p = λ runs. insert-fits s catalog all p runs
+form-fits (Stmt-F.Update s) whole catalog all p = λ runs. update-fits s catalog all p runs
+form-fits (Stmt-F.Delete s) whole catalog all p = λ runs. delete-fits s catalog all p runs
+form-fits (Stmt-F.Query q) whole catalog all p = λ runs.
+    ordered_planned catalog all q (at_top catalog) refl p tt runs
+form-fits (Stmt-F.Explain anchor q) whole catalog all p = λ runs. explain-fits q catalog all p runs
 form-fits (Stmt-F.Call s) whole catalog all p = tt
 form-fits (Stmt-F.Labelled s) whole catalog all p = tt
 form-fits (Stmt-F.If s) whole catalog all p = tt
@@ -268,6 +287,6 @@ faultless-fits s catalog all p = form-fits (out-Stmt s) s catalog all p
 pub bound_fits : (s : Stmt) (catalog : Catalog) (b : BoundStatement) →
     b ≡ (judged_statement s catalog).value → noted None (judged_statement s catalog).faults ≡ None →
     AllPlanned catalog
-    → StatementFits catalog b.bound
-bound_fits s catalog b p q all = subst (λ (x : BoundStatement). StatementFits catalog x.bound)
-    (sym p) (faultless-fits s catalog all (is_free (judged_statement s catalog).faults q))
+    → StatementFits catalog b
+bound_fits s catalog b p q all = subst (StatementFits catalog) (sym p)
+    (faultless-fits s catalog all (is_free (judged_statement s catalog).faults q))

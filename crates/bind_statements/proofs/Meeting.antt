@@ -27,7 +27,8 @@ use Rattle.bind_sight.specs.Sight.{Seen, may_stand}
 use Rattle.bind_parts.specs.From.{table_in}
 use Rattle.bind_parts.specs.Turns.{each_noted}
 use Rattle.bind_queries.specs.Names.{judge}
-use Rattle.bind_queries.proofs.Laws.{front_nil, back_nil, fitting, conjuncts_planned}
+use Rattle.bind_queries.specs.Runs.{Runs, IsNew}
+use Rattle.bind_queries.proofs.Laws.{front_nil, back_nil, fitting, conjuncts_planned, runs-parts}
 use Rattle.bind_statements.specs.Binds.{MeetsRows}
 use Rattle.bind_changes.specs.Writing.{target_of, target_named, kind_named, columns_from, met_query}
 use Rattle.bind_changes.specs.Writing.{judged_where, one_value}
@@ -110,31 +111,33 @@ module _ (known : Catalog) where
       )
 
 module _ (known : Catalog) (all : AllPlanned known) (seen : Seen) (is : seen.catalog ≡ known)
-    (bare : may_stand seen.levels ≡ false) where
-  judged-planned : (e : Expr) → (judge e seen).faults ≡ [] →
+    (bare : may_stand seen.levels ≡ false) (new : IsNew known seen.own) where
+  judged-planned : (e : Expr) → (judge e seen).faults ≡ [] → Runs known (judge e seen).uses →
       planned_expr (tree_of known (judge e seen).value.tree) ≡ true
-  judged-planned e p = (fitting known all e seen is bare p).1
+  judged-planned e p runs = (fitting known all e seen is bare p).1 new runs
 
   pub where-planned : (filter : Option Expr) → (judged_where filter seen).faults ≡ [] →
-      Planned known (judged_where filter seen).value
-  where-planned None p = refl
-  where-planned (Some e) p =
+      Runs known (judged_where filter seen).uses → Planned known (judged_where filter seen).value
+  where-planned None p runs = refl
+  where-planned (Some e) p runs =
       let x = judge e seen in
       let free = front_nil x.faults (misfit Boolean x.value.head) p in
-      conjuncts_planned known x.value.tree (judged-planned e free)
+      conjuncts_planned known x.value.tree (judged-planned e free runs)
 
   pub values-planned : (n : List ℕ) (so : List BoundExpr) (sets : List Assignment) →
       Planned known so
       → (each_noted (one_value (target_named n known) seen) so sets).faults ≡ [] →
+      Runs known (each_noted (one_value (target_named n known) seen) so sets).uses →
       Planned known (each_noted (one_value (target_named n known) seen) so sets).value
-  values-planned n so [] q p = q
-  values-planned n so (a ∷ sets) q p =
+  values-planned n so [] q p runs = q
+  values-planned n so (a ∷ sets) q p runs =
       let to = target_named n known in
       let x = judge a.value seen in
       let one = one_value to seen so a in
       let first = front_nil one.faults (each_noted (one_value to seen) one.value sets).faults p in
       let rest = back_nil one.faults (each_noted (one_value to seen) one.value sets).faults p in
+      let both = runs-parts known x.uses (each_noted (one_value to seen) one.value sets).uses runs in
       let e = judged-planned a.value (front_nil x.faults
-      (misfit (kind_named to a.target) x.value.head) first) in
+      (misfit (kind_named to a.target) x.value.head) first) both.0 in
       values-planned n (so ++ x.value.tree ∷ []) sets
-      (planned-both known so (x.value.tree ∷ []) q (ap (λ b. b && true) e)) rest
+      (planned-both known so (x.value.tree ∷ []) q (ap (λ b. b && true) e)) rest both.1

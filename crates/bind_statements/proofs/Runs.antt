@@ -3,8 +3,6 @@ use Rattle.std.proofs.Common.{◌≡◌, refl, sym, ap, ◌∙◌, subst, ℕ, B
 use Rattle.std.proofs.Common.{◌∷◌, ◌++◌, Option, Some, None}
 use Rattle.std.specs.Prelude.{is_some, ◌&&◌, if◌then◌else◌}
 use Rattle.std.specs.Str.{bytes_eq}
-use Rattle.std.proofs.lemmas.Bool.{and_from, or_left, or_right}
-use Rattle.std.proofs.lemmas.List.Folds.{list_all-append}
 use Rattle.std.proofs.lemmas.Slice.Eq.{bytes_eq-Decides}
 use Rattle.syntax_trees.specs.declared.anchor.Ident.{Ident}
 use Rattle.syntax_trees.specs.declared.expr.Expr.{Expr}
@@ -39,7 +37,7 @@ use Rattle.bind_sight.specs.Sight.{Seen, at_top, inside_writing, may_stand}
 use Rattle.bind_parts.specs.From.{table_in, table_uses}
 use Rattle.bind_parts.specs.Order.{place_at, one_key, keys_of}
 use Rattle.bind_parts.specs.Turns.{each_noted}
-use Rattle.bind_parts.specs.Typed.{no_parts, head_in, head_named, is_own, own_head, function_known}
+use Rattle.bind_parts.specs.Typed.{no_parts, head_in, is_own}
 use Rattle.bind_queries.specs.Heights.{greatest_height}
 use Rattle.bind_queries.specs.Names.{judge, inner}
 use Rattle.bind_queries.specs.Order.{judge_ordered}
@@ -47,7 +45,7 @@ use Rattle.bind_queries.specs.Queries.{judge_query}
 use Rattle.bind_queries.specs.Runs.{is_run, all_run}
 use Rattle.bind_queries.proofs.Laws.{Names, has, front_nil, back_nil, Known, known_in, Mark, Stands}
 use Rattle.bind_queries.proofs.Laws.{AllStand, Covers, mark, grown-alone, query-mark, expr-fits}
-use Rattle.bind_queries.proofs.Laws.{query-fits}
+use Rattle.bind_queries.proofs.Laws.{query-fits, in-catalog, runs-by-name, runs-both}
 use Rattle.bind_changes.specs.Writing.{target_of, target_named, kind_named, uses_of, kinds_into}
 use Rattle.bind_changes.specs.Writing.{into_faults, wrong_width, judged_insert, opened, in_row}
 use Rattle.bind_changes.specs.Writing.{one_value, judged_values, judged_where, target_faults}
@@ -76,12 +74,6 @@ run-by-head h (Some (FunctionObject f)) l p = refl
 run-by-head h (Some (InterpretedObject f)) l p = absurd cc
 run-by-head h (Some (ProcedureObject q)) l p = absurd cc
 
-in-catalog : (known : Catalog) (own : Option EnclosingRoutine) (name : List ℕ) (h : FunctionHead) →
-    is_own name own ≡ false → function_known name own known ≡ Some h →
-    head_named name known ≡ Some h
-in-catalog known own name h n p = sym (ap (λ b. if b then own_head own else head_named name known)
-    n) ∙ p
-
 -- none of these names is that of the routine in whose body they stand
 abbrev Outside : Option EnclosingRoutine → Names → Type 0
 Outside own us = (name : List ℕ) → has name us ≡ true → is_own name own ≡ false
@@ -97,20 +89,6 @@ outside own us p name h = by (bytes_eq own.name name) refl
     by false e = e
 
 -- ---- names that are noted
-
-all-both : (known : Catalog) (us vs : Names) → all_run known us ≡ true → all_run known vs ≡ true →
-    all_run known (us ++ vs) ≡ true
-all-both known us vs p q = list_all-append (λ name. is_run (object_named name known)) us vs ∙
-    and_from (all_run known us) (all_run known vs) p q
-
-all-by-name : (known : Catalog) (us : Names) →
-    ((name : List ℕ) → has name us ≡ true → is_run (object_named name known) ≡ true) →
-    all_run known us ≡ true
-all-by-name known [] f = refl
-all-by-name known (u ∷ us) f =
-    and_from (is_run (object_named u known)) (all_run known us)
-    (f u (or_left (bytes_eq u u) (has u us) ((bytes_eq-Decides u u).1 refl)))
-    (all-by-name known us (λ name h. f name (or_right (bytes_eq u name) (has name us) h)))
 
 module _ (known : Known) (plans : FunctionsPlanned known.catalog) where
   abbrev IsRun : List ℕ → Type 0
@@ -137,7 +115,7 @@ module _ (known : Known) (plans : FunctionsPlanned known.catalog) where
 
   covered-run : (us : Names) (m : Mark) → Covers known us m → Outside known.own us →
       all_run known.catalog us ≡ true
-  covered-run us m c out = all-by-name known.catalog us
+  covered-run us m c out = runs-by-name known.catalog us
       (λ name h. uses-run m.uses c.0 name (sym (c.2 name) ∙ h) (out name h))
 
 -- ---- expressions and queries
@@ -174,7 +152,7 @@ module _ (known : Catalog) (all : AllPlanned known) (plans : FunctionsPlanned kn
   order-runs columns so [] = refl
   order-runs columns so (k ∷ ks) =
       let one = one_key columns so k in
-      all-both known one.uses (each_noted (one_key columns) one.value ks).uses
+      runs-both known one.uses (each_noted (one_key columns) one.value ks).uses
       (place-runs k.name (hits k.name.name columns)) (order-runs columns one.value ks)
     where
       place-runs : (i : Ident) (h : Hit) → all_run known (place_at i h).uses ≡ true
@@ -187,7 +165,7 @@ module _ (known : Catalog) (all : AllPlanned known) (plans : FunctionsPlanned kn
   ordered-runs q p =
       let query = judge_query [] q.query (at_top known) in
       let keys = keys_of query.value.columns q.order in
-      all-both known query.uses keys.uses (query-runs [] q.query (at_top known) refl
+      runs-both known query.uses keys.uses (query-runs [] q.query (at_top known) refl
       (λ name h. refl) (front_nil query.faults keys.faults p))
       (order-runs query.value.columns [] q.order)
 
@@ -212,7 +190,7 @@ module _ (known : Catalog) (all : AllPlanned known) (plans : FunctionsPlanned kn
       let seen = inside_writing (at_top known) in
       let source = judge_query (kinds_into to s.columns) s.source seen in
       let width = wrong_width to s.columns source.value in
-      all-both known (uses_of s.table to).uses source.uses (target-runs s.table)
+      runs-both known (uses_of s.table to).uses source.uses (target-runs s.table)
       (query-runs (kinds_into to s.columns) s.source seen refl (λ name h. refl)
       (front_nil source.faults width (back_nil (into_faults s to) (source.faults ++ width) p)))
 
@@ -250,7 +228,7 @@ module _ (known : Catalog) (all : AllPlanned known) (plans : FunctionsPlanned kn
         let x = judge a.value seen in
         let one = one_value to seen so a in
         let rest = each_noted (one_value to seen) one.value sets in
-        all-both known x.uses rest.uses (judged-runs a.value
+        runs-both known x.uses rest.uses (judged-runs a.value
         (front_nil x.faults (misfit (kind_named to a.target) x.value.head)
         (front_nil one.faults rest.faults p)))
         (values-run n one.value sets (back_nil one.faults rest.faults p))
@@ -267,8 +245,8 @@ module _ (known : Catalog) (all : AllPlanned known) (plans : FunctionsPlanned kn
       let rows = values.faults ++ conjuncts.faults in
       let asked = back_nil (target_faults to (assigned s)) rows
       (back_nil row.faults (target_faults to (assigned s) ++ rows) p) in
-      all-both known row.uses (values.uses ++ conjuncts.uses) (opened-runs s.table)
-      (all-both known values.uses conjuncts.uses
+      runs-both known row.uses (values.uses ++ conjuncts.uses) (opened-runs s.table)
+      (runs-both known values.uses conjuncts.uses
       (values-run seen refl refl refl s.table.name [] s.assignments
       (front_nil values.faults conjuncts.faults asked))
       (where-runs seen refl refl refl s.filter (back_nil values.faults conjuncts.faults asked)))
@@ -280,7 +258,7 @@ module _ (known : Catalog) (all : AllPlanned known) (plans : FunctionsPlanned kn
       let row = opened s.table outer in
       let seen = in_row outer row.value in
       let conjuncts = judged_where s.filter seen in
-      all-both known row.uses conjuncts.uses (opened-runs s.table)
+      runs-both known row.uses conjuncts.uses (opened-runs s.table)
       (where-runs seen refl refl refl s.filter (back_nil row.faults conjuncts.faults p))
 
   -- ---- CREATE FUNCTION

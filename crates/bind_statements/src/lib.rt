@@ -19,7 +19,7 @@ pub use statement::{anchor_of, bind_statement};
 
 /// A statement without faults makes what fits the catalog: a name that is free, a key of columns,
 /// calls of functions that stand there and are lower, with as many arguments as parameters; what is
-/// dropped stands there unused; and what is asked or met has a plan.
+/// dropped stands there unused; and what is asked or met has a plan, where the statement is run.
 pub fn faultless_fits()
     ensures { FaultlessFits }
 {}

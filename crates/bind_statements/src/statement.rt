@@ -178,16 +178,16 @@ pub fn anchor_of(stmt: &Stmt) -> Anchor
 
 /// A statement with its names resolved. Fault: exactly where it has a fault, and then the least, by
 /// place and then kind. What is made has a free name, and fits the catalog; what is dropped stands
-/// there unused; what is asked or met has a plan. It is well typed, where in each compound
-/// statement the handlers stand after all other declarations.
-#[tactic(auto, using(bind_faults::proofs::Laws::is_free, crate::proofs::Made::bound_fits, crate::proofs::Typed::bound_typed))]
+/// there unused; what is asked or met has a plan, where the statement is run. It is well typed,
+/// where in each compound statement the handlers stand after all other declarations.
+#[tactic(auto, using(bind_faults::proofs::Laws::is_free, crate::proofs::Typed::bound_typed))]
 pub fn bind_statement(
     alloc: Global,
     stmt: &Stmt,
     catalog: &Catalog,
 ) -> Result<BoundStatement, NameFault>
     ensures binds { Binds (judged_statement stmt.now catalog.now) result }
-    ensures fits { IfOk result (λ b. StatementFits catalog.now b.bound) }
+    ensures fits { IfOk result (StatementFits catalog.now) }
     ensures typed { IfOk result (λ b. is_ordered stmt.now ≡ true → IsTyped catalog.now b.bound) }
 {
     let _entries = catalog.len();

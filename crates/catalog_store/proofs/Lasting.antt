@@ -4,7 +4,7 @@ use Rattle.std.proofs.Common.{◌≡◌, ℕ, Bool, true, false, cond, List, [],
 use Rattle.std.proofs.Common.{Some, refl, sym, ap, ◌∙◌, subst}
 use Rattle.std.specs.Str.{bytes_eq}
 use Rattle.std.specs.Map.{lookup}
-use Rattle.rel_algebra.specs.Tree.{Expr, Function as FunctionTree}
+use Rattle.rel_algebra.specs.Tree.{Expr, Returned}
 use Rattle.rel_algebra.specs.Emit.{emit_body, top}
 use Rattle.rel_algebra.specs.Lasting.{RoutineLasts}
 use Rattle.rel_algebra.proofs.Laws.{lasting_plans}
@@ -92,12 +92,12 @@ own_plan-same : (known more : Catalog) (r : RoutineRecord) → AllLasting known 
     SameUses known more (FunctionRecord r) → own_plan more r ≡ own_plan known r
 own_plan-same known more r all agree fits same =
     let plan_of : Expr → (List ℕ → ℕ) → _ = λ x S.
-    emit_body (FunctionTree false r.head.parameters r.head.returns x) S
+    emit_body (Returned r.head.parameters r.head.returns x) S
     (top (length r.head.parameters)) 0 in
     let uses = fitting_last known all (width_in more) (width_in known) agree r.head.height
     (uses_in r.body) fits.all in
     ap (λ x. plan_of x (width_in more)) (same_tree known more r.body same)
-    ∙ lasting_plans.bodies (FunctionTree false r.head.parameters r.head.returns
+    ∙ lasting_plans.bodies (Returned r.head.parameters r.head.returns
     (tree_of known r.body)) (width_in more) (width_in known) (top (length r.head.parameters)) 0
     (lasting_tree known (width_in more) (width_in known) r.body uses)
 

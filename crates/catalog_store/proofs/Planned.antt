@@ -1,46 +1,42 @@
--- Each function of a catalog has a plan, since it fits those that stand before it; and names
--- differ.
+-- Each function that a catalog keeps with a plan is planned, since it fits those that stand before
+-- it; and names differ.
 use Rattle.std.proofs.Common.{◌≡◌, ℕ, Bool, true, false, cond, List, [], ◌∷◌, ◌++◌, Option, None}
-use Rattle.std.proofs.Common.{Some, refl, sym, ap, ◌∙◌}
+use Rattle.std.proofs.Common.{Some, refl, subst, sym, ◌∙◌}
 use Rattle.std.specs.List.{AllByRecursion, IsDistinct}
 use Rattle.std.specs.Str.{bytes_eq}
-use Rattle.rel_algebra.specs.Plain.{planned_routine}
 use Rattle.catalog_store.specs.declared.entry.Object.{Object as HeldObject}
 use Rattle.catalog_store.specs.declared.entry.Object.TheVariants.{Table, Function as FunctionRecord}
 use Rattle.catalog_store.specs.declared.entry.Object.TheVariants.{Interpreted as InterpretedRecord}
 use Rattle.catalog_store.specs.declared.entry.Object.TheVariants.{Procedure as ProcedureRecord}
 use Rattle.catalog_store.specs.Catalog.{Object, Entry, Catalog, names_of, object_named}
-use Rattle.catalog_store.specs.Catalog.{routine_named, routine_in}
 use Rattle.catalog_store.specs.Entries.{object_of, entry_of, with_all, ObjectFits, AreSound}
-use Rattle.catalog_store.specs.Planning.{AllPlanned}
+use Rattle.catalog_store.specs.Planning.{AllPlanned, IsPlannedObject}
 use Rattle.catalog_store.proofs.Named.{named_kept, named_after}
 use Rattle.catalog_store.proofs.Sound.{Held, grown}
 
 -- ---- catalogs
 
 planned_object : (known : Catalog) (o : HeldObject) → ObjectFits known o →
-    planned_routine (routine_in (Some (object_of known o))) ≡ true
-planned_object known (Table row_type) fits = refl
+    IsPlannedObject (Some (object_of known o))
+planned_object known (Table row_type) fits = tt
 planned_object known (FunctionRecord r) fits = fits.planned
-planned_object known (InterpretedRecord f) fits = refl
-planned_object known (ProcedureRecord p) fits = refl
+planned_object known (InterpretedRecord f) fits = tt
+planned_object known (ProcedureRecord p) fits = tt
 
 planned_more : (known : Catalog) (e : Held) → AllPlanned known → ObjectFits known e.1 →
     AllPlanned (grown known e)
 planned_more known e all fits name = by (object_named name known) refl
   where
-    at_end : (b : Bool) → planned_routine (routine_in (cond b (Some (object_of known e.1)) None)) ≡
-        true
+    at_end : (b : Bool) → IsPlannedObject (cond b (Some (object_of known e.1)) None)
     at_end true = planned_object known e.1 fits
-    at_end false = refl
+    at_end false = tt
 
     by : (o : Option Object) → object_named name known ≡ o →
-        planned_routine (routine_named name (grown known e)) ≡ true
-    by None h = ap (λ (o : Option Object). planned_routine (routine_in o))
-        (named_after name known (entry_of known e.0 e.1 ∷ []) h) ∙ at_end (bytes_eq e.0 name)
-    by (Some o) h =
-        ap (λ (x : Option Object). planned_routine (routine_in x))
-        (named_kept name known (entry_of known e.0 e.1 ∷ []) o h ∙ sym h) ∙ all name
+        IsPlannedObject (object_named name (grown known e))
+    by None h = subst IsPlannedObject
+        (sym (named_after name known (entry_of known e.0 e.1 ∷ []) h)) (at_end (bytes_eq e.0 name))
+    by (Some o) h = subst IsPlannedObject
+        (h ∙ sym (named_kept name known (entry_of known e.0 e.1 ∷ []) o h)) (all name)
 
 pub all_planned : (known : Catalog) (es : List Held) → AllPlanned known → AreSound known es →
     AllPlanned (with_all known es)

@@ -9,7 +9,7 @@ use Rattle.catalog_store.specs.declared.entry.Object.{Object as HeldObject}
 use Rattle.catalog_store.specs.declared.entry.Object.TheVariants.{Table, Function as FunctionRecord}
 use Rattle.catalog_store.specs.declared.entry.Object.TheVariants.{Interpreted as InterpretedRecord}
 use Rattle.catalog_store.specs.declared.entry.Object.TheVariants.{Procedure as ProcedureRecord}
-use Rattle.rel_algebra.specs.Tree.{Expr, Function as FunctionTree}
+use Rattle.rel_algebra.specs.Tree.{Expr, Returned}
 use Rattle.rel_algebra.specs.Plain.{planned_expr}
 use Rattle.catalog_store.specs.Catalog.{Object, TableObject, FunctionObject, Catalog, object_named}
 use Rattle.catalog_store.specs.Uses.{calls, reads, Uses, AllFit, uses_in, UsesStand}
@@ -121,7 +121,7 @@ same_object known more (FunctionRecord r) s =
       weight = r.head.weight;
       uses =
           r.head.uses;
-      routine = FunctionTree false r.head.parameters r.head.returns tree;
+      routine = Returned r.head.parameters r.head.returns tree;
     }))
     (same_tree known more r.body s)
 same_object known more (InterpretedRecord f) s = refl

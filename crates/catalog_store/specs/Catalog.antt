@@ -2,11 +2,10 @@
 -- (schemas) and 11.60 (routines).
 use Rattle.std.specs.Prelude.{ℕ, Bool, List, [], ◌∷◌, map, false, if◌then◌else◌, Option, Some, None}
 use Rattle.std.specs.Str.{bytes_eq}
-use Rattle.sql_values.specs.declared.value.Value.TheVariants.{Null}
 use Rattle.sql_values.specs.declared.value.SqlType.{SqlType}
-use Rattle.sql_values.specs.declared.value.SqlType.TheVariants.{Integer}
 use Rattle.row_types.specs.declared.RowType.{RowType}
-use Rattle.rel_algebra.specs.Tree.{Literal, Routine, Function as FunctionTree}
+use Rattle.rel_algebra.specs.Tree.{Routine, Procedure as ProcedureTree, Compound, NoVariable}
+use Rattle.rel_algebra.specs.Tree.{NoHandler, NoStmt}
 use Rattle.bound_trees.specs.declared.statement.BoundStmt.{BoundStmt}
 use Rattle.catalog_store.specs.declared.entry.DataAccess.{DataAccess}
 use Rattle.catalog_store.specs.declared.entry.ParameterMode.{ParameterMode}
@@ -72,11 +71,13 @@ abbrev pub object_named : List ℕ → Catalog → Option Object
 object_named name [] = None
 object_named name (e ∷ es) = if bytes_eq e.name name then Some e.object else object_named name es
 
--- the tree that a call runs where there is no function with a plan
+-- what a call runs where there is no function with a plan: it is not planned, and a call of it gives
+-- NULL
 abbrev pub missing : Routine
-missing = FunctionTree false [] Integer (Literal Null)
+missing = ProcedureTree false [] (Compound false NoVariable 0 NoHandler NoStmt)
 
--- what a call runs: the function that the name stands for, and RETURN NULL for any other object
+-- what a call runs: the function with a plan that the name stands for, and `missing` for any other
+-- object
 abbrev pub routine_in : Option Object → Routine
 routine_in None = missing
 routine_in (Some (TableObject row_type)) = missing

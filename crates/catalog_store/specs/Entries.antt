@@ -2,7 +2,7 @@
 -- (schemas), 10.4 (routine invocation) and 11.60 (routines).
 use Rattle.std.specs.Prelude.{◌≡◌, ℕ, true, false, List, [], ◌∷◌, ◌++◌, None, Some, IsTrue}
 use Rattle.row_types.specs.Rows.{has_key_columns}
-use Rattle.rel_algebra.specs.Tree.{Function as FunctionTree}
+use Rattle.rel_algebra.specs.Tree.{Returned}
 use Rattle.catalog_store.specs.declared.entry.Object.{Object as HeldObject}
 use Rattle.catalog_store.specs.declared.entry.Object.TheVariants.{Table, Function as FunctionRecord}
 use Rattle.catalog_store.specs.declared.entry.Object.TheVariants.{Interpreted as InterpretedRecord}
@@ -28,7 +28,7 @@ function_of known r =
       height = r.head.height;
       weight = r.head.weight;
       uses = r.head.uses;
-      routine = FunctionTree false r.head.parameters r.head.returns (tree_of known r.body);
+      routine = Returned r.head.parameters r.head.returns (tree_of known r.body);
     }
 
 -- a function whose body is other statements: the same in every catalog

@@ -4,7 +4,7 @@ use Rattle.sql_values.specs.declared.value.Value.TheVariants.{Int, Bool as Truth
 use Rattle.sql_values.specs.declared.value.SqlType.TheVariants.{Integer}
 use Rattle.sql_values.specs.declared.operators.Operator.TheVariants.{Add}
 use Rattle.rel_algebra.specs.Tree.{Expr, Literal, Column, Chain, Call, NoLink, MoreLinks, NoExpr}
-use Rattle.rel_algebra.specs.Tree.{MoreExprs, Function as FunctionTree, From, Table, Cross, Inner}
+use Rattle.rel_algebra.specs.Tree.{MoreExprs, Returned, From, Table, Cross, Inner}
 use Rattle.rel_algebra.specs.Tree.{LeftOuter, Select, Grouped, Count, Single}
 use Rattle.rel_algebra.specs.World.{World, Gives, no_self, no_frame}
 use Rattle.rel_algebra.specs.Meaning.{ev}
@@ -59,7 +59,7 @@ entry name height uses e =
             weight =
                 1;
             uses = uses;
-            routine = FunctionTree false [] Integer e;
+            routine = Returned [] Integer e;
           });
     }
 
@@ -78,7 +78,7 @@ two = entry (codes "TWO") 1 [] (number 2)
 -- NEXT (): RETURN ONE() + 1
 abbrev pub next : Entry
 next = entry (codes "NEXT") 2 (codes "ONE" ∷ [])
-    (Chain (Call (codes "ONE") (FunctionTree false [] Integer (number 1)) NoExpr)
+    (Chain (Call (codes "ONE") (Returned [] Integer (number 1)) NoExpr)
     (MoreLinks Add (number 1) NoLink))
 
 -- the catalog of these rows: ONE, T, TWO and NEXT, in the order of their making

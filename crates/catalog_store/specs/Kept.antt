@@ -4,9 +4,9 @@ use Rattle.std.specs.Prelude.{◌≡◌, false, List, [], ◌∷◌, length, Opt
 use Rattle.rel_algebra.specs.declared.plan.Node.{Node, out-Node}
 use Rattle.rel_algebra.specs.declared.plan.Node.TheOpen.{Node-F}
 use Rattle.rel_algebra.specs.declared.plan.Plan.{Plan}
-use Rattle.rel_algebra.specs.Tree.{Function as FunctionTree}
+use Rattle.rel_algebra.specs.Tree.{Returned}
 use Rattle.rel_algebra.specs.Plan.{Scalar, Scalars, Kind, PlanTree, Nodes, no_node, extend_by}
-use Rattle.rel_algebra.specs.Plan.{apply_by}
+use Rattle.rel_algebra.specs.Plan.{apply_by, anew}
 use Rattle.rel_algebra.specs.PlanView.{scalar_of, scalars_of, kind_of, tree_of as plan_tree_of}
 use Rattle.rel_algebra.specs.Emit.{Emitted, emit_body, top}
 use Rattle.catalog_store.specs.declared.entry.FunctionPlan.{FunctionPlan}
@@ -23,7 +23,7 @@ extended ss (Some rest) = Some (extend_by ss rest)
 -- a run with an Apply more below it
 abbrev pub applied : Scalar → Kind → PlanTree → Option Nodes → Option Nodes
 applied when kind inner None = None
-applied when kind inner (Some rest) = Some (apply_by when kind inner rest)
+applied when kind inner (Some rest) = Some (apply_by when kind anew inner rest)
 
 -- a run with this node more below it, if it adds columns
 abbrev pub with_below : Node-F Node Plan → Option Nodes → Option Nodes
@@ -49,7 +49,7 @@ HasPlan (Some p) e = IsPlan p e
 
 -- what the emitter makes of a function's body, seen by this catalog
 abbrev pub own_plan : Catalog → RoutineRecord → Emitted
-own_plan known r = emit_body (FunctionTree false r.head.parameters r.head.returns
+own_plan known r = emit_body (Returned r.head.parameters r.head.returns
     (tree_of known r.body)) (width_in known) (top (length r.head.parameters)) 0
 
 -- a function's plan is kept, and is what the emitter makes of it

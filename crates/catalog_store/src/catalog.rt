@@ -3,7 +3,7 @@
 ghost use Rattle.std.specs.Prelude.{◌≡◌, [], ◌∷◌, ◌++◌, length, None, IsSome, IfSome, MatchOption};
 ghost use Rattle.std.specs.Prelude.{OnOk, OnErr, IfErr, false, slice_get};
 ghost use Rattle.std.specs.Option.{option_copied, option_map};
-ghost use Rattle.rel_algebra.specs.Tree.{Function as FunctionTree};
+ghost use Rattle.rel_algebra.specs.Tree.{Returned};
 ghost use Rattle.std.specs.List.{IsDistinct};
 ghost use Rattle.std.specs.Str.{bytes_eq};
 ghost use Rattle.catalog_store.specs.Catalog.{names_of, object_named, routine_named, missing};
@@ -77,8 +77,8 @@ impl Catalog {
         }
     }
 
-    /// The number of entries. Their names differ, and what each of them stands for has a plan where
-    /// it is called.
+    /// The number of entries. Their names differ, and each function that is kept with a plan is
+    /// planned.
     pub fn len(&self) -> usize
         ensures value { result ≡ length self.now }
         ensures names { IsDistinct bytes_eq (names_of self.now) }
@@ -100,7 +100,7 @@ impl Catalog {
     /// The function with a plan of a name; `None` where the name stands for none.
     pub fn routine(&self, name: &Name) -> Option<&RoutineRecord>
         ensures tree { MatchOption result (routine_named name.now self.now ≡ missing)
-            (λ r. routine_named name.now self.now ≡ FunctionTree false r.now.head.parameters r.now.head.returns (tree_of self.now r.now.body)) }
+            (λ r. routine_named name.now self.now ≡ Returned r.now.head.parameters r.now.head.returns (tree_of self.now r.now.body)) }
         ensures named { IfSome result (λ r. IsNamed name.now self.now r.now) }
     {
         match self.get(name) {

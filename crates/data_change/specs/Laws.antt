@@ -2,7 +2,7 @@
 use Rattle.std.specs.Prelude.{ℕ, ◌≡◌, List, None}
 use Rattle.rel_algebra.specs.Tree.{Query}
 use Rattle.rel_algebra.specs.World.{World}
-use Rattle.rel_algebra.specs.Writing.{insert as insert_all}
+use Rattle.rel_algebra.specs.Changes.{insert_all}
 use Rattle.data_change.specs.Writing.{insert}
 
 -- an INSERT that lists no columns is one of all columns, in their order

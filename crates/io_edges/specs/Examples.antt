@@ -4,6 +4,7 @@ use Rattle.io_edges.specs.Course.{Course, fails_now, one_later}
 use Rattle.io_edges.specs.EmptyReads.{empty_by}
 use Rattle.io_edges.specs.TakenBytes.{nothing_taken}
 use Rattle.io_edges.specs.Events.{told_from}
+use Rattle.io_edges.specs.Sinks.{write_fails, write_takes}
 use Rattle.io_edges.specs.declared.source.Failed.{Failed}
 
 -- the second call fails, and no other
@@ -24,6 +25,36 @@ second_fails = refl
 pub third_goes : fails_now (one_later (one_later only_second)) ≡ false
 unfolding only_second
 third_goes = refl
+
+-- Where room is left for two bytes, a write of three takes two,
+pub room_for_two : write_takes only_second 2 3 ≡ 2
+unfolding only_second
+room_for_two = refl
+
+-- and is no fault.
+pub two_are_taken : write_fails only_second 2 3 ≡ false
+unfolding only_second
+two_are_taken = refl
+
+-- Where room is left for nine, one of eight takes the five that a call takes.
+pub room_for_nine : write_takes only_second 9 8 ≡ 5
+unfolding only_second
+room_for_nine = refl
+
+-- Where no room is left, a write of a byte fails,
+pub no_room : write_fails only_second 0 1 ≡ true
+unfolding only_second
+no_room = refl
+
+-- and one of no byte goes, and takes none.
+pub nothing_to_take : write_fails only_second 0 0 ≡ false
+unfolding only_second
+nothing_to_take = refl
+
+-- A call that is listed fails, with room too.
+pub listed_with_room : write_fails (one_later only_second) 9 8 ≡ true
+unfolding only_second
+listed_with_room = refl
 
 -- a read that gives two bytes took something; one that gives none, or fails, took nothing
 pub two_bytes : empty_by {E = Failed} (Ok 2) ≡ 0

@@ -30,7 +30,7 @@ fn does_first(alloc: Global, doing: Doing, list: &Tokens, db: &mut Database) -> 
         return false;
     }
     match doing {
-        Doing::Running => run_next(alloc, list, 0, db).is_ok(),
+        Doing::Running => run_next(alloc, list, 0, 1_000_000, db).is_ok(),
         Doing::Checking => check_next(alloc, list, 0, db).is_ok(),
     }
 }
@@ -64,7 +64,8 @@ fn bound_tree(alloc: Global, tree: &Query, catalog: &Catalog) -> Option<BoundQue
         own: &None,
         writing: false,
     };
-    bind_query(alloc, tree, &sight, catalog).ok()
+    let asked = bind_query(alloc, tree, &sight, catalog).ok()?;
+    if asked.runs { Some(asked.query) } else { None }
 }
 
 fn parsed(alloc: Global, text: &str) -> Option<Query> {
@@ -75,7 +76,7 @@ fn parsed(alloc: Global, text: &str) -> Option<Query> {
     }
 }
 
-/// The query of a text, with its names resolved.
+/// The query of a text, with its names resolved, where all functions that it calls have plans.
 pub fn bound(alloc: Global, text: &str, catalog: &Catalog) -> Option<BoundQuery>
     ensures { IfSome result (λ q. planned (query_of catalog.now q) ≡ true) }
 {

@@ -8,8 +8,10 @@ use std::test::Fail;
 
 #[test]
 fn words_without_a_command(rt: HostRuntime) -> Result<(), Fail> {
-    let rows: [(&[&str], Option<Command>); 6] = [
-        (&["./a", "run"], Some(Command::Run)),
+    let rows: [(&[&str], Option<Command>); 8] = [
+        (&["./a", "run"], Some(Command::Run(1_000_000))),
+        (&["./a", "run", "--budget", "5"], Some(Command::Run(5))),
+        (&["psm", "run", "--budget", ""], None),
         (&["", "check"], Some(Command::Check)),
         (&[], None),
         (&["run"], None),
@@ -29,9 +31,9 @@ fn the_oldest_of_five_goes(rt: HostRuntime) {
         area.push_front(Condition::of(EngineCondition::ConstraintViolated));
     }
     assert_eq!(rt; area.as_slice().len(), 4);
-    assert_eq!(rt; area.as_slice()[3].state(), "23000");
+    assert_eq!(rt; area.as_slice()[3].state.as_bytes(), b"23000".as_slice());
     area.push_front(Condition::of(EngineCondition::NumberOutOfRange));
-    assert_eq!(rt; area.as_slice()[0].message(), "number out of range");
+    assert_eq!(rt; area.as_slice()[0].message.as_str(), "number out of range");
 }
 
 #[test]

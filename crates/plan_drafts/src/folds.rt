@@ -4,7 +4,7 @@
 ghost use Rattle.std.specs.Prelude.{◌≡◌, ◌+◌, true, length, OnOk};
 ghost use Rattle.sql_values.specs.declared.value.Value.TheVariants.{Bool as Truth};
 ghost use Rattle.rel_algebra.specs.Joins.{numbered as numbered_by};
-ghost use Rattle.rel_algebra.specs.Plan.{apply, constant, aggregate};
+ghost use Rattle.rel_algebra.specs.Plan.{apply, anew, constant, aggregate};
 ghost use Rattle.plan_expressions.specs.Drafts.{drafted};
 ghost use Rattle.plan_drafts.specs.Folding.{folds};
 
@@ -17,7 +17,8 @@ use sql_values::{FoldKind, NoMemory, Value};
 /// Puts an Apply of aggregates over a plan: of each column of the plan inside.
 pub fn fold_over(input: Draft, aggregates: &[FoldKind], draft: &mut Draft) -> Result<(), NoMemory>
     ensures tree { OnOk result ((drafted draft.new).tree ≡ apply (constant (Truth true))
-        (aggregate (numbered_by 0 aggregates.now)) (drafted input).tree (drafted draft.old).tree) }
+        (aggregate (numbered_by 0 aggregates.now)) anew (drafted input).tree
+        (drafted draft.old).tree) }
     ensures width { OnOk result ((drafted draft.new).width ≡ (drafted draft.old).width +
         length aggregates.now) }
 {

@@ -4,6 +4,8 @@ use Rattle.std.proofs.Common.{[], ◌∷◌, ◌++◌, map, length, replicate}
 use Rattle.std.proofs.Common.{Ok, Err, refl, sym, ap, ◌∙◌}
 use Rattle.std.proofs.lemmas.List.{append_assoc, append-nil, length-map}
 use Rattle.sql_values.specs.declared.value.Value.{Value}
+use Rattle.sql_conditions.specs.Conditions.{area_of}
+use Rattle.sql_conditions.specs.declared.condition.EngineCondition.TheVariants.{SeveralRows}
 use Rattle.row_types.specs.Rows.{Row}
 use Rattle.row_types.specs.Groups.{grouped_from}
 use Rattle.row_types.specs.declared.cell.Cell.{Cell}
@@ -13,8 +15,11 @@ use Rattle.row_types.specs.Cells.{PlanRow}
 use Rattle.rel_algebra.specs.Tree.{Aggregate}
 use Rattle.rel_algebra.specs.Endings.{Ending, after}
 use Rattle.rel_algebra.specs.Plan.{Kind, Scalar, single, exists, member, aggregate, all_or_first}
-use Rattle.rel_algebra.specs.Plan.{collapse, collapse_as, collected, finish_cells, group_rows}
-use Rattle.rel_algebra.specs.Plan.{grouped, kind_width, values_of}
+use Rattle.rel_algebra.specs.Plan.{cells_at, collapse, collapse_as, collected, finish_cells}
+use Rattle.rel_algebra.specs.Plan.{group_rows, grouped, into, into_cells, kind_width, shown}
+use Rattle.rel_algebra.specs.Plan.{values_of}
+use Rattle.rel_algebra.specs.Joins.{places}
+use Rattle.rel_algebra.specs.States.{no_data}
 use Rattle.rel_algebra.specs.PlanView.{aggregates_of}
 use Rattle.plan_rows.specs.Subqueries.{exists_end, member_end, single_end}
 use Rattle.plan_nodes.specs.declared.received.Received.{Received}
@@ -33,6 +38,7 @@ collapse_is exists c rows = refl
 collapse_is (member s) (Val v) rows = refl
 collapse_is (member s) (Cond a) rows = refl
 collapse_is (aggregate ags) c rows = refl
+collapse_is (into n) c rows = refl
 
 -- ---- queries inside expressions
 
@@ -101,6 +107,20 @@ all_length : (n : ℕ) (cs : List Cell) (e : Ending Row) → length cs ≡ n →
 all_length n cs (Ok vs) l h = ap length (sym (told_values cs vs h)) ∙ l
 all_length n cs (Err a) l h = copies_length n (Cond a)
 
+picked_length : (row : List Cell) (is : List ℕ) → length (cells_at row is) ≡ length is
+picked_length row [] = refl
+picked_length row (i ∷ is) = ap suc (picked_length row is)
+
+counted_places : (i n : ℕ) → length (places i n) ≡ n
+counted_places i zero = refl
+counted_places i (suc n) = ap suc (counted_places (suc i) n)
+
+-- the cells of the one row, or copies
+into_length : (n : ℕ) (rs : List Row) → length (into_cells n rs) ≡ n
+into_length n [] = copies_length n (Cond no_data)
+into_length n (r ∷ []) = picked_length (shown r) (places 0 n) ∙ counted_places 0 n
+into_length n (r ∷ s ∷ rs) = copies_length n (Cond (area_of SeveralRows))
+
 end_length : (k : Kind) (c : Cell) (e : Ending (List Row)) → length (ended_as k c e) ≡ kind_width k
 end_length single c (Ok rs) = refl
 end_length exists c (Ok rs) = refl
@@ -108,11 +128,13 @@ end_length (member s) (Val v) (Ok rs) = refl
 end_length (member s) (Cond a) (Ok rs) = refl
 end_length (aggregate ags) c (Ok rs) = all_length (length ags) (finish_cells ags rs)
     (values_of (finish_cells ags rs)) (finish_length ags rs) refl
+end_length (into n) c (Ok rs) = into_length n rs
 end_length single c (Err a) = refl
 end_length exists c (Err a) = refl
 end_length (member s) (Val v) (Err a) = refl
 end_length (member s) (Cond b) (Err a) = refl
 end_length (aggregate ags) c (Err a) = copies_length (length ags) (Cond a)
+end_length (into n) c (Err a) = copies_length n (Cond a)
 
 -- ---- the scalar of an Apply
 

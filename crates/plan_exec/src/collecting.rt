@@ -27,7 +27,7 @@ pub fn collect<L: Ledger>(rows: RowList, steps: &mut Steps<L>) -> Result<Answer,
 {
     for at in 0..rows.len() {
         if let Some(area) = rows.at(at, steps).first_area() {
-            return Ok(Answer::Raised(area.copied()));
+            return Ok(Answer::Raised(area.copied()?));
         }
     }
     Ok(Answer::Rows(rows))

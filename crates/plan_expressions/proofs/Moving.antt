@@ -10,10 +10,10 @@ use Rattle.rel_algebra.specs.declared.plan.Plan.{Plan}
 use Rattle.rel_algebra.specs.declared.scalar.Scalar.{Scalar as ScalarCode}
 use Rattle.rel_algebra.specs.declared.scalar.Scalar.TheVariants.{Chain as ChainCode}
 use Rattle.rel_algebra.specs.declared.scalar.ScalarLink.{ScalarLink as LinkCode}
-use Rattle.rel_algebra.specs.Tree.{Arithmetic, Routine, Function as FunctionTree}
+use Rattle.rel_algebra.specs.Tree.{Arithmetic, Routine, Returned}
 use Rattle.rel_algebra.specs.Plan.{strict, Scalar, Scalars, no_node, word, none, more, column, Kind}
 use Rattle.rel_algebra.specs.Plan.{kind_width, PlanTree, Nodes, on_each, extend, apply, extend_by}
-use Rattle.rel_algebra.specs.Plan.{apply_by}
+use Rattle.rel_algebra.specs.Plan.{apply_by, anew}
 use Rattle.rel_algebra.specs.PlanView.{Link, chained, scalar_of, scalars_of, link_of, kind_of}
 use Rattle.rel_algebra.specs.PlanView.{tree_of as plan_of}
 use Rattle.rel_algebra.specs.Emit.{Emitted, emit_body, passed, top, width, scalar_count}
@@ -172,7 +172,7 @@ extend_next v x ss copies old new node copy tree wide others =
 
 one_applied : (v : Move) (w : Scalar) (k : Kind) (i : PlanTree) (o : Option Nodes)
     (old new : Drafted) →
-    new.tree ≡ apply (moved_scalar v 0 w) (moved_kind v 0 k) (moved_tree v 0 i) old.tree →
+    new.tree ≡ apply (moved_scalar v 0 w) (moved_kind v 0 k) anew (moved_tree v 0 i) old.tree →
     new.width ≡ old.width + kind_width (moved_kind v 0 k) →
     with_run v o new ≡ with_run v (applied w k i o) old
 one_applied v w k i None old new tree wide = refl
@@ -187,7 +187,7 @@ pub apply_next : (v : Move) (x : Node) (w copy : ScalarCode) (k kind : ApplyKind
     (old new : Draft) → x ≡ Apply w k p → q ≡ p →
     scalar_of copy ≡ moved_scalar v 0 (scalar_of w) → kind_of kind ≡ moved_kind v 0 (kind_of k) →
     plan_of plan ≡ moved_tree v 0 (plan_of q) →
-    (drafted new).tree ≡ apply (scalar_of copy) (kind_of kind) (plan_of plan) (drafted old).tree →
+    (drafted new).tree ≡ apply (scalar_of copy) (kind_of kind) anew (plan_of plan) (drafted old).tree →
     (drafted new).width ≡ (drafted old).width + kind_width (kind_of kind) →
     (others : List Node) → with_run v (run_of others) (drafted new) ≡ with_run v
     (run_of (x ∷ others)) (drafted old)
@@ -195,7 +195,7 @@ apply_next v x w copy k kind p q plan old new node same one how inner tree wide 
     let third : plan_of plan ≡ moved_tree v 0 (plan_of p) = inner ∙
     ap (λ (r : Plan). moved_tree v 0 (plan_of r)) same in
     one_applied v (scalar_of w) (kind_of k) (plan_of p) (run_of others) (drafted old) (drafted new)
-    (tree ∙ (λ j. apply (one j) (how j) (third j) (drafted old).tree))
+    (tree ∙ (λ j. apply (one j) (how j) anew (third j) (drafted old).tree))
     (wide ∙ ap (λ r. (drafted old).width + kind_width r) how)
     ∙ ap (λ (o : Option Nodes). with_run v o (drafted old)) (sym (kept-Apply w k p others)) ∙
     ap (λ (y : Node). with_run v (run_of (y ∷ others)) (drafted old)) (sym node)
@@ -228,7 +228,7 @@ first_of_run x others (adds ss is) h =
 first_of_run x others (asks s k i is) h =
     subst (λ (o : Option Nodes). IsSome o) (sym (kept-Apply s k i []) ∙
     ap (λ (y : Node). run_of (y ∷ [])) (sym is))
-    (some_there (apply_by (scalar_of s) (kind_of k) (plan_of i) no_node))
+    (some_there (apply_by (scalar_of s) (kind_of k) anew (plan_of i) no_node))
 first_of_run x others (acts alone other) h = absurd
     (let never = subst (λ (o : Option Nodes). IsSome o) (alone others) h in cc)
 
@@ -272,7 +272,7 @@ merged_body r S m k n h =
 -- of a call with as many arguments as the function has parameters
 pub merged_call : (k : Catalog) (name : List ℕ) (r : RoutineRecord) (first count : ℕ)
     (old new : Draft) (s : Scalar) →
-    routine_named name k ≡ FunctionTree false r.head.parameters r.head.returns (tree_of k r.body) →
+    routine_named name k ≡ Returned r.head.parameters r.head.returns (tree_of k r.body) →
     length r.head.parameters ≡ count → (drafted old).width ≡ first + count →
     Emits old new s (moved (record { by = (drafted old).width; from = first }) 0 (own_plan k r)) →
     Emits old new s (emit_body (routine_named name k) (width_in k) (passed first count)

@@ -13,7 +13,7 @@ use Rattle.rel_algebra.specs.declared.plan.Plan.{Plan}
 use Rattle.rel_algebra.specs.declared.plan.ScalarRow.{ScalarRow}
 use Rattle.rel_algebra.specs.declared.scalar.Scalar.{Scalar as ScalarCode}
 use Rattle.rel_algebra.specs.Plan.{Scalars, PlanTree, Nodes, no_node, extend, apply, filter, keep}
-use Rattle.rel_algebra.specs.Plan.{cross, left_outer, extend_by, apply_by}
+use Rattle.rel_algebra.specs.Plan.{cross, left_outer, extend_by, apply_by, anew}
 use Rattle.rel_algebra.specs.PlanView.{scalar_of, scalars_of, lists_of, kind_of, leaf_of, tree_of}
 use Rattle.rel_algebra.specs.PlanView.{with_node, with_nodes, node_of, run_of}
 use Rattle.rel_algebra.specs.Merged.{Move, moved_scalar, moved_scalars, moved_lists, moved_kind}
@@ -104,10 +104,10 @@ apply_moved v d row n w copy k kind p plan held r is one how inner same =
     ap (λ q. moved_tree v q (tree_of p)) level in
     subst (λ (m : Node). IsMoved v d m (Apply copy kind held)) (sym is) (record {
       over = λ t. with-Apply copy kind held (moved_tree v d t) ∙
-          (λ j. apply (first j) (second j) (third j) (moved_tree v d t)) ∙
+          (λ j. apply (first j) (second j) anew (third j) (moved_tree v d t)) ∙
           ap (moved_tree v d) (sym (with-Apply w k p t));
       below = λ others. below-Apply copy kind held (moved_nodes v (suc d) others) ∙
-          (λ j. apply_by (first j) (second j) (third j) (moved_nodes v (suc d) others))
+          (λ j. apply_by (first j) (second j) anew (third j) (moved_nodes v (suc d) others))
           ∙ ap (moved_nodes v (suc d)) (sym (below-Apply w k p others));
     })
 

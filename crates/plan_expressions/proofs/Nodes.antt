@@ -18,7 +18,7 @@ use Rattle.rel_algebra.specs.declared.plan.Plan.{Plan}
 use Rattle.rel_algebra.specs.declared.plan.ApplyKind.{ApplyKind}
 use Rattle.rel_algebra.specs.Plan.{PlanTree, unit_row, extend, apply, filter, keep, cross}
 use Rattle.rel_algebra.specs.Plan.{left_outer, settle, group, sort, Nodes, no_node, extend_by}
-use Rattle.rel_algebra.specs.Plan.{apply_by, on_each}
+use Rattle.rel_algebra.specs.Plan.{apply_by, on_each, anew}
 use Rattle.rel_algebra.specs.Emit.{is_plain}
 use Rattle.rel_algebra.specs.PlanView.{NodeTree, node_step, plan_step, node_of, with_node}
 use Rattle.rel_algebra.specs.PlanView.{with_nodes, run_of, leaf_of, tree_of, scalar_of, scalars_of}
@@ -81,7 +81,7 @@ pub with-Extend : (ss : List ScalarCode) (p : PlanTree) →
 with-Extend ss p = ap (λ (n : NodeTree). n.over p) (node_of-Extend ss)
 
 pub with-Apply : (s : ScalarCode) (k : ApplyKind) (i : Plan) (p : PlanTree) →
-    with_node (Apply s k i) p ≡ apply (scalar_of s) (kind_of k) (tree_of i) p
+    with_node (Apply s k i) p ≡ apply (scalar_of s) (kind_of k) anew (tree_of i) p
 with-Apply s k i p = ap (λ (n : NodeTree). n.over p) (node_of-Apply s k i)
 
 pub with-Filter : (s : ScalarCode) (p : PlanTree) → with_node (Filter s) p ≡ filter (scalar_of s) p
@@ -113,7 +113,7 @@ pub below-Extend : (ss : List ScalarCode) (rest : Nodes) →
 below-Extend ss rest = ap (λ (n : NodeTree). n.below rest) (node_of-Extend ss)
 
 pub below-Apply : (s : ScalarCode) (k : ApplyKind) (i : Plan) (rest : Nodes) →
-    (node_of (Apply s k i)).below rest ≡ apply_by (scalar_of s) (kind_of k) (tree_of i) rest
+    (node_of (Apply s k i)).below rest ≡ apply_by (scalar_of s) (kind_of k) anew (tree_of i) rest
 below-Apply s k i rest = ap (λ (n : NodeTree). n.below rest) (node_of-Apply s k i)
 
 pub below-Filter : (s : ScalarCode) (rest : Nodes) → (node_of (Filter s)).below rest ≡ rest
@@ -193,10 +193,10 @@ pub on_each-not_unit : (a : Nodes) (p : PlanTree) → is_unit_row p ≡ false �
     is_unit_row (on_each a p) ≡ false
 on_each-not_unit no_node p h = h
 on_each-not_unit (extend_by ss a) p h = on_each-not_unit a (extend ss p) refl
-on_each-not_unit (apply_by when kind inner a) p h =
-    on_each-not_unit a (apply when kind inner p) refl
+on_each-not_unit (apply_by when kind way inner a) p h =
+    on_each-not_unit a (apply when kind way inner p) refl
 
 pub plain_unit : (a : Nodes) → is_unit_row (on_each a unit_row) ≡ is_plain a
 plain_unit no_node = refl
 plain_unit (extend_by ss a) = on_each-not_unit a (extend ss unit_row) refl
-plain_unit (apply_by when kind inner a) = on_each-not_unit a (apply when kind inner unit_row) refl
+plain_unit (apply_by when kind way inner a) = on_each-not_unit a (apply when kind way inner unit_row) refl

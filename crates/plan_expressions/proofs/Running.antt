@@ -13,7 +13,7 @@ use Rattle.rel_algebra.specs.declared.plan.Plan.{Plan}
 use Rattle.rel_algebra.specs.declared.plan.ApplyKind.{ApplyKind}
 use Rattle.rel_algebra.specs.declared.scalar.Scalar.{Scalar as ScalarCode}
 use Rattle.rel_algebra.specs.Plan.{Scalar, Scalars, Kind, PlanTree, unit_row, extend, apply, Nodes}
-use Rattle.rel_algebra.specs.Plan.{no_node, extend_by, apply_by, on_each}
+use Rattle.rel_algebra.specs.Plan.{no_node, extend_by, apply_by, on_each, anew}
 use Rattle.rel_algebra.specs.PlanView.{leaf_of, scalar_of, scalars_of, kind_of, tree_of, with_node}
 use Rattle.rel_algebra.specs.PlanView.{with_nodes, run_of}
 use Rattle.rel_algebra.specs.Emit.{joined_nodes}
@@ -27,15 +27,15 @@ use Rattle.plan_expressions.proofs.Nodes.{with-Sort, below-Extend, below-Apply, 
 abbrev pub run_in : PlanTree → Nodes → Option Nodes
 run_in unit_row above = Some above
 run_in (extend ss input) above = run_in input (extend_by ss above)
-run_in (apply when kind inner input) above = run_in input (apply_by when kind inner above)
+run_in (apply when kind way inner input) above = run_in input (apply_by when kind way inner above)
 run_in _ above = None
 
 run_in-on_each : (a : Nodes) (t : PlanTree) (above : Nodes) →
     run_in (on_each a t) above ≡ run_in t (joined_nodes a above)
 run_in-on_each no_node t above = refl
 run_in-on_each (extend_by ss a) t above = run_in-on_each a (extend ss t) above
-run_in-on_each (apply_by when kind inner a) t above =
-    run_in-on_each a (apply when kind inner t) above
+run_in-on_each (apply_by when kind way inner a) t above =
+    run_in-on_each a (apply when kind way inner t) above
 
 abbrev after_run : Option Nodes → (Nodes → Option Nodes) → Option Nodes
 after_run None f = None
@@ -47,7 +47,7 @@ after_extended ss None t = refl
 after_extended ss (Some a) t = refl
 
 after_applied : (w : Scalar) (k : Kind) (i : PlanTree) (o : Option Nodes) (t : PlanTree) →
-    after_run o (run_in (apply w k i t)) ≡ after_run (applied w k i o) (run_in t)
+    after_run o (run_in (apply w k anew i t)) ≡ after_run (applied w k i o) (run_in t)
 after_applied w k i None t = refl
 after_applied w k i (Some a) t = refl
 
@@ -167,7 +167,7 @@ run_applied : (s : ScalarCode) (k : ApplyKind) (i : Plan) (ns : List Node) (a : 
     applied (scalar_of s) (kind_of k) (tree_of i) o ≡ Some a → run_of (Apply s k i ∷ ns) ≡ a
 run_applied s k i ns a None f h = let never = h in cc
 run_applied s k i ns a (Some b) f h =
-    below-Apply s k i (run_of ns) ∙ ap (λ x. apply_by (scalar_of s) (kind_of k) (tree_of i) x)
+    below-Apply s k i (run_of ns) ∙ ap (λ x. apply_by (scalar_of s) (kind_of k) anew (tree_of i) x)
     (f b refl) ∙ ap or_none h
 
 run_begun : (n : Node) (ns : List Node) (a : Nodes) → Adding n →

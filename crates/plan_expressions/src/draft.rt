@@ -1,7 +1,7 @@
 //! A plan in the making: nodes are put over it one by one.
 
 ghost use Rattle.std.specs.Prelude.{◌≡◌, ◌+◌, length, Some, OnOk};
-ghost use Rattle.rel_algebra.specs.Plan.{extend, apply, kind_width, filter, keep, cross};
+ghost use Rattle.rel_algebra.specs.Plan.{extend, apply, anew, kind_width, filter, keep, cross};
 ghost use Rattle.rel_algebra.specs.Plan.{left_outer, settle, group, sort, unit_row, on_each, Nodes};
 ghost use Rattle.rel_algebra.specs.PlanView.{scalar_of, scalars_of, kind_of, aggregates_of};
 ghost use Rattle.rel_algebra.specs.PlanView.{leaf_of, tree_of, run_of};
@@ -93,7 +93,7 @@ impl Draft {
     /// is true.
     pub fn apply(&mut self, when: Scalar, kind: ApplyKind, inner: Plan) -> Result<(), NoMemory>
         ensures tree { OnOk result ((drafted self.new).tree ≡ apply (scalar_of when) (kind_of kind)
-            (tree_of inner) (drafted self.old).tree) }
+            anew (tree_of inner) (drafted self.old).tree) }
         ensures width { OnOk result ((drafted self.new).width ≡ (drafted self.old).width +
             kind_width (kind_of kind)) }
     {

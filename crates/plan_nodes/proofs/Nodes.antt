@@ -27,7 +27,7 @@ use Rattle.row_types.specs.declared.aggregate_column.AggregateColumn.{AggregateC
 use Rattle.row_types.specs.declared.sort_key.SortKey.{SortKey}
 use Rattle.rel_algebra.specs.Plain.{Inputs}
 use Rattle.rel_algebra.specs.Plan.{PlanTree, den, each, kept, sight, cell_of, extend, apply, filter}
-use Rattle.rel_algebra.specs.Plan.{keep, cross, left_outer, settle, group, sort}
+use Rattle.rel_algebra.specs.Plan.{anew, keep, cross, left_outer, settle, group, sort}
 use Rattle.rel_algebra.specs.PlanView.{NodeTree, node_step, plan_step, node_of, tree_of, with_node}
 use Rattle.rel_algebra.specs.PlanView.{with_nodes, run_of, kind_of, scalar_of, scalars_of}
 use Rattle.rel_algebra.specs.PlanView.{aggregates_of}
@@ -100,7 +100,7 @@ over_extend ss input = ap (λ n. with_node n input) (sym (rolls-Extend ss)) ∙
     ap (λ (t : NodeTree). t.over input) (node_is (Node-F.Extend ss))
 
 pub over_apply : (when : Scalar) (kind : ApplyKind) (inner : Plan) (input : PlanTree) →
-    with_node (Apply when kind inner) input ≡ apply (scalar_of when) (kind_of kind)
+    with_node (Apply when kind inner) input ≡ apply (scalar_of when) (kind_of kind) anew
     (tree_of inner) input
 over_apply when kind inner input =
     ap (λ n. with_node n input) (sym (rolls-Apply when kind inner)) ∙

@@ -16,7 +16,8 @@ use Rattle.rel_algebra.specs.Tree.{Single, Exists, In}
 use Rattle.rel_algebra.specs.declared.scalar.Scalar.{Scalar as ScalarCode}
 use Rattle.rel_algebra.specs.Joins.{numbered, from_width}
 use Rattle.rel_algebra.specs.Plan.{strict, Scalar, constant, column, word, Scalars, none, more}
-use Rattle.rel_algebra.specs.Plan.{PlanTree, member, aggregate, apply, apply_by, no_node, on_each}
+use Rattle.rel_algebra.specs.Plan.{PlanTree, member, aggregate, apply, anew, apply_by, no_node}
+use Rattle.rel_algebra.specs.Plan.{on_each}
 use Rattle.rel_algebra.specs.PlanView.{scalar_of, scalars_of}
 use Rattle.rel_algebra.specs.Emit.{Env, Emitted, EmittedAll, Folded, width, plain, ask_member}
 use Rattle.rel_algebra.specs.Emit.{folding, first_value, row_stands, if_values, folded, folded_env}
@@ -103,15 +104,15 @@ member_emits None a inner start now new sought s first second =
     record {
       tree =
           second.tree ∙
-          (λ j. on_each (apply_by (constant (Truth true)) (member (first.scalar j)) inner no_node)
+          (λ j. on_each (apply_by (constant (Truth true)) (member (first.scalar j)) anew inner no_node)
           (first.tree j))
-          ∙ sym (on_each-joined a.nodes (apply_by (constant (Truth true)) (member a.scalar) inner
+          ∙ sym (on_each-joined a.nodes (apply_by (constant (Truth true)) (member a.scalar) anew inner
           no_node) (drafted start).tree);
       columns =
           second.columns ∙
-          (λ j. width (apply_by (constant (Truth true)) (member (first.scalar j)) inner no_node)
+          (λ j. width (apply_by (constant (Truth true)) (member (first.scalar j)) anew inner no_node)
           (first.columns j))
-          ∙ sym (width-joined a.nodes (apply_by (constant (Truth true)) (member a.scalar) inner
+          ∙ sym (width-joined a.nodes (apply_by (constant (Truth true)) (member a.scalar) anew inner
           no_node) n);
       scalar = second.scalar ∙ ap (column 0) first.columns;
     }
@@ -256,7 +257,7 @@ pub fold_emits : (k : Catalog) (s : BoundSelect) (g : BoundGrouping) (e within :
     (drafted rows).width (drafted rows).tree →
     first ≡ (drafted old).width → count ≡ length g.aggregates → within ≡ folded_env e first count →
     (drafted applied).tree ≡ apply (constant (Truth true)) (aggregate (numbered 0 aggregates))
-    (drafted input).tree (drafted old).tree →
+    anew (drafted input).tree (drafted old).tree →
     (drafted applied).width ≡ (drafted old).width + length aggregates →
     EmitsAll applied new (scalars_of list) (emit_all (exprs_of k items) (width_in k) within
     (drafted applied).width) →
@@ -291,7 +292,7 @@ fold_emits k s g e within from parts tests items aggregates rows input old appli
     subst (λ (o : Option Folded). EmitsFolded old new (Some list) o) (sym there) (record {
       tree = d.tree ∙ (λ j. on_each (same j).nodes (tree j)) ∙
           ap (λ (xs : List Aggregate). on_each c.nodes
-          (apply (constant (Truth true)) (aggregate (numbered 0 xs)) (drafted input).tree
+          (apply (constant (Truth true)) (aggregate (numbered 0 xs)) anew (drafted input).tree
           (drafted old).tree)) a;
       columns = d.columns ∙ (λ j. width (same j).nodes (wide_is j)) ∙ ap (width c.nodes) (sym long);
       scalars = d.scalars ∙ ap (λ y. y.scalars) same;

@@ -294,7 +294,7 @@ single_plan k e (x ∷ y ∷ rs) r h is = absurd (omega (arith, h))
 pub plain-width : (a : Nodes) (n : ℕ) → is_plain a ≡ true → width a n ≡ n
 plain-width no_node n h = refl
 plain-width (extend_by ss a) n h = absurd (let never = h in cc)
-plain-width (apply_by when kind inner a) n h = absurd (let never = h in cc)
+plain-width (apply_by when kind way inner a) n h = absurd (let never = h in cc)
 
 pub record Plains (k : Catalog) (e : Env) (rs : List BoundRow) (i : ℕ) (held : List ScalarRow) :
     Type 0 where

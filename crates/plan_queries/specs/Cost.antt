@@ -3,7 +3,7 @@
 use Rattle.std.specs.Prelude.{ℕ, ◌+◌, List, [], ◌∷◌, Option, Some, None}
 use Rattle.rel_algebra.specs.Tree.{Expr, Chain, Operate, And, Or, Case, CaseOf, Coalesce, In}
 use Rattle.rel_algebra.specs.Tree.{Exists, Single, Call, Links, NoLink, MoreLinks, Exprs, NoExpr}
-use Rattle.rel_algebra.specs.Tree.{MoreExprs, Routine, Function, Rows, NoRow, MoreRows, From, Table}
+use Rattle.rel_algebra.specs.Tree.{MoreExprs, Routine, Returned, Rows, NoRow, MoreRows, From, Table}
 use Rattle.rel_algebra.specs.Tree.{Derived, Cross, Inner, LeftOuter, Query, Select, Grouped, Values}
 use Rattle.rel_algebra.specs.Tree.{Ordered}
 use Rattle.catalog_store.specs.View.{Joining, after_comma, crossing, matching, matching_or_nulls}
@@ -36,7 +36,8 @@ abbrev mutual
   costs (MoreExprs e es) = cost e + costs es + 1
 
   pub routine_cost : Routine → ℕ
-  routine_cost (Function calls_itself parameters returns e) = cost e + 1
+  routine_cost (Returned parameters returns e) = cost e + 1
+  routine_cost _ = 1
 
   pub rows_cost : Rows → ℕ
   rows_cost NoRow = 1

@@ -3,7 +3,7 @@
 use Rattle.std.specs.Prelude.{◌≡◌, ℕ, true, List, Option, None, Some}
 use Rattle.sql_values.specs.declared.value.Value.TheVariants.{Bool as Truth}
 use Rattle.rel_algebra.specs.declared.scalar.Scalar.{Scalar as ScalarCode}
-use Rattle.rel_algebra.specs.Plan.{constant, aggregate, apply_by}
+use Rattle.rel_algebra.specs.Plan.{constant, aggregate, apply_by, anew}
 use Rattle.rel_algebra.specs.PlanView.{scalars_of}
 use Rattle.rel_algebra.specs.Emit.{EmittedAll, Folded}
 use Rattle.plan_expressions.specs.declared.draft.Draft.{Draft}
@@ -13,7 +13,7 @@ use Rattle.plan_expressions.specs.Emission.{EmitsAll}
 -- an Apply of the aggregates, and the list on the row that has them
 abbrev pub fold_list : Folded → ℕ → EmittedAll
 fold_list f n = record {
-  nodes = apply_by (constant (Truth true)) (aggregate f.aggregates) f.input
+  nodes = apply_by (constant (Truth true)) (aggregate f.aggregates) anew f.input
       (f.list n).nodes;
   scalars = (f.list n).scalars;
 }

@@ -2,7 +2,7 @@
 
 ghost use Rattle.std.specs.Prelude.{◌≡◌, false, List, IfOk};
 ghost use Rattle.sql_values.specs.declared.value.SqlType.{SqlType as TypeOf};
-ghost use Rattle.rel_algebra.specs.Tree.{Function};
+ghost use Rattle.rel_algebra.specs.Tree.{Returned};
 ghost use Rattle.rel_algebra.specs.Emit.{emit_body, top};
 ghost use Rattle.catalog_store.specs.Catalog.{Catalog as PlainCatalog};
 ghost use Rattle.catalog_store.specs.Entries.{object_of, ObjectFits, IsPlanned};
@@ -29,7 +29,7 @@ pub fn plan_function(
     catalog: &Catalog,
 ) -> Result<FunctionPlan, NoMemory>
     ensures { IfOk result (λ p. (types : List TypeOf) → IsPlan p
-        (emit_body (Function false types returns (tree_of catalog.now returned.now))
+        (emit_body (Returned types returns (tree_of catalog.now returned.now))
         (width_in catalog.now) (top parameters) 0)) }
 {
     let mut draft = Draft::over(alloc, Leaf::Unit, 0);

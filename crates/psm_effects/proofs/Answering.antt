@@ -1,11 +1,11 @@
 -- The answer of a query's plan is how the query ends; and what a change of rows makes of it.
 use Rattle.std.proofs.Common.{◌≡◌, ℕ, suc, List, [], ◌∷◌, length, Ok, Err, refl, sym, ap, ◌∙◌}
-use Rattle.std.proofs.Common.{subst}
+use Rattle.std.proofs.Common.{subst, Bool, true, false, if◌then◌else◌}
 use Rattle.row_types.specs.Rows.{Row}
 use Rattle.row_types.specs.Cells.{PlanRow, value_rows, cells_end, with_value, with_values}
 use Rattle.rel_algebra.specs.Tree.{Query}
 use Rattle.rel_algebra.specs.World.{World, Ends, Eval, Gives, Raises, ◌>>=◌, after, unit_of, unit}
-use Rattle.rel_algebra.specs.World.{no_self, no_frame}
+use Rattle.rel_algebra.specs.World.{no_self, no_frame, with_tables}
 use Rattle.rel_algebra.specs.Meaning.{answer, ask, carried}
 use Rattle.rel_algebra.specs.Endings.{Ending}
 use Rattle.rel_algebra.specs.Plan.{shown, shown_rows}
@@ -15,7 +15,8 @@ use Rattle.plan_exec.specs.declared.collecting.Answer.{Answer}
 use Rattle.plan_exec.specs.declared.collecting.Answer.TheVariants.{Rows, Raised}
 use Rattle.std.specs.Prelude.{Result, IfOk}
 use Rattle.sql_texts.specs.declared.memory.NoMemory.{NoMemory}
-use Rattle.sql_conditions.specs.Conditions.{Area}
+use Rattle.sql_conditions.specs.Conditions.{Area, state_in}
+use Rattle.sql_conditions.specs.States.{is_exception}
 use Rattle.reply_text.specs.Texts.{rows_text, area_text}
 use Rattle.run_choices.specs.declared.stop.Stop.{Stop}
 use Rattle.run_choices.specs.declared.stop.Stop.TheVariants as stop
@@ -73,6 +74,15 @@ all_values (Raised s) (Err area) h = tt
 
 -- ---- changes of rows
 
+-- a unit that raises in the world in which it began leaves that, taken back or not
+same_world : (b : Bool) (w : World) → (if b then with_tables w w.tables else w) ≡ w
+same_world true w = refl
+same_world false w = refl
+
+unit_raises : {A : Type 0} (area : Area) (w : World) →
+    unit_of {A = A} w (Raises area w) ≡ Raises area w
+unit_raises area w = ap (Raises area) (same_world (is_exception (state_in area)) w)
+
 given_unit : (go : List Row → Eval ℕ) (q : Query) (rows : List Row) (w : World) →
     answer q no_self [] no_frame w ≡ Gives rows w
     → unit (answer q no_self [] no_frame >>= go) w ≡ unit (go rows) w
@@ -81,7 +91,8 @@ given_unit go q rows w h = ap (λ (e : Ends (List Row)). unit_of w (after e go))
 raised_unit : (go : List Row → Eval ℕ) (q : Query) (area : Area) (w : World) →
     answer q no_self [] no_frame w ≡ Raises area w
     → unit (answer q no_self [] no_frame >>= go) w ≡ Raises area w
-raised_unit go q area w h = ap (λ (e : Ends (List Row)). unit_of w (after e go)) h
+raised_unit go q area w h =
+    ap (λ (e : Ends (List Row)). unit_of w (after e go)) h ∙ unit_raises area w
 
 -- a change ends as it is made of its plan's rows, or as its plan raises
 pub given_ends : (go : List Row → Eval ℕ) (q : Query) (rows : List PlanRow) (old new : Content)
@@ -127,7 +138,8 @@ pub area_effect : (known : Catalog) (w : Content) (q : Query) (area : Area)
     (database known w.memory))
 area_effect known w q area (Ok r) h says =
     let db = database known w.memory in
-    let effect_is = ap (λ (e : Ends (List Row)). replied rows_text db (unit_of (world_of w) e)) h in (
+    let effect_is = ap (λ (e : Ends (List Row)). replied rows_text db (unit_of (world_of w) e)) h ∙
+    ap (λ (e : Ends (List Row)). replied rows_text db e) (unit_raises area (world_of w)) in (
       says ∙ sym (ap (λ (e : Effect). e.reply) effect_is),
       sym
           (ap (λ (e : Effect). e.after) effect_is),

@@ -8,7 +8,10 @@ use Rattle.atomic_undo.specs.Undo.{back_to}
 use Rattle.atomic_undo.proofs.Laws.{back_to-end}
 use Rattle.run_expressions.specs.Content.{Content, world_of, Stays, IsBackAt}
 use Rattle.psm_effects.specs.Effects.{replied}
-use Rattle.psm_effects.specs.Conclusions.{database, IsEffect, KeepsShapes}
+use Rattle.run_choices.specs.declared.stop.Stop.{Stop}
+use Rattle.run_choices.specs.declared.stop.Stop.TheVariants.{Raised, Spent}
+use Rattle.run_choices.specs.declared.stop.Stop.TheVariants.{NoMemory as WantOfMemory}
+use Rattle.psm_effects.specs.Conclusions.{database, IsEffect, IsStopped, KeepsShapes}
 use Rattle.psm_effects.specs.Shapes.{shapes_of}
 use Rattle.psm_effects.proofs.Shapes.{shapes-undone}
 
@@ -57,4 +60,16 @@ pub given_shapes : (mark : ℕ) (old ran new : Content) (result : Result (List �
 given_shapes mark old ran new (Ok r) at stays left back =
     ap (λ (c : Content). shapes_of c.memory.tables) left ∙ shapes_stay old ran stays
 given_shapes mark old ran new (Err e) at stays left back =
+    ap shapes_of (tables_back mark old ran new at stays back)
+
+-- only rows change where a statement stops
+pub stopped_shapes : (stop : Stop) (mark : ℕ) (old ran new : Content)
+    (result : Result (List ℕ) NoMemory) → mark ≡ length old.book.entries → Stays old ran →
+    IsStopped stop mark ran new result → KeepsShapes old.memory new.memory
+stopped_shapes (Raised area) mark old ran new (Ok r) at stays (says, left) =
+    ap (λ (c : Content). shapes_of c.memory.tables) left ∙ shapes_stay old ran stays
+stopped_shapes Spent mark old ran new (Ok r) at stays (says, back) =
+    ap shapes_of (tables_back mark old ran new at stays back)
+stopped_shapes WantOfMemory mark old ran new (Ok r) at stays never = absurd never
+stopped_shapes stop mark old ran new (Err e) at stays back =
     ap shapes_of (tables_back mark old ran new at stays back)

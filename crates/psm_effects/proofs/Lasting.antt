@@ -3,7 +3,7 @@ use Rattle.std.proofs.Common.{ℕ, List, refl}
 use Rattle.rel_algebra.specs.Lasting.{Lasts, LinksLast, AllLast, RoutineLasts, RowsLast, FromLasts}
 use Rattle.rel_algebra.specs.Lasting.{QueryLasts}
 use Rattle.rel_algebra.specs.Tree.{And, Call, CallSelf, Case, CaseOf, Chain, Coalesce, Column}
-use Rattle.rel_algebra.specs.Tree.{Cross, Derived, Exists, Expr, Exprs, From, Function, Grouped, In}
+use Rattle.rel_algebra.specs.Tree.{Cross, Derived, Exists, Expr, Exprs, From, Grouped, In, Returned}
 use Rattle.rel_algebra.specs.Tree.{Inner, LeftOuter, Links, Literal, MoreExprs, MoreLinks, MoreRows}
 use Rattle.rel_algebra.specs.Tree.{NoExpr, NoLink, NoRow, Operate, Or, Ordered, Query, Routine}
 use Rattle.rel_algebra.specs.Tree.{Rows, Select, Single, Table, Values, Variable}
@@ -41,7 +41,8 @@ module _ (S : List ℕ → ℕ) where
     all_last (MoreExprs x es) = (expr_lasts x, all_last es)
 
     routine_lasts : (r : Routine) → RoutineLasts r S S
-    routine_lasts (Function calls_itself types returns x) = expr_lasts x
+    routine_lasts (Returned types returns x) = expr_lasts x
+    routine_lasts _ = tt
 
     rows_last : (rs : Rows) → RowsLast rs S S
     rows_last NoRow = tt

@@ -38,8 +38,7 @@ own_plan q widths p is_planned p_is = record {
       means_passing q no_frame w is_planned fits
       ∙ ap (λ (t : PlanTree). carried (collected (den t (over w.tables) [])) w)
       (sym (p_is ∙ lasting_plans.queries q widths (table_width w.tables) (top 0) lasts));
-  closed = λ names. ap (λ (t : PlanTree). tree_within t 0) p_is ∙
-      closed_plans.queries q widths 0 names;
+  closed = ap (λ (t : PlanTree). tree_within t 0) p_is ∙ closed_plans.queries q widths 0;
   fits = λ shaped. ap (λ (t : PlanTree). tree_fits t widths [] 0) p_is ∙
       well_formed_plans.queries q widths 0 shaped;
 }

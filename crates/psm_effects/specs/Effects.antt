@@ -16,7 +16,6 @@ use Rattle.catalog_store.specs.Users.{without}
 use Rattle.catalog_store.specs.View.{query_of}
 use Rattle.data_change.specs.Writing.{insert, update, delete}
 use Rattle.reply_text.specs.Texts.{rows_text, done_text, area_text, spent_text}
-use Rattle.psm_effects.specs.declared.budget.TheConstants.{DEFAULT_BUDGET}
 use Rattle.psm_effects.specs.Database.{Plain, with_tables}
 
 -- what a statement replies, and the database that it leaves
@@ -25,8 +24,8 @@ pub record Effect : Type 0 where
   pub after : Plain
 
 -- the tables, with the turns of a statement, and no function that calls itself is active
-abbrev pub world_of : Tables → World
-world_of tables = record { tables = tables; turns = DEFAULT_BUDGET; active = 0 }
+abbrev pub world_of : ℕ → Tables → World
+world_of budget tables = record { tables = tables; turns = budget; active = 0 }
 
 -- a new table is empty
 abbrev pub with_table_of : List ℕ → Object → Tables → Tables
@@ -72,24 +71,25 @@ replied text db (RunsOut w) = record { reply = spent_text; after = db }
 abbrev pub changed_text : ℕ → List ℕ
 changed_text count = done_text [] (Some count)
 
--- INSERT, with the places of the columns that it lists, where it lists some
-abbrev pub inserted : BoundInsert → Option (List ℕ) → Plain → Effect
-inserted s listed db = replied changed_text db
-    (insert s.table listed (query_of db.catalog s.source) (world_of db.tables))
+-- INSERT, with so many turns and the places of the columns that it lists, where it lists some
+abbrev pub inserted : ℕ → BoundInsert → Option (List ℕ) → Plain → Effect
+inserted budget s listed db = replied changed_text db
+    (insert s.table listed (query_of db.catalog s.source) (world_of budget db.tables))
 
 -- UPDATE
-abbrev pub updated : BoundUpdate → Plain → Effect
-updated s db = replied changed_text db
-    (update s.table s.targets (query_of db.catalog s.rows) (world_of db.tables))
+abbrev pub updated : ℕ → BoundUpdate → Plain → Effect
+updated budget s db = replied changed_text db
+    (update s.table s.targets (query_of db.catalog s.rows) (world_of budget db.tables))
 
 -- DELETE
-abbrev pub deleted : BoundDelete → Plain → Effect
-deleted s db = replied changed_text db
-    (delete s.table (query_of db.catalog s.rows) (world_of db.tables))
+abbrev pub deleted : ℕ → BoundDelete → Plain → Effect
+deleted budget s db = replied changed_text db
+    (delete s.table (query_of db.catalog s.rows) (world_of budget db.tables))
 
 -- a query
-abbrev pub answered : BoundQuery → Plain → Effect
-answered query db = replied rows_text db (ask (query_of db.catalog query) (world_of db.tables))
+abbrev pub answered : ℕ → BoundQuery → Plain → Effect
+answered budget query db =
+    replied rows_text db (ask (query_of db.catalog query) (world_of budget db.tables))
 
 -- what is bound alone leaves the database
 abbrev pub bound_alone : Plain → Effect

@@ -13,7 +13,6 @@ use Rattle.rel_algebra.specs.PlanView.{tree_of}
 use Rattle.rel_algebra.specs.Work.{work}
 use Rattle.rel_algebra.specs.Lasting.{QueryLasts}
 use Rattle.rel_algebra.specs.Removal.{tree_within}
-use Rattle.rel_algebra.specs.Simple.{NamesQuery}
 use Rattle.rel_algebra.specs.WellFormed.{ShapedQuery, tree_fits}
 use Rattle.psm_effects.specs.declared.prepared.Prepared.{Prepared}
 
@@ -31,8 +30,8 @@ pub record IsPrepared (q : Query) (widths : List ℕ → ℕ) (p : PlanTree) : T
   -- query's, in their order, or the first condition is the same.
   pub means : (w : World) → Fits (over w.tables) → QueryLasts q widths (table_width w.tables)
       → answer q no_self [] no_frame w ≡ carried (collected (den p (over w.tables) [])) w
-  -- where the query names nothing outside itself, its plan as a whole reads no row outside
-  pub closed : NamesQuery q 0 true → tree_within p 0 ≡ true
+  -- the plan as a whole reads no row outside, whatever the query names
+  pub closed : tree_within p 0 ≡ true
   -- where the query is well typed, each column that the plan names is there
   pub fits : ShapedQuery q widths → tree_fits p widths [] 0 ≡ true
 

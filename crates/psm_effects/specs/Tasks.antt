@@ -68,8 +68,8 @@ abbrev pub TaskFits : Catalog → Task → Type 0
 TaskFits catalog (Make change) = ChangeFits catalog change
 TaskFits catalog (Answer query) = HasPlan catalog query.now
 
--- the effect of the statement whose task it is
-abbrev pub task_effect : Task → Plain → Effect
-task_effect (Make change) db = replied changed_text db
-    (change_of change db.catalog (world_of db.tables))
-task_effect (Answer query) db = answered query.now db
+-- the effect of the statement whose task it is, with so many turns
+abbrev pub task_effect : ℕ → Task → Plain → Effect
+task_effect budget (Make change) db = replied changed_text db
+    (change_of change db.catalog (world_of budget db.tables))
+task_effect budget (Answer query) db = answered budget query.now db

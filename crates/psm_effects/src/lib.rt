@@ -2,18 +2,18 @@
 //! it replies. Each is a function of its parts; no statement is read or bound here.
 #![tactic(auto)]
 
-mod budget;
 mod change;
 mod conclude;
 mod creation;
 mod drop;
+mod law;
 mod planned;
 mod prepared;
 mod run;
 mod world;
 
-pub use budget::DEFAULT_BUDGET;
 pub use creation::create;
 pub use drop::drop_object;
+pub use law::queries_without_plans;
 pub use prepared::{Prepared, prepare_query, run_plan};
 pub use run::{run_delete, run_insert, run_query, run_update};

@@ -16,19 +16,20 @@ use sqlite_items::Items;
 use std::alloc::Global;
 use table_store::Tables;
 
-/// Does an INSERT, with the places of the columns that it lists, where it lists some. Without
+/// Does an INSERT with so many turns, and with the places of the columns that it lists, where it lists some. Without
 /// memory no table changes.
 pub fn run_insert(
     alloc: Global,
     insert: BoundInsert,
     listed: Option<Items<usize>>,
+    budget: u64,
     catalog: &Catalog,
     tables: &mut Tables,
 ) -> Result<Reply, NoMemory>
     requires whole { IsWhole (database catalog.now tables.old) }
     requires fits { HasPlan catalog.now insert.source }
     ensures ok { IfOk result (λ r. IsEffect
-        (inserted insert listed (database catalog.now tables.old)) r
+        (inserted budget insert listed (database catalog.now tables.old)) r
         (database catalog.now tables.new)) }
     ensures err { OnErr result (tables.new.tables ≡ tables.old.tables) }
     ensures whole { IsWhole (database catalog.now tables.new) }
@@ -36,58 +37,74 @@ pub fn run_insert(
     do_task(
         alloc,
         Task::Make(Change::Insert(&insert, &listed)),
+        budget,
         catalog,
         tables,
     )
 }
 
-/// Does an UPDATE. Without memory no table changes.
+/// Does an UPDATE with so many turns. Without memory no table changes.
 pub fn run_update(
     alloc: Global,
     update: BoundUpdate,
+    budget: u64,
     catalog: &Catalog,
     tables: &mut Tables,
 ) -> Result<Reply, NoMemory>
     requires whole { IsWhole (database catalog.now tables.old) }
     requires fits { MeetsRows catalog.now update.table update.rows }
-    ensures ok { IfOk result (λ r. IsEffect (updated update (database catalog.now tables.old)) r
+    ensures ok { IfOk result (λ r. IsEffect (updated budget update (database catalog.now tables.old)) r
         (database catalog.now tables.new)) }
     ensures err { OnErr result (tables.new.tables ≡ tables.old.tables) }
     ensures whole { IsWhole (database catalog.now tables.new) }
 {
-    do_task(alloc, Task::Make(Change::Update(&update)), catalog, tables)
+    do_task(
+        alloc,
+        Task::Make(Change::Update(&update)),
+        budget,
+        catalog,
+        tables,
+    )
 }
 
-/// Does a DELETE. Without memory no table changes.
+/// Does a DELETE with so many turns. Without memory no table changes.
 pub fn run_delete(
     alloc: Global,
     delete: BoundDelete,
+    budget: u64,
     catalog: &Catalog,
     tables: &mut Tables,
 ) -> Result<Reply, NoMemory>
     requires whole { IsWhole (database catalog.now tables.old) }
     requires fits { MeetsRows catalog.now delete.table delete.rows }
-    ensures ok { IfOk result (λ r. IsEffect (deleted delete (database catalog.now tables.old)) r
+    ensures ok { IfOk result (λ r. IsEffect (deleted budget delete (database catalog.now tables.old)) r
         (database catalog.now tables.new)) }
     ensures err { OnErr result (tables.new.tables ≡ tables.old.tables) }
     ensures whole { IsWhole (database catalog.now tables.new) }
 {
-    do_task(alloc, Task::Make(Change::Delete(&delete)), catalog, tables)
+    do_task(
+        alloc,
+        Task::Make(Change::Delete(&delete)),
+        budget,
+        catalog,
+        tables,
+    )
 }
 
-/// Answers a query. The tables stay those of the catalog; without memory none changes.
+/// Answers a query with so many turns. The tables stay those of the catalog; without memory none changes.
 pub fn run_query(
     alloc: Global,
     query: BoundQuery,
+    budget: u64,
     catalog: &Catalog,
     tables: &mut Tables,
 ) -> Result<Reply, NoMemory>
     requires whole { IsWhole (database catalog.now tables.old) }
     requires fits { HasPlan catalog.now query }
-    ensures ok { IfOk result (λ r. IsEffect (answered query (database catalog.now tables.old)) r
+    ensures ok { IfOk result (λ r. IsEffect (answered budget query (database catalog.now tables.old)) r
         (database catalog.now tables.new)) }
     ensures err { OnErr result (tables.new.tables ≡ tables.old.tables) }
     ensures whole { IsWhole (database catalog.now tables.new) }
 {
-    do_task(alloc, Task::Answer(&query), catalog, tables)
+    do_task(alloc, Task::Answer(&query), budget, catalog, tables)
 }

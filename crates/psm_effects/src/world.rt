@@ -11,7 +11,6 @@ ghost use Rattle.psm_effects.specs.Shapes.{IsWhole};
 ghost use Rattle.psm_effects.specs.Tasks.{task_effect, TaskFits};
 ghost use Rattle.psm_effects.specs.Conclusions.{database, IsEffect, KeepsShapes};
 
-use crate::DEFAULT_BUDGET;
 use crate::change::{Change, change_in};
 use crate::planned::planned_answer;
 use bound_trees::BoundQuery;
@@ -57,11 +56,13 @@ pub(crate) enum Task<'a> {
     Answer(&'a BoundQuery),
 }
 
-// Does a task in a world of the tables, whose reads of rows are counted by a new ledger.
+// Does a task with so many turns in a world of the tables, whose reads of rows are counted by a new
+// ledger.
 fn in_world<L: Ledger>(
     blank: Blank,
     alloc: Global,
     task: Task,
+    budget: u64,
     catalog: &Catalog,
     tables: &mut Tables,
 ) -> Result<Reply, NoMemory>
@@ -70,14 +71,14 @@ fn in_world<L: Ledger>(
     requires some { blank.parts ≡ 1 }
     requires whole { IsWhole (database catalog.now tables.old) }
     requires fits { TaskFits catalog.now task }
-    ensures ok { IfOk result (λ r. IsEffect (task_effect task.entry (database catalog.now tables.old)) r
+    ensures ok { IfOk result (λ r. IsEffect (task_effect budget task.entry (database catalog.now tables.old)) r
         (database catalog.now tables.new)) }
     ensures err { OnErr result (tables.new.tables ≡ tables.old.tables) }
     ensures shapes { KeepsShapes tables.old tables.new }
 {
     let (book, share) = blank.open();
     let mut steps = Steps::<L>::new(book, share);
-    let mut world = World::new(alloc, replace(tables, Tables::new(alloc)), DEFAULT_BUDGET);
+    let mut world = World::new(alloc, replace(tables, Tables::new(alloc)), budget);
     let reply = match task {
         Task::Make(change) => change_in(change, &mut world, catalog, &mut steps),
         Task::Answer(query) => answer_in(query, &mut world, catalog, &mut steps),
@@ -86,19 +87,20 @@ fn in_world<L: Ledger>(
     reply
 }
 
-/// Does a task in a world of the tables. Without memory no table changes.
+/// Does a task with so many turns in a world of the tables. Without memory no table changes.
 pub(crate) fn do_task(
     alloc: Global,
     task: Task,
+    budget: u64,
     catalog: &Catalog,
     tables: &mut Tables,
 ) -> Result<Reply, NoMemory>
     requires whole { IsWhole (database catalog.now tables.old) }
     requires fits { TaskFits catalog.now task }
-    ensures ok { IfOk result (λ r. IsEffect (task_effect task.entry (database catalog.now tables.old)) r
+    ensures ok { IfOk result (λ r. IsEffect (task_effect budget task.entry (database catalog.now tables.old)) r
         (database catalog.now tables.new)) }
     ensures err { OnErr result (tables.new.tables ≡ tables.old.tables) }
     ensures shapes { KeepsShapes tables.old tables.new }
 {
-    in_world::<Brand>(Blank::new(1), alloc, task, catalog, tables)
+    in_world::<Brand>(Blank::new(1), alloc, task, budget, catalog, tables)
 }

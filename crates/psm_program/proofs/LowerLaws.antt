@@ -16,15 +16,15 @@ pub some_lexing : (bytes : List ℕ) → (t : Lexing) × IsTokens bytes t
 some_lexing = lists.one_lexing
 
 -- a statement at a token has one outcome
-pub one_statement : (t : Lexing) (at : ℕ) (before : Plain) (r r' : List ℕ) (to to' : ℕ)
+pub one_statement : (budget : ℕ) (t : Lexing) (at : ℕ) (before : Plain) (r r' : List ℕ) (to to' : ℕ)
     (after after' : Plain)
-    → Statement t at before r to after → Statement t at before r' to' after' → (r ≡ r') ×
-    (to ≡ to') × (after ≡ after')
+    → Statement budget t at before r to after → Statement budget t at before r' to' after' →
+    (r ≡ r') × (to ≡ to') × (after ≡ after')
 one_statement = session.one_statement
 
 -- and it always has one before the end
-pub some_statement : (t : Lexing) (at : ℕ) (before : Plain) → at < length t.tokens
-    → (reply : List ℕ) × (to : ℕ) × (after : Plain) × Statement t at before reply to after ×
+pub some_statement : (budget : ℕ) (t : Lexing) (at : ℕ) (before : Plain) → at < length t.tokens
+    → (reply : List ℕ) × (to : ℕ) × (after : Plain) × Statement budget t at before reply to after ×
     (at < to) × (to ≤ length t.tokens)
 some_statement = session.some_statement
 

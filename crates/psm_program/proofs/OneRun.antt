@@ -30,9 +30,9 @@ use Rattle.psm_program.proofs.Runs.{some_run, runs_same, runs_front}
 
 -- what a command does is determined
 Does-determined : (command : Command) (t : Lexing) → IsDetermined (Does command t) (length t.tokens)
-Does-determined Run t = record {
-  one = λ at before r r' to to' after after' p q. one_statement t at before r r' to to' after after'
-      p.1 q.1;
+Does-determined (Run budget) t = record {
+  one = λ at before r r' to to' after after' p q. one_statement budget t at before r r' to to'
+      after after' p.1 q.1;
   ends = λ before r to after p. absurd (omega (arith, p.0));
 }
 Does-determined Check t = record {
@@ -43,8 +43,8 @@ Does-determined Check t = record {
 
 -- and there is always something that it does, up to the end
 Does-goes_on : (command : Command) (t : Lexing) → AlwaysGoesOn (Does command t) (length t.tokens)
-Does-goes_on Run t at before there =
-    let s = some_statement t at before there in
+Does-goes_on (Run budget) t at before there =
+    let s = some_statement budget t at before there in
     (s.0, s.1, s.2, (there, s.3), s.4, s.5)
 Does-goes_on Check t at before there =
     let s = some_checked t at before there in

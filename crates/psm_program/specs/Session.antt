@@ -11,8 +11,8 @@ use Rattle.psm_words.specs.declared.command.Command.TheVariants.{Run, Check}
 
 -- what a command does with the statement that begins at a token
 abbrev pub Does : Command → Lexing → Step Plain
-Does Run lexing at before reply to after = (at < length lexing.tokens) ×
-    Statement lexing at before reply to after
+Does (Run budget) lexing at before reply to after = (at < length lexing.tokens) ×
+    Statement budget lexing at before reply to after
 Does Check lexing at before reply to after = (at < length lexing.tokens) ×
     Checked lexing at before reply to after
 

@@ -38,7 +38,7 @@ fn do_next(
     ensures err { OnErr result (db.new ≡ db.old) }
 {
     match command {
-        Command::Run => run_next(alloc, list, at, db),
+        Command::Run(budget) => run_next(alloc, list, at, u64::from(budget), db),
         Command::Check => check_next(alloc, list, at, db),
     }
 }

@@ -34,12 +34,12 @@ IsSome Does = (found : Noted BoundStatement) (at : Anchor) (before : Plain) → 
     (after : Plain) × Does found at before reply after
 
 -- a statement has an effect, is refused, or has a least fault
-pub some_execution : IsSome Executes
-some_execution found at before = by_faults found.faults refl found.value.runs refl
+pub some_execution : (budget : ℕ) → IsSome (Executes budget)
+some_execution budget found at before = by_faults found.faults refl found.value.runs refl
   where
     by_faults : (faults : List Fault) → found.faults ≡ faults → (runs : Bool) →
         found.value.runs ≡ runs → (reply : List ℕ) × (after : Plain) ×
-        Executes found at before reply after
+        Executes budget found at before reply after
     by_faults [] none true runs =
         (_, _, inl (record { valid = none; runs = runs; replies = refl; leaves = refl }))
     by_faults [] none false runs =

@@ -9,21 +9,21 @@ use Rattle.psm_session.proofs.Each.{some_execution, some_check, Statement-some}
 use Rattle.psm_session.proofs.One.{one_execution, one_check, Statement-one}
 pub use Rattle.psm_effects.proofs.Laws.{query_lasts}
 
-pub some_statement : (t : Lexing) (at : ℕ) (before : Plain) → at < length t.tokens
-    → (reply : List ℕ) × (to : ℕ) × (after : Plain) × Statement t at before reply to after ×
+pub some_statement : (budget : ℕ) (t : Lexing) (at : ℕ) (before : Plain) → at < length t.tokens
+    → (reply : List ℕ) × (to : ℕ) × (after : Plain) × Statement budget t at before reply to after ×
     (at < to) × (to ≤ length t.tokens)
-some_statement = Statement-some Executes some_execution
+some_statement budget = Statement-some (Executes budget) (some_execution budget)
 
 pub some_checked : (t : Lexing) (at : ℕ) (before : Plain) → at < length t.tokens
     → (reply : List ℕ) × (to : ℕ) × (after : Plain) × Checked t at before reply to after ×
     (at < to) × (to ≤ length t.tokens)
 some_checked = Statement-some Checks some_check
 
-pub one_statement : (t : Lexing) (at : ℕ) (before : Plain) (r r' : List ℕ) (to to' : ℕ)
+pub one_statement : (budget : ℕ) (t : Lexing) (at : ℕ) (before : Plain) (r r' : List ℕ) (to to' : ℕ)
     (after after' : Plain)
-    → Statement t at before r to after → Statement t at before r' to' after' → (r ≡ r') ×
-    (to ≡ to') × (after ≡ after')
-one_statement = Statement-one Executes one_execution
+    → Statement budget t at before r to after → Statement budget t at before r' to' after' →
+    (r ≡ r') × (to ≡ to') × (after ≡ after')
+one_statement budget = Statement-one (Executes budget) (one_execution budget)
 
 pub one_checked : (t : Lexing) (at : ℕ) (before : Plain) (r r' : List ℕ) (to to' : ℕ)
     (after after' : Plain)

@@ -43,24 +43,24 @@ IsOne Does = (found : Noted BoundStatement) (at : Anchor) (before : Plain) (r r'
     (after after' : Plain) → Does found at before r after → Does found at before r' after'
     → (r ≡ r') × (after ≡ after')
 
-pub one_execution : IsOne Executes
-one_execution found at before r r' after after' (inl p) (inl q) =
+pub one_execution : (budget : ℕ) → IsOne (Executes budget)
+one_execution budget found at before r r' after after' (inl p) (inl q) =
     (p.replies ∙ sym q.replies, p.leaves ∙ sym q.leaves)
-one_execution found at before r r' after after' (inl p) (inr (inl q)) =
+one_execution budget found at before r r' after after' (inl p) (inr (inl q)) =
     absurd (both_runs found p.runs q.not_run)
-one_execution found at before r r' after after' (inl p) (inr (inr q)) =
+one_execution budget found at before r r' after after' (inl p) (inr (inr q)) =
     absurd (no_least found.faults q.fault p.valid q.is_least)
-one_execution found at before r r' after after' (inr (inl p)) (inl q) =
+one_execution budget found at before r r' after after' (inr (inl p)) (inl q) =
     absurd (both_runs found q.runs p.not_run)
-one_execution found at before r r' after after' (inr (inl p)) (inr (inl q)) =
+one_execution budget found at before r r' after after' (inr (inl p)) (inr (inl q)) =
     (p.replies ∙ sym q.replies, p.leaves ∙ sym q.leaves)
-one_execution found at before r r' after after' (inr (inl p)) (inr (inr q)) =
+one_execution budget found at before r r' after after' (inr (inl p)) (inr (inr q)) =
     absurd (no_least found.faults q.fault p.valid q.is_least)
-one_execution found at before r r' after after' (inr (inr p)) (inl q) =
+one_execution budget found at before r r' after after' (inr (inr p)) (inl q) =
     absurd (no_least found.faults p.fault q.valid p.is_least)
-one_execution found at before r r' after after' (inr (inr p)) (inr (inl q)) =
+one_execution budget found at before r r' after after' (inr (inr p)) (inr (inl q)) =
     absurd (no_least found.faults p.fault q.valid p.is_least)
-one_execution found at before r r' after after' (inr (inr p)) (inr (inr q)) =
+one_execution budget found at before r r' after after' (inr (inr p)) (inr (inr q)) =
     one_fault found before r r' after after' p q
 
 pub one_check : IsOne Checks

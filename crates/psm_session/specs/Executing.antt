@@ -19,13 +19,13 @@ reply_to fault = fault_text (Name fault.kind) fault.at.line fault.at.column
 abbrev pub refusal : Anchor → List ℕ
 refusal at = reply_to (record { at = at; kind = NotPermitted })
 
--- A statement without faults has its effect.
-pub record HasEffect (found : Noted BoundStatement) (before : Plain) (reply : List ℕ)
-    (after : Plain) : Type 0 where
+-- A statement without faults has its effect, with so many turns.
+pub record HasEffect (budget : ℕ) (found : Noted BoundStatement) (before : Plain)
+    (reply : List ℕ) (after : Plain) : Type 0 where
   pub valid : found.faults ≡ []
   pub runs : found.value.runs ≡ true
-  pub replies : reply ≡ (effect found.value.bound before).reply
-  pub leaves : after ≡ (effect found.value.bound before).after
+  pub replies : reply ≡ (effect budget found.value.bound before).reply
+  pub leaves : after ≡ (effect budget found.value.bound before).after
 
 -- A statement without faults that is of a form that is not run is refused, and nothing changes.
 pub record IsRefused (found : Noted BoundStatement) (at : Anchor) (before : Plain) (reply : List ℕ)
@@ -43,9 +43,9 @@ pub record HasFault (found : Noted BoundStatement) (before : Plain) (reply : Lis
   pub replies : reply ≡ reply_to fault
   pub leaves : after ≡ before
 
--- what comes of a statement, by its anchor
-abbrev pub Executes : Noted BoundStatement → Anchor → Plain → List ℕ → Plain → Type 0
-Executes found at before reply after = HasEffect found before reply after ⊎
+-- what comes of a statement that has so many turns, by its anchor
+abbrev pub Executes : ℕ → Noted BoundStatement → Anchor → Plain → List ℕ → Plain → Type 0
+Executes budget found at before reply after = HasEffect budget found before reply after ⊎
     (IsRefused found at before reply after ⊎ HasFault found before reply after)
 
 -- ---- where it is checked alone

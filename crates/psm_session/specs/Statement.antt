@@ -55,9 +55,9 @@ abbrev pub StatementBy : Doing → Lexing → ℕ → Plain → List ℕ → ℕ
 StatementBy Does lexing at before reply to after = IsRead Does lexing at before reply to after ⊎
     IsUnread lexing at before reply to after
 
--- where statements are run
-abbrev pub Statement : Lexing → ℕ → Plain → List ℕ → ℕ → Plain → Type 0
-Statement = StatementBy Executes
+-- where statements are run, each with so many turns
+abbrev pub Statement : ℕ → Lexing → ℕ → Plain → List ℕ → ℕ → Plain → Type 0
+Statement budget = StatementBy (Executes budget)
 
 -- where they are checked alone
 abbrev pub Checked : Lexing → ℕ → Plain → List ℕ → ℕ → Plain → Type 0

@@ -137,18 +137,25 @@ impl Database {
         run_plan(self.alloc, prepared, &self.tables, steps)
     }
 
-    /// Does a statement, and answers its reply. A statement with faults in this catalog changes
-    /// nothing, and its reply is the least of them; one of a form that is not run changes nothing,
-    /// and its reply says so at its anchor. Without memory nothing changes either.
-    pub fn exec_statement(&mut self, stmt: &Stmt) -> Result<Reply, NoMemory>
-        ensures ok { IfOk result (λ reply. Executes (judged_statement stmt.now self.old.catalog)
+    /// Does a statement with so many turns, and answers its reply. A statement with
+    /// faults in this catalog changes nothing, and its reply is the least of them; one of a form
+    /// that is not run changes nothing, and its reply says so at its anchor. Without memory nothing
+    /// changes either.
+    pub fn exec_statement(&mut self, stmt: &Stmt, budget: u64) -> Result<Reply, NoMemory>
+        ensures ok { IfOk result (λ reply. Executes budget (judged_statement stmt.now self.old.catalog)
             (anchor_of stmt.now) self.old reply self.new) }
         ensures err { OnErr result (self.new ≡ self.old) }
     {
         match bind_statement(self.alloc, stmt, &self.catalog) {
             Ok(found) => {
                 if found.runs {
-                    run_bound(self.alloc, found.bound, &mut self.catalog, &mut self.tables)
+                    run_bound(
+                        self.alloc,
+                        found.bound,
+                        budget,
+                        &mut self.catalog,
+                        &mut self.tables,
+                    )
                 } else {
                     drop(found);
                     refuse(self.alloc, anchor_of(stmt))
@@ -168,9 +175,7 @@ impl Database {
         ensures err { OnErr result (self.new ≡ self.old) }
     {
         match bind_statement(self.alloc, stmt, &self.catalog) {
-            Ok(found) => {
-                check_bound(self.alloc, found.bound, &mut self.catalog, &mut self.tables)
-            }
+            Ok(found) => check_bound(self.alloc, found, &mut self.catalog, &mut self.tables),
             Err(NameFault::Fault(fault)) => name_fault(self.alloc, fault),
             Err(NameFault::NoMemory) => Err(NoMemory),
         }

@@ -9,6 +9,6 @@ mod typing;
 pub use database::Database;
 pub use next::{check_next, run_next};
 pub use plan_exec::Answer;
-pub use psm_effects::{DEFAULT_BUDGET, Prepared};
+pub use psm_effects::Prepared;
 pub use reply_text::Reply;
 pub use typing::statements_are_typed;

@@ -31,8 +31,8 @@ fn unread(
     Ok((reply, tokens.len()))
 }
 
-/// Does the statement at a token: its reply, and the token at which the next one begins, which is
-/// the number of tokens where the script ends. A statement with faults replies the least of them,
+/// Does the statement at a token with so many turns: its reply, and the token at which the next one
+/// begins, which is the number of tokens where the script ends. A statement with faults replies the least of them,
 /// changes nothing, and the script goes on after it. Where no statement is read, the reply says so
 /// with the place up to which one begins, nothing changes, and the script ends. Without memory
 /// nothing changes.
@@ -40,16 +40,17 @@ pub fn run_next(
     alloc: Global,
     tokens: &Tokens,
     at: usize,
+    budget: u64,
     db: &mut Database,
 ) -> Result<(Reply, usize), NoMemory>
     requires { at < length tokens.now.tokens }
-    ensures ok { IfOk result (λ r. Statement tokens.now at db.old r.0 r.1 db.new) }
+    ensures ok { IfOk result (λ r. Statement budget tokens.now at db.old r.0 r.1 db.new) }
     ensures goes { IfOk result (λ r. (at < r.1) × (r.1 ≤ length tokens.now.tokens)) }
     ensures err { OnErr result (db.new ≡ db.old) }
 {
     match parse_statement(alloc, tokens, at) {
         Ok((stmt, next)) => {
-            let reply = db.exec_statement(&stmt);
+            let reply = db.exec_statement(&stmt, budget);
             drop(stmt);
             Ok((reply?, next))
         }

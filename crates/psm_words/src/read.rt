@@ -1,9 +1,9 @@
 //! Reading the words.
 ghost use Rattle.std.specs.Prelude.{◌≡◌, ◌≢◌, ◌↔◌, IfOk, IsSome, None, map, option_and_then};
-ghost use Rattle.clap.specs.Words.{kind_of, subcommand_name_of};
-ghost use Rattle.psm_words.specs.Words.{IsTaken, command_named, command_of};
+ghost use Rattle.clap.specs.Words.{kind_of, subcommand_rows_of};
+ghost use Rattle.psm_words.specs.Words.{IsTaken, command_entered, command_of};
 
-use crate::command::{Command, named};
+use crate::command::{Command, entered};
 use crate::made::psm_command;
 use clap::error::ErrorKind;
 use clap::{ArgMatches, Error};
@@ -11,10 +11,10 @@ use std::alloc::{AllocError, Global};
 
 // What the subcommand of the matches asks for.
 fn command_in(matches: &ArgMatches) -> Option<Command>
-    ensures { result ≡ option_and_then command_named (subcommand_name_of matches.now) }
+    ensures { result ≡ option_and_then command_entered (subcommand_rows_of matches.now) }
 {
-    match matches.subcommand_name() {
-        Some(name) => named(name),
+    match matches.subcommand() {
+        Some((name, below)) => entered(name, below),
         None => None,
     }
 }

@@ -1,4 +1,5 @@
--- A conjunct that compares a column with a name from outside raises nothing, whichever side stands first.
+-- A conjunct that compares a column with a name from outside raises nothing, whichever side stands
+-- first.
 use Rattle.std.proofs.Common.{◌≡◌, zero, suc, [], ◌∷◌, Option, Some, None, refl, ap, ◌∙◌}
 use Rattle.sql_values.specs.declared.operators.Comparison.TheVariants.{Equals}
 use Rattle.sql_values.specs.declared.value.Value.{Value}
@@ -24,21 +25,44 @@ abbrev pub KeyRight : Option Key → Expr → Inputs → Scope → Sight → Typ
 KeyRight None x w f s = Unit {0}
 KeyRight (Some key) x w f s = KeyValue key x w f s
 
-equal_cell : (own other : Place) (s : Sight) (x y : Value) → cell_of (read own) s ≡ Val x → cell_of (read other) s ≡ Val y →
+equal_cell : (own other : Place) (s : Sight) (x y : Value) → cell_of (read own) s ≡ Val x →
+    cell_of (read other) s ≡ Val y →
     cell_of (turned own other).scalar s ≡ Val (equal_values x y)
-equal_cell own other s x y p q = both (λ (c d : Cell). strictly (op_value (Comparing Equals)) (c ∷ d ∷ [])) _ _ _ _ p q
+equal_cell own other s x y p q =
+    both (λ (c d : Cell). strictly (op_value (Comparing Equals)) (c ∷ d ∷ [])) _ _ _ _ p q
 
-pub key_right : (x : Expr) (e : Env) (w : Inputs) (f : Scope) (s : Sight) → Agrees e s f → KeyRight (key_of x e) x w f s
-key_right (Operate (Comparing Equals) (MoreExprs (Column zero i) (MoreExprs (Column (suc d) j) NoExpr))) e w f s a =
-    record { value = _; cell = equal_cell (e.columns zero i) (e.columns (suc d) j) s _ _ (a.0 zero i) (a.0 (suc d) j); means = refl }
-key_right (Operate (Comparing Equals) (MoreExprs (Column (suc d) j) (MoreExprs (Column zero i) NoExpr))) e w f s a =
+pub key_right : (x : Expr) (e : Env) (w : Inputs) (f : Scope) (s : Sight) → Agrees e s f →
+    KeyRight (key_of x e) x w f s
+key_right (Operate (Comparing Equals)
+    (MoreExprs (Column zero i) (MoreExprs (Column (suc d) j) NoExpr))) e w f s a =
     record {
       value = _;
-      cell = equal_cell (e.columns zero i) (e.columns (suc d) j) s _ _ (a.0 zero i) (a.0 (suc d) j) ∙ ap Val (equal_turned _ _);
+      cell = equal_cell (e.columns zero i) (e.columns (suc d) j) s _ _
+          (a.0 zero i) (a.0 (suc d) j);
       means = refl;
     }
-key_right (Operate (Comparing Equals) (MoreExprs (Column zero i) (MoreExprs (Variable j) NoExpr))) e w f s a =
-    record { value = _; cell = equal_cell (e.columns zero i) (e.params j) s _ _ (a.0 zero i) (a.1 j); means = refl }
-key_right (Operate (Comparing Equals) (MoreExprs (Variable j) (MoreExprs (Column zero i) NoExpr))) e w f s a =
-    record { value = _; cell = equal_cell (e.columns zero i) (e.params j) s _ _ (a.0 zero i) (a.1 j) ∙ ap Val (equal_turned _ _); means = refl }
+key_right (Operate (Comparing Equals)
+    (MoreExprs (Column (suc d) j) (MoreExprs (Column zero i) NoExpr))) e w f s a =
+    record {
+      value = _;
+      cell = equal_cell (e.columns zero i) (e.columns (suc d) j) s _ _ (a.0 zero i) (a.0 (suc d) j)
+          ∙ ap Val (equal_turned _ _);
+      means = refl;
+    }
+key_right (Operate (Comparing Equals) (MoreExprs (Column zero i) (MoreExprs (Variable j) NoExpr))) e
+    w f s a =
+    record {
+      value = _;
+      cell = equal_cell (e.columns zero i) (e.params j) s _ _ (a.0 zero i)
+          (a.1 j);
+      means = refl;
+    }
+key_right (Operate (Comparing Equals) (MoreExprs (Variable j) (MoreExprs (Column zero i) NoExpr))) e
+    w f s a =
+    record {
+      value = _;
+      cell = equal_cell (e.columns zero i) (e.params j) s _ _ (a.0 zero i) (a.1 j)
+          ∙ ap Val (equal_turned _ _);
+      means = refl;
+    }
 key_right _ e w f s a = tt

@@ -4,24 +4,39 @@ use Rattle.row_types.specs.Cells.{PlanRow}
 use Rattle.row_types.specs.Rows.{Row}
 use Rattle.row_types.specs.declared.cell.Cell.{Cell}
 use Rattle.row_types.specs.declared.cell.Cell.TheVariants.{Val}
-use Rattle.rel_algebra.specs.Emit.{at, below, emit, emit_body, given, passed, plan, read, routine_plan, singly, top}
+use Rattle.rel_algebra.specs.Emit.{at, below, emit, emit_body, given, passed, plan, read}
+use Rattle.rel_algebra.specs.Emit.{routine_plan, singly, top}
 use Rattle.rel_algebra.specs.Endings.{cell_end, row_at, value_at}
-use Rattle.rel_algebra.specs.Plain.{Inputs, Scope, answer, call, columns_in, ev, planned, planned_routine}
+use Rattle.rel_algebra.specs.Plain.{Inputs, Scope, answer, call, columns_in, ev, planned}
+use Rattle.rel_algebra.specs.Plain.{planned_routine}
 use Rattle.rel_algebra.specs.Plan.{cell_of, collected, den, shown, sight, unit_row}
-use Rattle.rel_algebra.specs.Theorem.{Fits, Means, MeansUnder, one_cell, outside, stack, under, under_columns, widths}
-use Rattle.rel_algebra.specs.Tree.{And, Call, CallSelf, Case, CaseOf, Chain, Coalesce, Column, Cross, Derived, Exists, Expr, Exprs, From, Function, Grouped, In, Inner, LeftOuter, Links, Literal, MoreExprs, MoreLinks, MoreRows, NoExpr, NoLink, NoRow, Operate, Or, Ordered, Query, Routine, Rows, Select, Single, Table, Values, Variable, parameters_of}
+use Rattle.rel_algebra.specs.Theorem.{Fits, Means, MeansUnder, one_cell, outside, stack, under}
+use Rattle.rel_algebra.specs.Theorem.{under_columns, widths}
+use Rattle.rel_algebra.specs.Tree.{And, Call, CallSelf, Case, CaseOf, Chain, Coalesce, Column}
+use Rattle.rel_algebra.specs.Tree.{Cross, Derived, Exists, Expr, Exprs, From, Returned, Grouped, In}
+use Rattle.rel_algebra.specs.Tree.{Inner, LeftOuter, Links, Literal, MoreExprs, MoreLinks, MoreRows}
+use Rattle.rel_algebra.specs.Tree.{NoExpr, NoLink, NoRow, Operate, Or, Ordered, Query, Routine}
+use Rattle.rel_algebra.specs.Tree.{Rows, Select, Single, Table, Values, Variable, parameters_of}
 use Rattle.rel_algebra.proofs.Growing.{shown_at, shown_long}
 use Rattle.rel_algebra.proofs.Folding.{Folds, exists_right, grouped_folds, in_right, single_right}
 use Rattle.rel_algebra.proofs.Lists.{RowsRight, values_means}
-use Rattle.rel_algebra.proofs.Nodes.{Yields, below_reads, outward_reads, passed_reads, singly_yields, wider}
-use Rattle.rel_algebra.proofs.Planned.{AllPlan, FromPlans, LinksPlan, Plans, QueryPlans, RoutinePlans, RowsPlan, query_plans, routine_plans}
-use Rattle.rel_algebra.proofs.Queries.{cross_makes, derived_makes, grouped_means, inner_makes, left_outer_makes, ordered_means, select_means, table_makes}
-use Rattle.rel_algebra.proofs.Right.{AllRight, BodyRight, LinksRight, Makes, QueryMeans, Right, and_right, call_right, case_of_right, case_right, chain_right, coalesce_right, column_right, literal_right, operation_right, or_right, parameter_right}
+use Rattle.rel_algebra.proofs.Nodes.{Yields, below_reads, outward_reads, passed_reads}
+use Rattle.rel_algebra.proofs.Nodes.{singly_yields, wider}
+use Rattle.rel_algebra.proofs.Planned.{AllPlan, FromPlans, LinksPlan, Plans, QueryPlans}
+use Rattle.rel_algebra.proofs.Planned.{RoutinePlans, RowsPlan, query_plans, routine_plans}
+use Rattle.rel_algebra.proofs.Queries.{cross_makes, derived_makes, grouped_means, inner_makes}
+use Rattle.rel_algebra.proofs.Queries.{left_outer_makes, ordered_means, select_means, table_makes}
+use Rattle.rel_algebra.proofs.Right.{AllRight, BodyRight, LinksRight, Makes, QueryMeans, Right}
+use Rattle.rel_algebra.proofs.Right.{and_right, call_right, case_of_right, case_right, chain_right}
+use Rattle.rel_algebra.proofs.Right.{coalesce_right, column_right, literal_right, operation_right}
+use Rattle.rel_algebra.proofs.Right.{or_right, parameter_right}
+use Rattle.rel_algebra.proofs.Truths.{never}
 use Rattle.rel_algebra.proofs.Tests.{list_cells, listed_den}
 use Rattle.rel_algebra.proofs.Words.{assigning_cell}
 use Rattle.std.proofs.Common.{ap, subst}
 
-body_long : (z : List Cell) (vs : Row) (m : ℕ) → length z ≡ m → length (z ++ shown vs) ≡ m + length vs
+body_long : (z : List Cell) (vs : Row) (m : ℕ) → length z ≡ m →
+    length (z ++ shown vs) ≡ m + length vs
 body_long z vs m l = wider z (shown vs) m (length vs) l (shown_long vs)
 
 mutual
@@ -34,7 +49,8 @@ mutual
   expr_right (And es) p = and_right es (exprs_right es p)
   expr_right (Or es) p = or_right es (exprs_right es p)
   expr_right (Case arms) p = case_right arms (exprs_right arms p)
-  expr_right (CaseOf x test result arms) p = case_of_right x test result arms (expr_right x p.0) (expr_right test p.1) (expr_right result p.2)
+  expr_right (CaseOf x test result arms) p = case_of_right x test result arms (expr_right x p.0)
+      (expr_right test p.1) (expr_right result p.2)
       (exprs_right arms p.3)
   expr_right (Coalesce es) p = coalesce_right es (exprs_right es p)
   expr_right (In x q) p = in_right x q (expr_right x p.0) (query_means q p.1) (query_folds q p.1)
@@ -52,15 +68,20 @@ mutual
   exprs_right (MoreExprs x es) p = (expr_right x p.0, exprs_right es p.1)
 
   pub body_right : (r : Routine) → RoutinePlans r → BodyRight r
-  body_right (Function calls_itself types returns x) p = λ w fits o vs m z l. λ y g.
-      let f : Scope = record { rows = []; params = vs } in let e = passed m (length vs) in let n = m + length vs in
+  body_right (Returned types returns x) p = λ w fits o vs m z l. λ y g.
+      let f : Scope = record { rows = []; params = vs } in let e = passed m (length vs) in
+      let n = m + length vs in
       assigning_cell returns (emit x (columns_in w) e n).scalar (sight w o y) (ev x w f)
-      (expr_right x p.1 w fits o f e n (z ++ shown vs) (body_long z vs m l) (passed_reads w o m z vs l) y g)
+      (expr_right x p w fits o f e n (z ++ shown vs) (body_long z vs m l)
+      (passed_reads w o m z vs l) y g)
+  body_right _ p = absurd p
 
   pub query_means : (q : Query) → QueryPlans q → QueryMeans q
-  query_means (Select items x tests) p = select_means x tests items p.1 (from_makes x p.1) (exprs_right tests p.2) (exprs_right items p.0)
+  query_means (Select items x tests) p = select_means x tests items p.1 (from_makes x p.1)
+      (exprs_right tests p.2) (exprs_right items p.0)
   query_means (Grouped x tests k items ags having list) p =
-      grouped_means x tests k items ags having list p.0 (from_makes x p.0) (exprs_right tests p.1) (exprs_right items p.2) (exprs_right having p.3)
+      grouped_means x tests k items ags having list p.0 (from_makes x p.0) (exprs_right tests p.1)
+      (exprs_right items p.2) (exprs_right having p.3)
       (exprs_right list p.4)
   query_means (Values rows) p = values_means rows p.0 (rows_right rows p.1)
   query_means (Ordered q keys) p = ordered_means q keys (query_means q p)
@@ -71,17 +92,21 @@ mutual
 
   pub query_folds : (q : Query) → QueryPlans q → Folds q
   query_folds (Grouped x tests zero items (a ∷ ags) NoExpr list) p =
-      grouped_folds x tests items a ags list p.0 (from_makes x p.0) (exprs_right tests p.1) (exprs_right items p.2) (exprs_right list p.4)
+      grouped_folds x tests items a ags list p.0 (from_makes x p.0) (exprs_right tests p.1)
+      (exprs_right items p.2) (exprs_right list p.4)
   query_folds _ p = λ w fits o f e z n l r. tt
 
   pub from_makes : (x : From) → FromPlans x → Makes x
   from_makes (Table t) p = table_makes t
   from_makes (Derived q) p = derived_makes q (query_means q p)
   from_makes (Cross a b) p = cross_makes a b p.0 p.1 (from_makes a p.0) (from_makes b p.1)
-  from_makes (Inner a b on) p = inner_makes a b on p.0 p.1 (from_makes a p.0) (from_makes b p.1) (exprs_right on p.2)
-  from_makes (LeftOuter a b on) p = left_outer_makes a b on p.0 p.1 (from_makes a p.0) (from_makes b p.1) (exprs_right on p.2)
+  from_makes (Inner a b on) p =
+      inner_makes a b on p.0 p.1 (from_makes a p.0) (from_makes b p.1) (exprs_right on p.2)
+  from_makes (LeftOuter a b on) p =
+      left_outer_makes a b on p.0 p.1 (from_makes a p.0) (from_makes b p.1) (exprs_right on p.2)
 
-args_read : (w : Inputs) (o : List (List Cell)) (i : ℕ) → cell_of (read (below (length w.args) i (given i))) (outside w o) ≡ Val (value_at w.args i)
+args_read : (w : Inputs) (o : List (List Cell)) (i : ℕ) →
+    cell_of (read (below (length w.args) i (given i))) (outside w o) ≡ Val (value_at w.args i)
 args_read w o i = below_reads w.args i (given i) (outside w o) (λ h. refl)
 
 pub means : Means
@@ -89,30 +114,41 @@ means q w o f e p fits agrees = query_means q (query_plans q p) w fits o f e agr
 
 -- a whole query
 pub whole_means : (q : Query) (w : Inputs) → planned q ≡ true → Fits w →
-    collected (den (plan q (columns_in w) (top (length w.args))) w []) ≡ answer q w (record { rows = []; params = w.args })
-whole_means q w p fits = query_means q (query_plans q p) w fits [] (record { rows = []; params = w.args }) (top (length w.args))
+    collected (den (plan q (columns_in w) (top (length w.args))) w [])
+    ≡ answer q w (record { rows = []; params = w.args })
+whole_means q w p fits = query_means q (query_plans q p) w fits []
+    (record { rows = []; params = w.args }) (top (length w.args))
     (λ d i. refl, args_read w [])
 
 under_reads : (w : Inputs) (rows : List Row) (d i : ℕ) →
-    cell_of (read (under_columns (widths rows) d i)) (outside w (stack rows)) ≡ Val (value_at (row_at rows d) i)
+    cell_of (read (under_columns (widths rows) d i)) (outside w (stack rows))
+    ≡ Val (value_at (row_at rows d) i)
 under_reads w [] d i = refl
-under_reads w (r ∷ rs) zero i = below_reads r i (at 0 i) (outside w (stack (r ∷ rs))) (λ h. shown_at r i)
-under_reads w (r ∷ rs) (suc d) i = outward_reads (under_columns (widths rs) d i) w (stack rs) (shown r) ∙ under_reads w rs d i
+under_reads w (r ∷ rs) zero i =
+    below_reads r i (at 0 i) (outside w (stack (r ∷ rs))) (λ h. shown_at r i)
+under_reads w (r ∷ rs) (suc d) i =
+    outward_reads (under_columns (widths rs) d i) w (stack rs) (shown r) ∙ under_reads w rs d i
 
 pub means_under : MeansUnder
 means_under q w rows p fits =
-    query_means q (query_plans q p) w fits (stack rows) (record { rows = rows; params = w.args }) (under (widths rows) (length w.args))
+    query_means q (query_plans q p) w fits (stack rows) (record { rows = rows; params = w.args })
+    (under (widths rows) (length w.args))
     (under_reads w rows, args_read w (stack rows))
 
 -- a function by itself
-pub routine_cells : (r : Routine) (w : Inputs) → planned_routine r ≡ true → length w.args ≡ length (parameters_of r) → Fits w →
+pub routine_cells : (r : Routine) (w : Inputs) → planned_routine r ≡ true →
+    length w.args ≡ length (parameters_of r) → Fits w →
     den (routine_plan r (columns_in w)) w [] ≡ one_cell (cell_end (call r w.args w))
-routine_cells (Function calls_itself types returns x) w p l fits =
-    let r = Function calls_itself types returns x in let f : Scope = record { rows = []; params = w.args } in
+routine_cells (Returned types returns x) w p l fits =
+    let r = Returned types returns x in let f : Scope = record { rows = []; params = w.args } in
     let b = emit_body r (columns_in w) (top (length types)) 0 in let a = singly b in
     listed_den a 0 unit_row w []
-    ∙ ap (λ (rs : List PlanRow). rs ++ []) (list_cells a 0 w [] [] (cell_end (call r w.args w) ∷ []) refl
+    ∙ ap (λ (rs : List PlanRow). rs ++ [])
+    (list_cells a 0 w [] [] (cell_end (call r w.args w) ∷ []) refl
     (singly_yields b w [] [] (cell_end (call r w.args w))
-    (λ y g. assigning_cell returns (emit x (columns_in w) (top (length types)) 0).scalar (sight w [] y) (ev x w f)
+    (λ y g. assigning_cell returns (emit x (columns_in w) (top (length types)) 0).scalar
+    (sight w [] y) (ev x w f)
     (subst (λ (k : ℕ). Yields (emit x (columns_in w) (top k) 0) w [] [] (cell_end (ev x w f))) l
-    (expr_right x (routine_plans r p).1 w fits [] f (top (length w.args)) 0 [] refl (λ z h. (λ d i. refl, λ i. args_read w (z ∷ []) i))) y g))))
+    (expr_right x (routine_plans r p) w fits [] f (top (length w.args)) 0 [] refl
+    (λ z h. (λ d i. refl, λ i. args_read w (z ∷ []) i))) y g))))
+routine_cells _ w p l fits = never p

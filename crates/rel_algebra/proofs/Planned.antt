@@ -1,10 +1,15 @@
 -- Planned trees, part by part.
 use Rattle.std.proofs.Common.{◌≡◌, Bool, true}
 use Rattle.rel_algebra.specs.Joins.{rows_width}
-use Rattle.rel_algebra.specs.Plain.{all_even, planned, planned_all, planned_expr, planned_from, planned_links, planned_routine, planned_rows}
-use Rattle.rel_algebra.specs.Tree.{And, Call, CallSelf, Case, CaseOf, Chain, Coalesce, Column, Cross, Derived, Exists, Expr, Exprs, From, Function, Grouped, In, Inner, LeftOuter, Links, Literal, MoreExprs, MoreLinks, MoreRows, NoExpr, NoLink, NoRow, Operate, Or, Ordered, Query, Routine, Rows, Select, Single, Table, Values, Variable}
+use Rattle.rel_algebra.specs.Plain.{all_even, planned, planned_all, planned_expr, planned_from}
+use Rattle.rel_algebra.specs.Plain.{planned_links, planned_routine, planned_rows}
+use Rattle.rel_algebra.specs.Tree.{And, Call, CallSelf, Case, CaseOf, Chain, Coalesce, Column}
+use Rattle.rel_algebra.specs.Tree.{Cross, Derived, Exists, Expr, Exprs, From, Returned, Grouped, In}
+use Rattle.rel_algebra.specs.Tree.{Inner, LeftOuter, Links, Literal, MoreExprs, MoreLinks, MoreRows}
+use Rattle.rel_algebra.specs.Tree.{NoExpr, NoLink, NoRow, Operate, Or, Ordered, Query, Routine}
+use Rattle.rel_algebra.specs.Tree.{Rows, Select, Single, Table, Values, Variable}
 use Rattle.rel_algebra.proofs.Truths.{left_true, never, right_true}
-use Rattle.std.proofs.Common.{◌&&◌, not}
+use Rattle.std.proofs.Common.{◌&&◌}
 
 abbrev mutual
   pub Plans : Expr → Type 0
@@ -33,7 +38,8 @@ abbrev mutual
   AllPlan (MoreExprs x es) = Plans x × AllPlan es
 
   pub RoutinePlans : Routine → Type 0
-  RoutinePlans (Function calls_itself types returns x) = (not calls_itself ≡ true) × Plans x
+  RoutinePlans (Returned types returns x) = Plans x
+  RoutinePlans _ = ⊥
 
   pub RowsPlan : Rows → Type 0
   RowsPlan NoRow = Unit {0}
@@ -48,21 +54,27 @@ abbrev mutual
 
   pub QueryPlans : Query → Type 0
   QueryPlans (Select items from tests) = AllPlan items × FromPlans from × AllPlan tests
-  QueryPlans (Grouped from tests k items ags having list) = FromPlans from × AllPlan tests × AllPlan items × AllPlan having × AllPlan list
+  QueryPlans (Grouped from tests k items ags having list) =
+      FromPlans from × AllPlan tests × AllPlan items × AllPlan having × AllPlan list
   QueryPlans (Values rows) = (all_even (rows_width rows) rows ≡ true) × RowsPlan rows
   QueryPlans (Ordered q keys) = QueryPlans q
 
 two : {A B : Type 0} (a b : Bool) → (a ≡ true → A) → (b ≡ true → B) → (a && b) ≡ true → A × B
 two a b f g p = (f (left_true a b p), g (right_true a b p))
 
-three : {A B C : Type 0} (a b c : Bool) → (a ≡ true → A) → (b ≡ true → B) → (c ≡ true → C) → (a && (b && c)) ≡ true → A × B × C
-three a b c f g h p = let rest = two b c g h (right_true a (b && c) p) in (f (left_true a (b && c) p), rest.0, rest.1)
+three : {A B C : Type 0} (a b c : Bool) → (a ≡ true → A) → (b ≡ true → B) → (c ≡ true → C) →
+    (a && (b && c)) ≡ true → A × B × C
+three a b c f g h p = let rest = two b c g h (right_true a (b && c) p) in
+    (f (left_true a (b && c) p), rest.0, rest.1)
 
-four : {A B C D : Type 0} (a b c d : Bool) → (a ≡ true → A) → (b ≡ true → B) → (c ≡ true → C) → (d ≡ true → D) → (a && (b && (c && d))) ≡ true →
+four : {A B C D : Type 0} (a b c d : Bool) → (a ≡ true → A) → (b ≡ true → B) → (c ≡ true → C) →
+    (d ≡ true → D) → (a && (b && (c && d))) ≡ true →
     A × B × C × D
-four a b c d f g h i p = let rest = three b c d g h i (right_true a (b && (c && d)) p) in (f (left_true a (b && (c && d)) p), rest.0, rest.1, rest.2)
+four a b c d f g h i p = let rest = three b c d g h i (right_true a (b && (c && d)) p) in
+    (f (left_true a (b && (c && d)) p), rest.0, rest.1, rest.2)
 
-five : {A B C D E : Type 0} (a b c d e : Bool) → (a ≡ true → A) → (b ≡ true → B) → (c ≡ true → C) → (d ≡ true → D) → (e ≡ true → E) →
+five : {A B C D E : Type 0} (a b c d e : Bool) → (a ≡ true → A) → (b ≡ true → B) → (c ≡ true → C) →
+    (d ≡ true → D) → (e ≡ true → E) →
     (a && (b && (c && (d && e)))) ≡ true → A × B × C × D × E
 five a b c d e f g h i j p =
     let rest = four b c d e g h i j (right_true a (b && (c && (d && e))) p) in
@@ -79,7 +91,8 @@ mutual
   plans (Or es) = all_plan es
   plans (Case arms) = all_plan arms
   plans (CaseOf x test result arms) =
-      four (planned_expr x) (planned_expr test) (planned_expr result) (planned_all arms) (plans x) (plans test) (plans result) (all_plan arms)
+      four (planned_expr x) (planned_expr test) (planned_expr result) (planned_all arms) (plans x)
+      (plans test) (plans result) (all_plan arms)
   plans (Coalesce es) = all_plan es
   plans (In x q) = two (planned_expr x) (planned q) (plans x) (query_plans q)
   plans (Exists q) = query_plans q
@@ -89,33 +102,41 @@ mutual
 
   pub links_plan : (links : Links) → planned_links links ≡ true → LinksPlan links
   links_plan NoLink = λ p. tt
-  links_plan (MoreLinks operator x links) = two (planned_expr x) (planned_links links) (plans x) (links_plan links)
+  links_plan (MoreLinks operator x links) =
+      two (planned_expr x) (planned_links links) (plans x) (links_plan links)
 
   pub all_plan : (es : Exprs) → planned_all es ≡ true → AllPlan es
   all_plan NoExpr = λ p. tt
   all_plan (MoreExprs x es) = two (planned_expr x) (planned_all es) (plans x) (all_plan es)
 
   pub routine_plans : (r : Routine) → planned_routine r ≡ true → RoutinePlans r
-  routine_plans (Function calls_itself types returns x) = two (not calls_itself) (planned_expr x) (λ p. p) (plans x)
+  routine_plans (Returned types returns x) = plans x
+  routine_plans _ = λ p. never p
 
   pub rows_plan : (rows : Rows) → planned_rows rows ≡ true → RowsPlan rows
   rows_plan NoRow = λ p. tt
-  rows_plan (MoreRows es rows) = two (planned_all es) (planned_rows rows) (all_plan es) (rows_plan rows)
+  rows_plan (MoreRows es rows) =
+      two (planned_all es) (planned_rows rows) (all_plan es) (rows_plan rows)
 
   pub from_plans : (x : From) → planned_from x ≡ true → FromPlans x
   from_plans (Table t) = λ p. tt
   from_plans (Derived q) = query_plans q
   from_plans (Cross a b) = two (planned_from a) (planned_from b) (from_plans a) (from_plans b)
   from_plans (Inner a b on) =
-      three (planned_from a) (planned_from b) (planned_all on) (from_plans a) (from_plans b) (all_plan on)
+      three (planned_from a) (planned_from b) (planned_all on) (from_plans a) (from_plans b)
+      (all_plan on)
   from_plans (LeftOuter a b on) =
-      three (planned_from a) (planned_from b) (planned_all on) (from_plans a) (from_plans b) (all_plan on)
+      three (planned_from a) (planned_from b) (planned_all on) (from_plans a) (from_plans b)
+      (all_plan on)
 
   pub query_plans : (q : Query) → planned q ≡ true → QueryPlans q
-  query_plans (Select items from tests) = three (planned_all items) (planned_from from) (planned_all tests) (all_plan items) (from_plans from)
+  query_plans (Select items from tests) = three (planned_all items) (planned_from from)
+      (planned_all tests) (all_plan items) (from_plans from)
       (all_plan tests)
   query_plans (Grouped from tests k items ags having list) =
-      five (planned_from from) (planned_all tests) (planned_all items) (planned_all having) (planned_all list)
+      five (planned_from from) (planned_all tests) (planned_all items) (planned_all having)
+      (planned_all list)
       (from_plans from) (all_plan tests) (all_plan items) (all_plan having) (all_plan list)
-  query_plans (Values rows) = two (all_even (rows_width rows) rows) (planned_rows rows) (λ p. p) (rows_plan rows)
+  query_plans (Values rows) =
+      two (all_even (rows_width rows) rows) (planned_rows rows) (λ p. p) (rows_plan rows)
   query_plans (Ordered q keys) = query_plans q

@@ -1,7 +1,9 @@
 -- Truth values, and equality of what two arguments give.
-use Rattle.std.proofs.Common.{◌≡◌, ℕ, Bool, true, false, cond, ◌&&◌, nat_eq, refl, ap, ◌∙◌, arith, ◌||◌, sym}
+use Rattle.std.proofs.Common.{◌≡◌, ℕ, Bool, true, false, cond, ◌&&◌, nat_eq, refl, ap, ◌∙◌, arith}
+use Rattle.std.proofs.Common.{◌||◌, sym}
 
-pub both : {A B C : Type 0} (f : A → B → C) (a a' : A) (b b' : B) → a ≡ a' → b ≡ b' → f a b ≡ f a' b'
+pub both : {A B C : Type 0} (f : A → B → C) (a a' : A) (b b' : B) → a ≡ a' → b ≡ b' →
+    f a b ≡ f a' b'
 both f a a' b b' p q = ap (λ x. f x b) p ∙ ap (f a') q
 
 pub if_cells : {A B : Type 0} (f : A → B) (b : Bool) (x y : A) → f (cond b x y) ≡ cond b (f x) (f y)

@@ -1,14 +1,23 @@
 -- How many Apply nodes a plan has, inner plans included.
-use Rattle.std.specs.Prelude.{ℕ, suc, ◌+◌, ◌-◌, ◌^◌, min}
-use Rattle.rel_algebra.specs.Plan.{Nodes, PlanTree, apply, apply_by, cross, extend, extend_by, filter, group, keep, left_outer, no_node, scan, settle, sort, unit_row, values}
+use Rattle.std.specs.Prelude.{ℕ, ◌+◌, ◌-◌, ◌^◌, min}
+use Rattle.rel_algebra.specs.Plan.{Way, anew, once, lookup, Nodes, PlanTree, apply, apply_by, cross}
+use Rattle.rel_algebra.specs.Plan.{extend, extend_by, filter, group, keep, left_outer, no_node}
+use Rattle.rel_algebra.specs.Plan.{scan, settle, sort, unit_row, values}
+
+-- Once and Lookup do not count
+abbrev pub way_count : Way → ℕ
+way_count anew = 1
+way_count once = 0
+way_count (lookup keys) = 0
 
 abbrev mutual
+  -- how many Apply nodes a plan has
   pub applies : PlanTree → ℕ
   applies unit_row = 0
   applies (scan name n) = 0
   applies (values lists) = 0
   applies (extend ss input) = applies input
-  applies (apply when kind inner input) = suc (applies inner + applies input)
+  applies (apply when kind way inner input) = way_count way + (applies inner + applies input)
   applies (filter s input) = applies input
   applies (keep is input) = applies input
   applies (cross a b) = applies a + applies b
@@ -21,7 +30,7 @@ abbrev mutual
   pub applies_in : Nodes → ℕ
   applies_in no_node = 0
   applies_in (extend_by ss rest) = applies_in rest
-  applies_in (apply_by when kind inner rest) = suc (applies inner + applies_in rest)
+  applies_in (apply_by when kind way inner rest) = way_count way + (applies inner + applies_in rest)
 
 -- a count as a number of 64 bits, which stands still at the greatest
 abbrev pub counted : ℕ → ℕ

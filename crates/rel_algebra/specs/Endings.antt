@@ -1,7 +1,9 @@
--- How evaluations end that change nothing, and what operations give on values. ISO/IEC 9075-2, 6.13 (cast specification), 6.27 (numeric value
--- expression), 6.28 (length expression, MOD), 6.32 (SUBSTRING), 8.2 (comparison predicate), 8.4 (in predicate), 8.8 (null predicate), 6.39 (boolean
+-- How evaluations end that change nothing, and what operations give on values. ISO/IEC 9075-2, 6.13
+-- (cast specification), 6.27 (numeric value expression), 6.28 (length expression, MOD), 6.32
+-- (SUBSTRING), 8.2 (comparison predicate), 8.4 (in predicate), 8.8 (null predicate), 6.39 (boolean
 -- value expression) and 9.2 (store assignment).
-use Rattle.std.specs.Prelude.{ℕ, zero, suc, Bool, false, not, if◌then◌else◌, List, [], ◌∷◌, Some, None, Result, Ok, Err}
+use Rattle.std.specs.Prelude.{ℕ, zero, suc, Bool, false, not, if◌then◌else◌, List, [], ◌∷◌, Some}
+use Rattle.std.specs.Prelude.{None, Result, Ok, Err}
 use Rattle.sql_values.specs.declared.value.Value.{Value}
 use Rattle.sql_values.specs.declared.value.Value.TheVariants.{Null, Bool as Truth}
 use Rattle.sql_values.specs.declared.operators.Comparison.TheVariants.{Equals}
@@ -14,7 +16,9 @@ use Rattle.row_types.specs.Rows.{Row}
 pub use Rattle.row_types.specs.Groups.{value_at}
 use Rattle.row_types.specs.declared.cell.Cell.{Cell}
 use Rattle.row_types.specs.declared.cell.Cell.TheVariants.{Val, Cond}
-use Rattle.rel_algebra.specs.Tree.{Operation, Negation, Arithmetic, Comparing, Modulo, CharLength, Substring, Cast, Assign, Opposite, NullTest, TrueTest, FalseTest, AnyOf}
+use Rattle.rel_algebra.specs.Tree.{Operation, Negation, Arithmetic, Comparing, Modulo, CharLength}
+use Rattle.rel_algebra.specs.Tree.{Substring, Cast, Assign, Opposite, NullTest, TrueTest, FalseTest}
+use Rattle.rel_algebra.specs.Tree.{AnyOf}
 use Rattle.rel_algebra.specs.World.{condition_of}
 
 -- with what it gives, or with the conditions that it raises
@@ -26,6 +30,7 @@ abbrev pub after : {A B : Type 0} → Ending A → (A → Ending B) → Ending B
 after (Ok a) go = go a
 after (Err area) go = Err area
 
+-- one after another, as `do` writes it
 infixl 1 ◌>>=◌
 abbrev pub ◌>>=◌ : {A B : Type 0} → Ending A → (A → Ending B) → Ending B
 ◌>>=◌ first go = after first go
@@ -35,10 +40,12 @@ abbrev pub ending_of : Outcome → Ending Value
 ending_of (Ok v) = Ok v
 ending_of (Err fault) = Err (area_of (condition_of fault))
 
+-- a value, or the conditions that are raised, as a cell
 abbrev pub cell_end : Ending Value → Cell
 cell_end (Ok v) = Val v
 cell_end (Err area) = Cond area
 
+-- whether a value is FALSE. 6.39 (boolean value expression)
 abbrev pub is_false : Value → Bool
 is_false (Truth p) = not p
 is_false _ = false
@@ -51,7 +58,8 @@ equal_values x y = compared Equals x y
 abbrev pub among : Value → Value → List Value → Value
 among so_far x [] = so_far
 among so_far x (v ∷ vs) =
-    let c = equal_values x v in if is_true c then c else among (if is_null c then c else so_far) x vs
+    let c = equal_values x v in if is_true c then c
+    else among (if is_null c then c else so_far) x vs
 
 -- what an operation gives; NULL where it is not of so many operands
 abbrev pub op_value : Operation → List Value → Ending Value

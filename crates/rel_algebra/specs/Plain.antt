@@ -1,6 +1,8 @@
--- What planned expressions and queries mean by the tables alone: for given tables and rows outside a value or the rows, or the first condition.
--- The law `means_passing` says that this is what they do.
-use Rattle.std.specs.Prelude.{ℕ, Bool, true, false, if◌then◌else◌, List, [], ◌∷◌, ◌++◌, nat_eq, ◌&&◌, not, Ok, drop}
+-- What planned expressions and queries mean by the tables alone: for given tables and rows outside
+-- a value or the rows, or the first condition. The law `means_passing` says that this is what they
+-- do.
+use Rattle.std.specs.Prelude.{ℕ, Bool, true, false, if◌then◌else◌, List, [], ◌∷◌, ◌++◌, nat_eq}
+use Rattle.std.specs.Prelude.{◌&&◌, Ok, drop}
 use Rattle.sql_values.specs.declared.value.Value.{Value}
 use Rattle.sql_values.specs.declared.value.Value.TheVariants.{Null, Bool as Truth}
 use Rattle.sql_values.specs.declared.value.SqlType.{SqlType}
@@ -9,16 +11,25 @@ use Rattle.sql_values.specs.Values.{is_null, is_true}
 use Rattle.sql_values.specs.Operators.{applied}
 use Rattle.row_types.specs.Rows.{Row}
 use Rattle.row_types.specs.Tables.{Tables, rows_named}
-use Rattle.rel_algebra.specs.Tree.{Expr, Literal, Column, Variable, Chain, Operate, And, Or, Case, CaseOf, Coalesce, In, Exists, Single, Call, CallSelf, Links, NoLink, MoreLinks, Exprs, NoExpr, MoreExprs, count, Routine, Function, Rows, NoRow, MoreRows, From, Table, Derived, Cross, Inner, LeftOuter, Query, Select, Grouped, Values, Ordered, parameters_of}
-use Rattle.rel_algebra.specs.Endings.{Ending, ◌>>=◌, ending_of, is_false, equal_values, op_value, value_at, row_at}
+use Rattle.rel_algebra.specs.Tree.{Expr, Literal, Column, Variable, Chain, Operate, And, Or, Case}
+use Rattle.rel_algebra.specs.Tree.{CaseOf, Coalesce, In, Exists, Single, Call, CallSelf, Links}
+use Rattle.rel_algebra.specs.Tree.{NoLink, MoreLinks, Exprs, NoExpr, MoreExprs, count, Routine}
+use Rattle.rel_algebra.specs.Tree.{Returned, Rows, NoRow, MoreRows, From, Table, Derived, Cross}
+use Rattle.rel_algebra.specs.Tree.{Inner, LeftOuter, Query, Select, Grouped, Values, Ordered}
+use Rattle.rel_algebra.specs.Tree.{parameters_of}
+use Rattle.rel_algebra.specs.Endings.{Ending, ◌>>=◌, ending_of, is_false, equal_values, op_value}
+use Rattle.rel_algebra.specs.Endings.{value_at, row_at}
 use Rattle.rel_algebra.specs.Groups.{groups}
 use Rattle.row_types.specs.Sorting.{in_order}
-use Rattle.rel_algebra.specs.Joins.{places, numbered, pairs, or_nulls, single_of, exists_of, member_of, group_row, rows_width, from_width, table_width}
+use Rattle.rel_algebra.specs.Joins.{places, numbered, pairs, or_nulls, single_of, exists_of}
+use Rattle.rel_algebra.specs.Joins.{member_of, group_row, rows_width, from_width, table_width}
 use Rattle.rel_algebra.specs.Meaning.{assigned_first}
 
 -- the tables, and the arguments of the whole query
 pub record Inputs : Type 0 where
+  -- by their names
   pub tables : Tables
+  -- by number
   pub args : List Value
 
 -- how many columns each table has
@@ -30,6 +41,7 @@ pub record Scope : Type 0 where
   pub rows : List Row
   pub params : List Value
 
+-- with one row more inside
 abbrev pub within : Scope → Row → Scope
 within f r = record { rows = r ∷ f.rows; params = f.params }
 
@@ -41,10 +53,12 @@ each_of f (x ∷ xs) = do
   zs ← each_of f xs
   Ok (ys ++ zs)
 
+-- a row that stands, or leaves
 abbrev pub kept_if : Bool → Row → List Row
 kept_if true r = r ∷ []
 kept_if false r = []
 
+-- a list of one row
 abbrev pub one_row : Ending Row → Ending (List Row)
 one_row e = do
   r ← e
@@ -55,6 +69,7 @@ abbrev pub list_if : Bool → Ending Row → Ending (List Row)
 list_if true list = one_row list
 list_if false list = Ok []
 
+-- a row's list, where its tests hold. 7.12 (where clause)
 abbrev pub list_where : Ending Bool → Ending Row → Ending (List Row)
 list_where tests list = do
   b ← tests
@@ -69,6 +84,7 @@ joined_row n on right l = do
   Ok (or_nulls l n ms)
 
 abbrev mutual
+  -- the value of an expression, or the first condition. 6.25 (value expression)
   pub ev : Expr → Inputs → Scope → Ending Value
   ev (Literal v) w f = Ok v
   ev (Column d i) w f = Ok (value_at (row_at f.rows d) i)
@@ -85,7 +101,8 @@ abbrev mutual
   ev (CaseOf e test result arms) w f = do
     x ← ev e w f
     y ← ev test w f
-    if is_true (equal_values x y) then ev result w f else ev_case arms (λ z. is_true (equal_values x z)) w f
+    if is_true (equal_values x y) then ev result w f
+        else ev_case arms (λ z. is_true (equal_values x z)) w f
   ev (Coalesce es) w f = ev_coalesce es w f
   ev (In e q) w f = do
     x ← ev e w f
@@ -103,6 +120,7 @@ abbrev mutual
   -- no planned expression calls the function in which it stands
   ev (CallSelf types es) w f = Ok Null
 
+  -- goes on from the value of what stands left. 6.27 (numeric value expression)
   pub ev_links : Links → Value → Inputs → Scope → Ending Value
   ev_links NoLink v w f = Ok v
   ev_links (MoreLinks operator x links) v w f = do
@@ -142,6 +160,7 @@ abbrev mutual
     v ← ev e w f
     if is_false v then Ok (Truth false) else ev_and es (if is_true v then so_far else Null) w f
 
+  -- up to the first that is true; NULL where one before it is. 6.39 (boolean value expression)
   pub ev_or : Exprs → Value → Inputs → Scope → Ending Value
   ev_or NoExpr so_far w f = Ok so_far
   ev_or (MoreExprs e es) so_far w f = do
@@ -163,11 +182,14 @@ abbrev mutual
     v ← ev e w f
     if is_null v then ev_coalesce es w f else Ok v
 
-  -- the body is run anew on parameters of its own, and sees no row; its value is assigned to the result's type
+  -- the body is run anew on parameters of its own, and sees no row; its value is assigned to the
+  -- result's type
   pub call : Routine → List Value → Inputs → Ending Value
-  call (Function calls_itself types returns e) vs w = do
+  call (Returned types returns e) vs w = do
     v ← ev e w (record { rows = []; params = vs })
     ending_of (assigned returns v)
+  -- no planned expression calls another routine
+  call _ vs w = Ok Null
 
   -- whether all conjuncts are true: a row leaves at the first that isn't
   pub holds : Exprs → Inputs → Scope → Ending Bool
@@ -183,10 +205,12 @@ abbrev mutual
     each_of (λ r. list_where (holds tests w (within f r)) (ev_all items w (within f r))) rows
   answer (Grouped from tests k items ags having list) w f = do
     rows ← from_rows from w f
-    parts ← each_of (λ r. list_where (holds tests w (within f r)) (ev_all items w (within f r))) rows
+    parts ← each_of (λ r. list_where (holds tests w (within f r)) (ev_all items w (within f r)))
+        rows
     each_of (λ g. do
       r ← group_row (numbered k ags) g
-      list_where (holds having w (within f r)) (ev_all list w (within f r))) (groups (places 0 k) parts)
+      list_where (holds having w (within f r)) (ev_all list w (within f r)))
+        (groups (places 0 k) parts)
   answer (Values rows) w f = ev_rows rows w f
   answer (Ordered q keys) w f = do
     rows ← answer q w f
@@ -216,8 +240,10 @@ abbrev pub all_even : ℕ → Rows → Bool
 all_even n NoRow = true
 all_even n (MoreRows es rows) = nat_eq (count es) n && all_even n rows
 
--- Which queries have a plan: no function that they call, in turn, calls itself; and the rows of each VALUES are of one length.
+-- Which queries have a plan: each function that they call, in turn, only returns an expression; and
+-- the rows of each VALUES are of one length.
 abbrev mutual
+  -- an expression has a plan
   pub planned_expr : Expr → Bool
   planned_expr (Literal v) = true
   planned_expr (Column level i) = true
@@ -227,7 +253,8 @@ abbrev mutual
   planned_expr (And es) = planned_all es
   planned_expr (Or es) = planned_all es
   planned_expr (Case arms) = planned_all arms
-  planned_expr (CaseOf x test result arms) = planned_expr x && (planned_expr test && (planned_expr result && planned_all arms))
+  planned_expr (CaseOf x test result arms) =
+      planned_expr x && (planned_expr test && (planned_expr result && planned_all arms))
   planned_expr (Coalesce es) = planned_all es
   planned_expr (In x q) = planned_expr x && planned q
   planned_expr (Exists q) = planned q
@@ -235,21 +262,27 @@ abbrev mutual
   planned_expr (Call name r es) = planned_routine r && planned_all es
   planned_expr (CallSelf types es) = false
 
+  -- the operands of a chain have plans
   pub planned_links : Links → Bool
   planned_links NoLink = true
   planned_links (MoreLinks operator x links) = planned_expr x && planned_links links
 
+  -- expressions have plans
   pub planned_all : Exprs → Bool
   planned_all NoExpr = true
   planned_all (MoreExprs x es) = planned_expr x && planned_all es
 
+  -- a routine only returns an expression, which has a plan
   pub planned_routine : Routine → Bool
-  planned_routine (Function calls_itself types returns x) = not calls_itself && planned_expr x
+  planned_routine (Returned types returns x) = planned_expr x
+  planned_routine _ = false
 
+  -- rows of VALUES have plans
   pub planned_rows : Rows → Bool
   planned_rows NoRow = true
   planned_rows (MoreRows es rows) = planned_all es && planned_rows rows
 
+  -- a FROM has a plan
   pub planned_from : From → Bool
   planned_from (Table t) = true
   planned_from (Derived q) = planned q
@@ -257,9 +290,11 @@ abbrev mutual
   planned_from (Inner a b on) = planned_from a && (planned_from b && planned_all on)
   planned_from (LeftOuter a b on) = planned_from a && (planned_from b && planned_all on)
 
+  -- a query has a plan; the rows of each VALUES are of one length
   pub planned : Query → Bool
   planned (Select items from tests) = planned_all items && (planned_from from && planned_all tests)
   planned (Grouped from tests k items ags having list) =
-      planned_from from && (planned_all tests && (planned_all items && (planned_all having && planned_all list)))
+      planned_from from && (planned_all tests
+      && (planned_all items && (planned_all having && planned_all list)))
   planned (Values rows) = all_even (rows_width rows) rows && planned_rows rows
   planned (Ordered q keys) = planned q

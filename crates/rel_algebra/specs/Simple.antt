@@ -1,91 +1,128 @@
--- Which queries are simple: each query nested in them, and in the bodies of the functions that they call, names nothing outside itself, or names it
--- only in one unbroken run of conjuncts `column = name`, without GROUP BY and HAVING.
+-- Which queries are simple: each query nested in them, and in the bodies of the functions that they
+-- call, names nothing outside itself, or names it only in one unbroken run of conjuncts `column =
+-- name`, without GROUP BY and HAVING.
 use Rattle.std.specs.Prelude.{◌≡◌, ◌⊎◌, ℕ, zero, suc, Bool, true, false, List, ◌∷◌}
 use Rattle.sql_values.specs.declared.operators.Comparison.TheVariants.{Equals}
 use Rattle.rel_algebra.specs.Emit.{plan, routine_plan, top}
 use Rattle.rel_algebra.specs.Joins.{from_width, rows_width}
 use Rattle.rel_algebra.specs.Plain.{all_even}
 use Rattle.rel_algebra.specs.Removal.{all_removable, less, tree_within}
-use Rattle.rel_algebra.specs.Tree.{And, Call, CallSelf, Case, CaseOf, Chain, Coalesce, Column, Comparing, Cross, Derived, Exists, Expr, Exprs, From, Function, Grouped, In, Inner, LeftOuter, Links, Literal, MoreExprs, MoreLinks, MoreRows, NoExpr, NoLink, NoRow, Operate, Or, Ordered, Query, Routine, Rows, Select, Single, Table, Values, Variable}
+use Rattle.rel_algebra.specs.Tree.{And, Call, CallSelf, Case, CaseOf, Chain, Coalesce, Column}
+use Rattle.rel_algebra.specs.Tree.{Comparing, Cross, Derived, Exists, Expr, Exprs, From, Returned}
+use Rattle.rel_algebra.specs.Tree.{Grouped, In, Inner, LeftOuter, Links, Literal, MoreExprs}
+use Rattle.rel_algebra.specs.Tree.{MoreLinks, MoreRows, NoExpr, NoLink, NoRow, Operate, Or, Ordered}
+use Rattle.rel_algebra.specs.Tree.{Query, Routine, Rows, Select, Single, Table, Values, Variable}
 
--- names columns of the k innermost rows alone, and parameters only where p is true
+-- which rows a tree may name: so many of the innermost, or any
+pub data Reach : Type 0 where
+  Innermost : ℕ → Reach
+  AnyRow : Reach
+
+-- the row of a level is one of these
+abbrev pub Reaches : Reach → ℕ → Type 0
+Reaches (Innermost k) d = less d k ≡ true
+Reaches AnyRow d = Unit {0}
+
+-- within one row more
+abbrev pub further : Reach → Reach
+further (Innermost k) = Innermost (suc k)
+further AnyRow = AnyRow
+
+-- Names columns of these rows alone, and parameters only where p is true. Functions see no row
+-- outside them, whatever they name.
 abbrev mutual
-  pub Names : Expr → ℕ → Bool → Type 0
+  -- an expression names these rows alone
+  pub Names : Expr → Reach → Bool → Type 0
   Names (Literal v) k p = Unit {0}
-  Names (Column d i) k p = less d k ≡ true
+  Names (Column d i) k p = Reaches k d
   Names (Variable i) k p = p ≡ true
   Names (Chain x links) k p = Names x k p × NamesLinks links k p
   Names (Operate op es) k p = NamesAll es k p
   Names (And es) k p = NamesAll es k p
   Names (Or es) k p = NamesAll es k p
   Names (Case arms) k p = NamesAll arms k p
-  Names (CaseOf x test result arms) k p = Names x k p × Names test k p × Names result k p × NamesAll arms k p
+  Names (CaseOf x test result arms) k p = Names x k p × Names test k p × Names result k p
+      × NamesAll arms k p
   Names (Coalesce es) k p = NamesAll es k p
   Names (In x q) k p = Names x k p × NamesQuery q k p
   Names (Exists q) k p = NamesQuery q k p
   Names (Single q) k p = NamesQuery q k p
-  Names (Call name r es) k p = NamesBody r × NamesAll es k p
+  Names (Call name r es) k p = NamesAll es k p
   Names (CallSelf types es) k p = Unit {0}
 
-  pub NamesLinks : Links → ℕ → Bool → Type 0
+  -- the operands of a chain do
+  pub NamesLinks : Links → Reach → Bool → Type 0
   NamesLinks NoLink k p = Unit {0}
   NamesLinks (MoreLinks operator x links) k p = Names x k p × NamesLinks links k p
 
-  pub NamesAll : Exprs → ℕ → Bool → Type 0
+  -- several expressions do
+  pub NamesAll : Exprs → Reach → Bool → Type 0
   NamesAll NoExpr k p = Unit {0}
   NamesAll (MoreExprs x es) k p = Names x k p × NamesAll es k p
 
-  -- a body names its parameters and no row outside it
-  pub NamesBody : Routine → Type 0
-  NamesBody (Function calls_itself types returns x) = Names x 0 true
-
-  pub NamesQuery : Query → ℕ → Bool → Type 0
-  NamesQuery (Select items from tests) k p = NamesFrom from k p × NamesAll tests (suc k) p × NamesAll items (suc k) p
+  -- a query does, within whose FROM one row more is named
+  pub NamesQuery : Query → Reach → Bool → Type 0
+  NamesQuery (Select items from tests) k p = NamesFrom from k p × NamesAll tests (further k) p
+      × NamesAll items (further k) p
   NamesQuery (Grouped from tests g items ags having list) k p =
-      NamesFrom from k p × NamesAll tests (suc k) p × NamesAll items (suc k) p × NamesAll having (suc k) p × NamesAll list (suc k) p
+      NamesFrom from k p × NamesAll tests (further k) p × NamesAll items (further k) p
+      × NamesAll having (further k) p × NamesAll list (further k) p
   NamesQuery (Values rows) k p = NamesRows rows k p
   NamesQuery (Ordered q keys) k p = NamesQuery q k p
 
-  pub NamesRows : Rows → ℕ → Bool → Type 0
+  -- the rows of VALUES do
+  pub NamesRows : Rows → Reach → Bool → Type 0
   NamesRows NoRow k p = Unit {0}
   NamesRows (MoreRows es rows) k p = NamesAll es k p × NamesRows rows k p
 
-  pub NamesFrom : From → ℕ → Bool → Type 0
+  -- a FROM does
+  pub NamesFrom : From → Reach → Bool → Type 0
   NamesFrom (Table t) k p = Unit {0}
   NamesFrom (Derived q) k p = NamesQuery q k p
   NamesFrom (Cross a b) k p = NamesFrom a k p × NamesFrom b k p
-  NamesFrom (Inner a b on) k p = NamesFrom a k p × NamesFrom b k p × NamesAll on (suc k) p
-  NamesFrom (LeftOuter a b on) k p = NamesFrom a k p × NamesFrom b k p × NamesAll on (suc k) p
+  NamesFrom (Inner a b on) k p = NamesFrom a k p × NamesFrom b k p × NamesAll on (further k) p
+  NamesFrom (LeftOuter a b on) k p = NamesFrom a k p × NamesFrom b k p × NamesAll on (further k) p
 
 -- column = name or name = column, in a row of n columns
 abbrev pub IsKeyed : Expr → ℕ → Type 0
-IsKeyed (Operate (Comparing Equals) (MoreExprs (Column zero i) (MoreExprs (Column (suc d) j) NoExpr))) n = less i n ≡ true
-IsKeyed (Operate (Comparing Equals) (MoreExprs (Column (suc d) j) (MoreExprs (Column zero i) NoExpr))) n = less i n ≡ true
-IsKeyed (Operate (Comparing Equals) (MoreExprs (Column zero i) (MoreExprs (Variable j) NoExpr))) n = less i n ≡ true
-IsKeyed (Operate (Comparing Equals) (MoreExprs (Variable j) (MoreExprs (Column zero i) NoExpr))) n = less i n ≡ true
+IsKeyed (Operate (Comparing Equals)
+    (MoreExprs (Column zero i) (MoreExprs (Column (suc d) j) NoExpr))) n = less i n ≡ true
+IsKeyed (Operate (Comparing Equals)
+    (MoreExprs (Column (suc d) j) (MoreExprs (Column zero i) NoExpr))) n = less i n ≡ true
+IsKeyed (Operate (Comparing Equals) (MoreExprs (Column zero i) (MoreExprs (Variable j) NoExpr))) n =
+    less i n ≡ true
+IsKeyed (Operate (Comparing Equals) (MoreExprs (Variable j) (MoreExprs (Column zero i) NoExpr))) n =
+    less i n ≡ true
 IsKeyed _ n = ⊥
 
--- The run, and behind it conjuncts that name nothing outside. Where p is true parameters are arguments of the whole query, which a plan may use
--- anywhere.
+-- The run, and after it conjuncts that name nothing outside. Where p is true parameters are
+-- arguments of the whole query, which a plan may use anywhere.
 abbrev pub InRun : Exprs → ℕ → Bool → Type 0
 InRun NoExpr n p = Unit {0}
-InRun (MoreExprs x es) n p = (IsKeyed x n × InRun es n p) ⊎ (Names x 1 p × NamesAll es 1 p)
+InRun (MoreExprs x es) n p =
+    (IsKeyed x n × InRun es n p) ⊎ (Names x (Innermost 1) p × NamesAll es (Innermost 1) p)
 
+-- conjuncts that name nothing outside, then the run, then conjuncts that name nothing outside
 abbrev pub BeforeRun : Exprs → ℕ → Bool → Type 0
 BeforeRun NoExpr n p = Unit {0}
-BeforeRun (MoreExprs x es) n p = (Names x 1 p × BeforeRun es n p) ⊎ (IsKeyed x n × InRun es n p)
+BeforeRun (MoreExprs x es) n p = (Names x (Innermost 1) p × BeforeRun es n p)
+    ⊎ (IsKeyed x n × InRun es n p)
 
+-- a query that names what is outside in such a run alone, without GROUP BY and HAVING
 abbrev pub KeyedQuery : Query → (List ℕ → ℕ) → Bool → Type 0
-KeyedQuery (Select items from tests) S p = NamesFrom from 0 p × BeforeRun tests (from_width from S) p × NamesAll items 1 p
+KeyedQuery (Select items from tests) S p = NamesFrom from (Innermost 0) p
+    × BeforeRun tests (from_width from S) p × NamesAll items (Innermost 1) p
 KeyedQuery (Grouped from tests zero items (a ∷ ags) NoExpr list) S p =
-    NamesFrom from 0 p × BeforeRun tests (from_width from S) p × NamesAll items 1 p
+    NamesFrom from (Innermost 0) p × BeforeRun tests (from_width from S) p
+    × NamesAll items (Innermost 1) p
 KeyedQuery _ S p = ⊥
 
 -- a nested query of one of the two forms
 abbrev pub Nested : Query → (List ℕ → ℕ) → Bool → Type 0
-Nested q S p = NamesQuery q 0 p ⊎ KeyedQuery q S p
+Nested q S p = NamesQuery q (Innermost 0) p ⊎ KeyedQuery q S p
 
 abbrev mutual
+  -- an expression whose nested queries are such, in the bodies of called functions too
   pub Simple : Expr → (List ℕ → ℕ) → Bool → Type 0
   Simple (Literal v) S p = Unit {0}
   Simple (Column d i) S p = Unit {0}
@@ -95,7 +132,8 @@ abbrev mutual
   Simple (And es) S p = SimpleAll es S p
   Simple (Or es) S p = SimpleAll es S p
   Simple (Case arms) S p = SimpleAll arms S p
-  Simple (CaseOf x test result arms) S p = Simple x S p × Simple test S p × Simple result S p × SimpleAll arms S p
+  Simple (CaseOf x test result arms) S p = Simple x S p × Simple test S p × Simple result S p
+      × SimpleAll arms S p
   Simple (Coalesce es) S p = SimpleAll es S p
   Simple (In x q) S p = Simple x S p × Nested q S p × SimpleQuery q S p
   Simple (Exists q) S p = Nested q S p × SimpleQuery q S p
@@ -103,17 +141,22 @@ abbrev mutual
   Simple (Call name r es) S p = SimpleBody r S × SimpleAll es S p
   Simple (CallSelf types es) S p = Unit {0}
 
+  -- the operands of a chain are
   pub SimpleLinks : Links → (List ℕ → ℕ) → Bool → Type 0
   SimpleLinks NoLink S p = Unit {0}
   SimpleLinks (MoreLinks operator x links) S p = Simple x S p × SimpleLinks links S p
 
+  -- several expressions are
   pub SimpleAll : Exprs → (List ℕ → ℕ) → Bool → Type 0
   SimpleAll NoExpr S p = Unit {0}
   SimpleAll (MoreExprs x es) S p = Simple x S p × SimpleAll es S p
 
+  -- the body of a called function is, whose parameters are columns
   pub SimpleBody : Routine → (List ℕ → ℕ) → Type 0
-  SimpleBody (Function calls_itself types returns x) S = Simple x S false
+  SimpleBody (Returned types returns x) S = Simple x S false
+  SimpleBody _ S = ⊥
 
+  -- a query whose nested queries are such
   pub SimpleQuery : Query → (List ℕ → ℕ) → Bool → Type 0
   SimpleQuery (Select items from tests) S p =
       SimpleFrom from S p × SimpleAll tests S p × SimpleAll items S p
@@ -124,10 +167,12 @@ abbrev mutual
   SimpleQuery (Values rows) S p = (all_even (rows_width rows) rows ≡ true) × SimpleRows rows S p
   SimpleQuery (Ordered q keys) S p = SimpleQuery q S p
 
+  -- the rows of VALUES are
   pub SimpleRows : Rows → (List ℕ → ℕ) → Bool → Type 0
   SimpleRows NoRow S p = Unit {0}
   SimpleRows (MoreRows es rows) S p = SimpleAll es S p × SimpleRows rows S p
 
+  -- a FROM is
   pub SimpleFrom : From → (List ℕ → ℕ) → Bool → Type 0
   SimpleFrom (Table t) S p = Unit {0}
   SimpleFrom (Derived q) S p = SimpleQuery q S p
@@ -135,16 +180,24 @@ abbrev mutual
   SimpleFrom (Inner a b on) S p = SimpleFrom a S p × SimpleFrom b S p × SimpleAll on S p
   SimpleFrom (LeftOuter a b on) S p = SimpleFrom a S p × SimpleFrom b S p × SimpleAll on S p
 
--- a whole query that names nothing outside itself but arguments uses no outer column; nor does the plan of a function
+-- A whole query sees no row outside itself: its plan uses no outer column, whatever the query
+-- names; nor does the plan of a function.
 pub record ClosedPlans : Type 0 where
-  pub queries : (q : Query) (S : List ℕ → ℕ) (n : ℕ) → NamesQuery q 0 true → tree_within (plan q S (top n)) 0 ≡ true
-  pub routines : (r : Routine) (S : List ℕ → ℕ) → NamesBody r → tree_within (routine_plan r S) 0 ≡ true
+  -- of a whole query
+  pub queries : (q : Query) (S : List ℕ → ℕ) (n : ℕ) → tree_within (plan q S (top n)) 0 ≡ true
+  -- of a function by itself
+  pub routines : (r : Routine) (S : List ℕ → ℕ) → tree_within (routine_plan r S) 0 ≡ true
 
 -- the same of a function by itself, whose parameters are arguments of its plan
 abbrev pub SimpleRoutine : Routine → (List ℕ → ℕ) → Type 0
-SimpleRoutine (Function calls_itself types returns x) S = Simple x S true
+SimpleRoutine (Returned types returns x) S = Simple x S true
+SimpleRoutine _ S = ⊥
 
 -- each Apply of a simple query's plan can be removed, and each of a function's
 pub record RemovablePlans : Type 0 where
-  pub queries : (q : Query) (S : List ℕ → ℕ) (n : ℕ) → SimpleQuery q S true → all_removable (plan q S (top n)) ≡ true
-  pub routines : (r : Routine) (S : List ℕ → ℕ) → SimpleRoutine r S → all_removable (routine_plan r S) ≡ true
+  -- of a whole query
+  pub queries : (q : Query) (S : List ℕ → ℕ) (n : ℕ) → SimpleQuery q S true →
+      all_removable (plan q S (top n)) ≡ true
+  -- of a function by itself
+  pub routines : (r : Routine) (S : List ℕ → ℕ) → SimpleRoutine r S →
+      all_removable (routine_plan r S) ≡ true

@@ -1,4 +1,5 @@
-//! Plans: a leaf, which has rows, and a list of nodes, each of which makes rows of the rows below it.
+//! Plans: a leaf, which has rows, and a list of nodes, each of which makes rows of the rows below
+//! it.
 
 use crate::scalar::Scalar;
 use row_types::{AggregateColumn, SortKey};
@@ -22,9 +23,9 @@ pub enum Leaf {
     Values(Items<ScalarRow>),
 }
 
-/// What an Apply makes of the rows of its inner plan: one cell, or one for each aggregate. Where one
-/// of these rows is poisoned, or a cell of one is a condition, the first such area in the order of
-/// the rows stands in each of these cells.
+/// What an Apply makes of the rows of its inner plan: one cell, or one for each aggregate. Where
+/// one of these rows is poisoned, or a cell of one is a condition, the first such area in the order
+/// of the rows stands in each of these cells.
 #[derive(Drop)]
 pub enum ApplyKind {
     /// The value of the one row that there is; of none NULL, and of several the condition 21000
@@ -46,7 +47,7 @@ pub enum ApplyKind {
 #[cycle(plan)]
 #[derive(Drop)]
 pub enum Node {
-    /// Each row with the cells of the scalars behind its own. Each scalar is read on the row as it
+    /// Each row with the cells of the scalars after its own. Each scalar is read on the row as it
     /// came.
     Extend(Items<Scalar>),
     /// Each row with the cells that the kind makes of the rows of the plan, which is run anew for
@@ -66,10 +67,10 @@ pub enum Node {
     LeftOuter(Items<Node>, Scalar, usize, Boxed<Plan>),
     /// The rows, settled.
     Settle,
-    /// The groups of the rows, settled, by the columns at these places, in which NULL equals NULL: a
-    /// row for each group, in the order of their first rows, of these columns and then of its
-    /// aggregates. One that raises is a condition cell. Without a column there is one group, even of
-    /// no rows.
+    /// The groups of the rows, settled, by the columns at these places, in which NULL equals NULL:
+    /// a row for each group, in the order of their first rows, of these columns and then of its
+    /// aggregates. One that raises is a condition cell. Without a column there is one group, even
+    /// of no rows.
     Group(Items<usize>, Items<AggregateColumn>),
     /// The rows, settled, in the order of these columns; rows that tie keep their order.
     Sort(Items<SortKey>),

@@ -51,8 +51,8 @@ pub enum ListWord {
 pub enum Scalar {
     /// A value.
     Constant(Value),
-    /// A column: its level, which is 0 for the row itself and d for the d-th row outside it, and its
-    /// place in that row.
+    /// A column: its level, which is 0 for the row itself and d for the d-th row outside it, and
+    /// its place in that row.
     Column(usize, usize),
     /// An argument, by its place.
     Argument(usize),

@@ -48,12 +48,20 @@ other_texts = refl
 
 -- an exception with its own message
 pub one_condition : area_text (area_of DivisionByZero) ≡ codes "! 22012 division by zero\n"
+unfolding encode
 one_condition = refl
 
 -- A condition below the first is indented.
 pub further_condition : area_text (record { state = codes "45000"; message = codes "bad row" } ∷
     own DivisionByZero ∷ []) ≡ codes "! 45000 bad row\n  22012 division by zero\n"
+unfolding encode
 further_condition = refl
+
+-- a message with a character of two bytes
+pub other_message : area_text (record { state = codes "45000"; message = 233 ∷ [] } ∷ []) ≡
+    codes "! 45000 " ++ (195 ∷ 169 ∷ []) ++ codes "\n"
+unfolding encode
+other_message = refl
 
 -- Without a message the state stands alone.
 pub empty_message : area_text (record { state = codes "45000"; message = [] } ∷

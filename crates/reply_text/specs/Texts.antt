@@ -8,7 +8,8 @@ use Rattle.csv.specs.declared.writer.WriterBuilder.{WriterBuilder}
 use Rattle.csv.specs.Writing.{default_writer, with_flexible, row_text}
 use Rattle.sql_values.specs.declared.value.Value.{Value}
 use Rattle.sql_values.specs.declared.value.Value.TheVariants.{Null, Int, Str, Bool as Truth}
-use Rattle.sql_conditions.specs.Conditions.{Condition, Area}
+use Rattle.sql_conditions.specs.declared.condition.Condition.{Condition}
+use Rattle.sql_conditions.specs.Conditions.{Area}
 use Rattle.bind_faults.specs.declared.fault.FaultKind.{FaultKind}
 use Rattle.bind_faults.specs.declared.fault.FaultKind.TheVariants.{UnknownName, DuplicateName}
 use Rattle.bind_faults.specs.declared.fault.FaultKind.TheVariants.{TypeMismatch, WrongCount}
@@ -74,9 +75,9 @@ abbrev pub message_text : List ℕ → List ℕ
 message_text [] = []
 message_text (c ∷ cs) = codes " " ++ c ∷ cs
 
--- a line with a condition: its state and its message
+-- a line with a condition: its state, and its message in UTF-8
 abbrev pub condition_line : Condition → List ℕ
-condition_line c = c.state ++ message_text c.message ++ codes "\n"
+condition_line c = c.state ++ message_text (encode_utf8_all c.message) ++ codes "\n"
 
 -- a further condition of an area
 abbrev pub further_line : Condition → List ℕ

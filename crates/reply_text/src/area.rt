@@ -28,8 +28,8 @@ fn put_message(text: &mut Vec<u8>, message: &[u8]) -> Result<(), NoMemory>
 fn put_condition(text: &mut Vec<u8>, condition: &Condition) -> Result<(), NoMemory>
     ensures { OnOk result (text.new.items ≡ text.old.items ++ condition_line condition.now) }
 {
-    put(text, condition.state().as_bytes())?;
-    put_message(text, condition.message().as_bytes())?;
+    put(text, condition.state.as_bytes())?;
+    put_message(text, condition.message.as_str().as_bytes())?;
     put(text, b"\n")
 }
 

@@ -22,7 +22,7 @@ pub enum Cell {
 pub fn copied_area(alloc: Global, area: &Area) -> Result<Boxed<Area>, NoMemory>
     ensures { IfOk result (λ a. a ≡ area.now) }
 {
-    Ok(Boxed::new(alloc, area.copied())?)
+    Ok(Boxed::new(alloc, area.copied()?)?)
 }
 
 /// The same cell once more.

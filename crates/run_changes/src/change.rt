@@ -39,6 +39,7 @@ pub fn change_rows<L: Ledger>(
 }
 
 // Changes rows, all or none.
+#[tactic(auto, using(run_expressions::proofs::Laws::unit_stops))]
 fn change_all(
     table: &Name,
     targets: &[usize],

@@ -37,6 +37,7 @@ pub fn remove_rows<L: Ledger>(
 }
 
 // Removes rows, all or none.
+#[tactic(auto, using(run_expressions::proofs::Laws::unit_stops))]
 fn remove_all(table: &Name, met: Vec<Row>, world: &mut World) -> Result<u64, Stop>
     requires { MetInOrder world.old.memory.tables table.now met.items }
     ensures { Ended world.old world.new result

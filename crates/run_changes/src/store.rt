@@ -56,6 +56,7 @@ fn store_listed<L: Ledger>(
 }
 
 // Stores rows, all or none.
+#[tactic(auto, using(run_expressions::proofs::Laws::unit_stops))]
 fn store_all(table: &Name, listed: &[usize], new: Vec<Row>, world: &mut World) -> Result<u64, Stop>
     ensures { Ended world.old world.new result
         (unit (stored_in table.now (Some listed.now) new.items) (world_of world.old)) }

@@ -1,6 +1,6 @@
 -- The steps of loops over links, arguments, expressions and rows, and the end of a function's body.
 use Rattle.std.proofs.Common.{ℕ, ◌≡◌, ◌<◌, ◌+◌, ◌++◌, ◌∷◌, [], List, length, drop, get_or, Some}
-use Rattle.std.proofs.Common.{false, refl, sym, ap, ◌∙◌, subst, Result, Ok, Err}
+use Rattle.std.proofs.Common.{true, sym, ap, ◌∙◌, subst, Result, Ok, Err}
 use Rattle.sql_values.specs.declared.operators.Operator.{Operator}
 use Rattle.sql_values.specs.declared.value.SqlType.{SqlType}
 use Rattle.sql_values.specs.declared.value.Value.{Value}
@@ -9,9 +9,11 @@ use Rattle.sql_values.specs.Operators.{applied}
 use Rattle.bound_trees.specs.declared.expr.BoundExpr.{BoundExpr}
 use Rattle.bound_trees.specs.declared.query.BoundRow.{BoundRow}
 use Rattle.row_types.specs.Rows.{Row}
-use Rattle.rel_algebra.specs.Tree.{Expr, Links, Function}
+use Rattle.rel_algebra.specs.Tree.{Expr, Links, Returned}
 use Rattle.rel_algebra.specs.World.{World, Frame, Ends, no_self, after, give, outcome, frame_of}
 use Rattle.rel_algebra.specs.Meaning.{ev, ev_links, ev_args, ev_all, ev_rows, assigned_first, call}
+use Rattle.rel_algebra.specs.Plain.{planned_expr}
+use Rattle.rel_algebra.proofs.Laws.{returned_means}
 use Rattle.catalog_store.specs.Catalog.{Catalog}
 use Rattle.catalog_store.specs.View.{tree_of, exprs_of, row_of, rows_of}
 use Rattle.run_expressions.specs.Content.{Content, world_of}
@@ -182,13 +184,15 @@ module _ (operator : Operator) (e : Expr) (links : Links) (left : Value) (rows :
 
 -- ---- the value of a body is assigned to the type of the result
 
+-- a planned one writes nothing, so that nothing has to be taken back
 pub body_ends : (tree : Expr) (returns : SqlType) (values : List Value) (frame : Frame)
-    (old new : Content) (first r : Result Value Stop) → frame ≡ frame_of values →
-    Ended old new first (ev tree no_self [] frame (world_of old)) →
+    (old new : Content) (first r : Result Value Stop) → planned_expr tree ≡ true →
+    frame ≡ frame_of values → Ended old new first (ev tree no_self [] frame (world_of old)) →
     Follows first r (λ v. outcome (assigned returns v)) →
-    Ended old new r (call (Function false [] returns tree) values (world_of old))
-body_ends tree returns values frame old new first r is d made =
+    Ended old new r (call (Returned [] returns tree) values (world_of old))
+body_ends tree returns values frame old new first r planned is d made =
     subst (λ (e : Ends Value). Ended old new r e)
-    (ap (λ f. after (ev tree no_self [] f (world_of old)) (λ x. outcome (assigned returns x))) is)
+    (ap (λ f. after (ev tree no_self [] f (world_of old)) (λ x. outcome (assigned returns x))) is
+    ∙ sym (returned_means.planned [] returns tree values (world_of old) planned))
     (follows old new first r (ev tree no_self [] frame (world_of old))
     (λ v. outcome (assigned returns v)) made d)

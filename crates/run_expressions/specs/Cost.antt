@@ -2,7 +2,7 @@
 use Rattle.std.specs.Prelude.{ℕ, ◌+◌}
 use Rattle.rel_algebra.specs.Tree.{Expr, Literal, Column, Variable, Chain, Operate, And, Or, Case}
 use Rattle.rel_algebra.specs.Tree.{CaseOf, Coalesce, In, Exists, Single, Call, CallSelf, Links}
-use Rattle.rel_algebra.specs.Tree.{NoLink, MoreLinks, Exprs, NoExpr, MoreExprs, Routine, Function}
+use Rattle.rel_algebra.specs.Tree.{NoLink, MoreLinks, Exprs, NoExpr, MoreExprs, Routine, Returned}
 use Rattle.rel_algebra.specs.Tree.{Rows, NoRow, MoreRows, From, Table, Derived, Cross, Inner}
 use Rattle.rel_algebra.specs.Tree.{LeftOuter, Query, Select, Grouped, Values, Ordered}
 
@@ -37,9 +37,10 @@ abbrev mutual
   costs NoExpr = 1
   costs (MoreExprs e es) = cost e + costs es + 1
 
-  -- of the body of a function
+  -- of a routine: of a function that only returns an expression what this counts; no other is run
   pub routine_cost : Routine → ℕ
-  routine_cost (Function calls_itself parameters returns e) = cost e + 1
+  routine_cost (Returned parameters returns e) = cost e + 1
+  routine_cost _ = 1
 
   -- of the rows of VALUES
   pub rows_cost : Rows → ℕ

@@ -7,8 +7,9 @@ use crate::{Stop, World};
 use atomic_undo::Mark;
 use run_choices::is_taken_back;
 
-/// A unit that raises, or finds no memory, leaves the tables as they were at its mark. One that
-/// runs out of turns leaves them as they are: the whole statement is taken back then.
+/// A unit that raises an exception, or finds no memory, leaves the tables as they were at its mark.
+/// One that raises another condition leaves them as they are, and so does one that runs out of
+/// turns: the whole statement is taken back then.
 #[tactic(auto, using(crate::proofs::Left::left_back, crate::proofs::Left::left_same))]
 pub fn leave(stop: Stop, mark: Mark, world: &mut World) -> Stop
     requires { mark ≤ length world.old.book.entries }

@@ -3,8 +3,9 @@
 ghost use Rattle.std.specs.Prelude.{◌≡◌, [], true, false, map};
 ghost use Rattle.std.specs.Option.{option_copied};
 ghost use Rattle.sql_values.specs.declared.value.Value.TheVariants.{Bool as Truth};
-ghost use Rattle.rel_algebra.specs.Tree.{Call, Function};
+ghost use Rattle.rel_algebra.specs.Tree.{Call, Returned};
 ghost use Rattle.rel_algebra.specs.World.{no_self};
+ghost use Rattle.rel_algebra.specs.Plain.{planned_expr};
 ghost use Rattle.rel_algebra.specs.Meaning.{ev, ev_and, ev_or, ev_case, ev_coalesce, ev_links};
 ghost use Rattle.rel_algebra.specs.Meaning.{ev_args, call as call_by};
 ghost use Rattle.catalog_store.specs.Catalog.{routine_named};
@@ -283,7 +284,8 @@ fn call(
     }
 }
 
-// What a function returns: its body is run in a frame of its own, where no row is in sight.
+// What a function returns whose body is one RETURN: its body is run in a frame of its own, where no
+// row is in sight. It has a plan, so it writes nothing, and nothing has to be taken back.
 #[cycle(run)]
 fn run_body(
     body: &BoundExpr,
@@ -292,8 +294,9 @@ fn run_body(
     world: &mut World,
     catalog: &Catalog,
 ) -> Result<Value, Stop>
+    requires { planned_expr (tree_of catalog.now body.now) ≡ true }
     ensures { Ended world.old world.new result
-        (call_by (Function false [] returns (tree_of catalog.now body.now)) values
+        (call_by (Returned [] returns (tree_of catalog.now body.now)) values
         (world_of world.old)) }
 {
     let frame = Frame::of(values);

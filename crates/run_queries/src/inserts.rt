@@ -1,6 +1,6 @@
 //! INSERT.
 
-ghost use Rattle.rel_algebra.specs.Writing.{insert};
+ghost use Rattle.rel_algebra.specs.Changes.{insert_all};
 ghost use Rattle.catalog_store.specs.View.{query_of};
 ghost use Rattle.run_expressions.specs.Content.{world_of};
 ghost use Rattle.run_expressions.specs.Ending.{Ended};
@@ -15,6 +15,7 @@ use sql_values::Name;
 
 /// Evaluates all rows of an INSERT (ISO/IEC 9075-2, 14.11), stores them in the table of the name,
 /// and gives how many they are. Where it raises, the tables are as before it.
+#[tactic(auto, using(run_expressions::proofs::Laws::unit_stops))]
 pub fn run_insert(
     table: &Name,
     source: &BoundQuery,
@@ -22,7 +23,7 @@ pub fn run_insert(
     catalog: &Catalog,
 ) -> Result<u64, Stop>
     ensures { Ended world.old world.new result
-        (insert table.now (query_of catalog.now source.now) (world_of world.old)) }
+        (insert_all table.now (query_of catalog.now source.now) (world_of world.old)) }
 {
     let mark = world.mark();
     match insert_rows(table, source, world, catalog) {

@@ -21,6 +21,7 @@ use sqlite_items::Items;
 
 /// The rows of a query that is a statement (ISO/IEC 9075-2, 7.17). Where it raises, the tables are
 /// as before it.
+#[tactic(auto, using(run_expressions::proofs::Laws::unit_stops))]
 pub fn run_query(
     query: &BoundQuery,
     world: &mut World,

@@ -34,6 +34,7 @@ pub fn store_rows<L: Ledger>(
 }
 
 // Stores rows, all or none.
+#[tactic(auto, using(run_expressions::proofs::Laws::unit_stops))]
 fn store_all(table: &Name, new: Vec<Row>, world: &mut World) -> Result<u64, Stop>
     ensures { Ended world.old world.new result
         (unit (stored table.now new.items) (world_of world.old)) }

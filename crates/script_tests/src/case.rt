@@ -14,6 +14,8 @@ pub struct Case<'a> {
     pub failing_read: u64,
     pub failing_write: u64,
     pub failing_error: u64,
+    /// How many bytes the output takes in all.
+    pub room: usize,
     /// Whether the case goes on with the database of the case before it.
     pub keeps_database: bool,
     /// Whether the script's last line has no line feed.
@@ -26,6 +28,9 @@ pub struct Case<'a> {
     pub script: &'a str,
 }
 
+/// How many bytes a stream takes in all where a case does not say so: more than any case writes.
+pub const ROOM: usize = 1 << 20;
+
 impl<'a> Case<'a> {
     // A case that has no header line.
     fn plain(script: &'a str) -> Case<'a> {
@@ -36,6 +41,7 @@ impl<'a> Case<'a> {
             failing_read: 0,
             failing_write: 0,
             failing_error: 0,
+            room: ROOM,
             keeps_database: false,
             is_open: false,
             has_escapes: false,
@@ -52,6 +58,7 @@ impl<'a> Case<'a> {
             "failing read" => self.failing_read = number,
             "failing write" => self.failing_write = number,
             "failing error" => self.failing_error = number,
+            "room" => self.room = number as usize,
             "spaces" => self.size = number as usize,
             _ => return false,
         }

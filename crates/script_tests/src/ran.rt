@@ -1,6 +1,6 @@
 //! A case carried out, over edges in memory.
 
-use crate::case::Case;
+use crate::case::{Case, ROOM};
 use crate::script::script_bytes;
 use io_edges::{MemSink, MemSource};
 use psm_program::{Status, run_program};
@@ -29,9 +29,9 @@ fn source_of(alloc: Global, case: Case<'_>) -> Result<MemSource, AllocError> {
     Ok(MemSource::new(bytes, calls, case.reads.max(1)))
 }
 
-fn sink_of(alloc: Global, call: u64, per_call: usize) -> Result<MemSink, AllocError> {
+fn sink_of(alloc: Global, call: u64, per_call: usize, room: usize) -> Result<MemSink, AllocError> {
     let calls = failing(alloc, call)?;
-    Ok(MemSink::new(alloc, calls, per_call.max(1)))
+    MemSink::new(alloc, calls, per_call.max(1), room)
 }
 
 // The words of the command line.
@@ -44,12 +44,13 @@ fn words_of<'a>(alloc: Global, case: Case<'a>) -> Result<Vec<&'a str>, AllocErro
     Ok(words)
 }
 
-/// Runs the program as a case says, over a database.
+/// Runs the program as a case says, over a database. Memory that is refused before it starts, also
+/// for the room of the sinks, is no outcome of the case.
 pub fn run_case(alloc: Global, case: Case<'_>, db: &mut Database) -> Result<Outcome, AllocError> {
     let words = words_of(alloc, case)?;
     let mut src = source_of(alloc, case)?;
-    let mut out = sink_of(alloc, case.failing_write, case.writes)?;
-    let mut err = sink_of(alloc, case.failing_error, case.writes)?;
+    let mut out = sink_of(alloc, case.failing_write, case.writes, case.room)?;
+    let mut err = sink_of(alloc, case.failing_error, case.writes, ROOM)?;
     let status = run_program(alloc, &words, &mut src, &mut out, &mut err, db);
     Ok(Outcome { status, out, err })
 }

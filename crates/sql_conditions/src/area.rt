@@ -1,17 +1,19 @@
 //! Areas.
 
-ghost use Rattle.std.specs.Prelude.{◌≡◌, [], ◌∷◌};
-ghost use Rattle.sql_conditions.specs.Conditions.{pushed};
+ghost use Rattle.std.specs.Prelude.{◌≡◌, ◌<◌, ◌≤◌, [], ◌∷◌, IfOk, length};
+ghost use Rattle.sql_conditions.specs.declared.area.TheConstants.{MOST_CONDITIONS};
+ghost use Rattle.sql_conditions.specs.Conditions.{pushed, retexted, state_in};
 
-use crate::{Condition, EngineCondition};
+use crate::{Condition, Message, SqlState};
 use arrayvec::ArrayVec;
+use sql_texts::NoMemory;
 use std::marker::Model;
 
 /// How many conditions an area keeps at most.
 const MOST_CONDITIONS: usize = 4;
 
-/// A diagnostics area (ISO/IEC 9075-2, 4.33): one to four conditions, the newest first. It takes no
-/// memory of its own.
+/// A diagnostics area (ISO/IEC 9075-2, 4.33): one to four conditions, the newest first. None of its
+/// functions takes memory.
 #[derive(Debug, Drop)]
 pub struct Area {
     conditions: ArrayVec<Condition, MOST_CONDITIONS>,
@@ -45,16 +47,32 @@ impl Area {
         self.conditions.as_slice()
     }
 
-    /// The same area once more.
-    pub fn copied(&self) -> Area
-        ensures { result ≡ self.now }
+    /// How many conditions it has.
+    pub fn len(&self) -> usize
+        ensures count { result ≡ length self.now }
+        ensures some { 0 < result }
+        ensures within { result ≤ MOST_CONDITIONS }
+    {
+        self.conditions.len()
+    }
+
+    /// The state of the newest condition.
+    pub fn state(&self) -> &SqlState
+        ensures { result.now ≡ state_in self.now }
+    {
+        &self.conditions.as_slice()[0].state
+    }
+
+    /// The same area once more; its texts are shared.
+    pub fn copied(&self) -> Result<Area, NoMemory>
+        ensures { IfOk result (λ a. a ≡ self.now) }
     {
         let mut conditions = ArrayVec::new();
         let held = self.conditions.as_slice();
         for condition in held {
-            conditions.push(condition.copied());
+            conditions.push(condition.copied()?);
         }
-        Area { conditions }
+        Ok(Area { conditions })
     }
 
     /// Puts a condition first. Where there were four, the oldest goes.
@@ -65,5 +83,12 @@ impl Area {
             self.conditions.remove(MOST_CONDITIONS - 1);
         }
         self.conditions.insert(0, condition);
+    }
+
+    /// Gives the newest condition another text.
+    pub fn retext(&mut self, message: Message)
+        ensures { self.new ≡ retexted message self.old }
+    {
+        self.conditions.as_mut_slice()[0].message = message;
     }
 }

@@ -1,10 +1,12 @@
-//! One condition: its state and its message. Those that the engine raises are constants, and take
-//! no memory.
+//! Conditions: their states and their messages, and those that the engine itself raises.
 
-ghost use Rattle.std.specs.Prelude.{◌≡◌};
-ghost use Rattle.sql_conditions.specs.Conditions.{state_of, text_of, own};
+ghost use Rattle.std.specs.Prelude.{◌≡◌, IfOk};
+ghost use Rattle.sql_conditions.specs.Conditions.{own, completion};
+ghost use Rattle.sql_conditions.specs.Texts as spec;
 
-use std::marker::Model;
+use crate::{Message, SqlState};
+use sql_texts::NoMemory;
+use std::mem::size_of;
 
 /// A condition that the engine itself raises.
 #[derive(Clone, Copy, Debug, Default, PartialEq, Eq)]
@@ -26,28 +28,72 @@ pub enum EngineCondition {
     SubstringError,
     /// A text doesn't spell a value of the type that it is cast to.
     InvalidTextForCast,
+    /// No row is met, found or left.
+    NoData,
+    /// No test of CASE is true, and it has no ELSE.
+    CaseNotFound,
+    /// The text of SIGNAL or RESIGNAL is NULL.
+    NullNotAllowed,
+    /// An open cursor is opened, or one that is closed is read or closed.
+    InvalidCursorState,
+    /// A function ends without RETURN.
+    EndedWithoutReturn,
+    /// RESIGNAL stands in no handler's action.
+    HandlerNotActive,
+    /// GET STACKED DIAGNOSTICS stands in no handler's action.
+    StackedWithoutHandler,
+    /// An area has no condition of a number.
+    InvalidConditionNumber,
 }
 
+// The conditions that the engine raises.
+const ENGINE_CONDITIONS: [EngineCondition; 16] = [
+    EngineCondition::NumberOutOfRange,
+    EngineCondition::DivisionByZero,
+    EngineCondition::ConstraintViolated,
+    EngineCondition::RecursionTooDeep,
+    EngineCondition::SeveralRows,
+    EngineCondition::StringTooLong,
+    EngineCondition::SubstringError,
+    EngineCondition::InvalidTextForCast,
+    EngineCondition::NoData,
+    EngineCondition::CaseNotFound,
+    EngineCondition::NullNotAllowed,
+    EngineCondition::InvalidCursorState,
+    EngineCondition::EndedWithoutReturn,
+    EngineCondition::HandlerNotActive,
+    EngineCondition::StackedWithoutHandler,
+    EngineCondition::InvalidConditionNumber,
+];
+
 impl EngineCondition {
-    /// Its SQLSTATE: five digits or capitals.
-    pub fn state(self) -> &'static str
-        ensures { result.now ≡ state_of self }
+    /// Its SQLSTATE.
+    pub fn state(self) -> SqlState
+        ensures { result ≡ spec.state_of self }
     {
         match self {
-            EngineCondition::NumberOutOfRange => "22003",
-            EngineCondition::DivisionByZero => "22012",
-            EngineCondition::ConstraintViolated => "23000",
-            EngineCondition::RecursionTooDeep => "PS002",
-            EngineCondition::SeveralRows => "21000",
-            EngineCondition::StringTooLong => "22001",
-            EngineCondition::SubstringError => "22011",
-            EngineCondition::InvalidTextForCast => "22018",
+            EngineCondition::NumberOutOfRange => SqlState::known(*b"22003"),
+            EngineCondition::DivisionByZero => SqlState::known(*b"22012"),
+            EngineCondition::ConstraintViolated => SqlState::known(*b"23000"),
+            EngineCondition::RecursionTooDeep => SqlState::known(*b"PS002"),
+            EngineCondition::SeveralRows => SqlState::known(*b"21000"),
+            EngineCondition::StringTooLong => SqlState::known(*b"22001"),
+            EngineCondition::SubstringError => SqlState::known(*b"22011"),
+            EngineCondition::InvalidTextForCast => SqlState::known(*b"22018"),
+            EngineCondition::NoData => SqlState::known(*b"02000"),
+            EngineCondition::CaseNotFound => SqlState::known(*b"20000"),
+            EngineCondition::NullNotAllowed => SqlState::known(*b"22004"),
+            EngineCondition::InvalidCursorState => SqlState::known(*b"24000"),
+            EngineCondition::EndedWithoutReturn => SqlState::known(*b"2F005"),
+            EngineCondition::HandlerNotActive => SqlState::known(*b"0K000"),
+            EngineCondition::StackedWithoutHandler => SqlState::known(*b"0Z002"),
+            EngineCondition::InvalidConditionNumber => SqlState::known(*b"35000"),
         }
     }
 
     /// Its message text.
     pub fn text(self) -> &'static str
-        ensures { result.now ≡ text_of self }
+        ensures { result.now ≡ spec.message_of self }
     {
         match self {
             EngineCondition::NumberOutOfRange => "number out of range",
@@ -58,59 +104,87 @@ impl EngineCondition {
             EngineCondition::StringTooLong => "string too long",
             EngineCondition::SubstringError => "substring error",
             EngineCondition::InvalidTextForCast => "invalid text for cast",
+            EngineCondition::NoData => "no data",
+            EngineCondition::CaseNotFound => "case not found",
+            EngineCondition::NullNotAllowed => "null value not allowed",
+            EngineCondition::InvalidCursorState => "invalid cursor state",
+            EngineCondition::EndedWithoutReturn => "function ended without RETURN",
+            EngineCondition::HandlerNotActive => "resignal when handler not active",
+            EngineCondition::StackedWithoutHandler => "stacked diagnostics without handler",
+            EngineCondition::InvalidConditionNumber => "invalid condition number",
         }
     }
 }
 
-/// A condition (ISO/IEC 9075-2, 4.32): an SQLSTATE and a message text. Contracts see both.
+// The text of a state among these conditions.
+fn text_among(conditions: &[EngineCondition], state: &SqlState) -> &'static str
+    ensures { result.now ≡ spec.text_among conditions.now state.now }
+{
+    for condition in conditions {
+        if condition.state().is(state) {
+            return condition.text();
+        }
+    }
+    ""
+}
+
+/// The text of a state in this engine's conditions and replies; a state without one has no
+/// character.
+pub fn text_of(state: &SqlState) -> &'static str
+    ensures { result.now ≡ spec.text_of state.now }
+{
+    if state.is(&SqlState::known(*b"PS001")) {
+        return "budget exhausted";
+    }
+    text_among(&ENGINE_CONDITIONS, state)
+}
+
+/// A condition (ISO/IEC 9075-2, 4.32): an SQLSTATE and a message text.
 #[derive(Debug, Drop)]
 pub struct Condition {
-    engine: EngineCondition,
+    /// What was raised.
+    pub state: SqlState,
+    /// What is told of it.
+    pub message: Message,
 }
 
-impl Model for Condition {
-    ghost use Rattle.sql_conditions.specs.Conditions.{Condition as Plain, own};
-
-    ghost Value = { Plain };
-
-    ghost view = { λ c. own c.engine };
-}
+const _: () = prove!(size_of::<Condition>() <= 24);
 
 impl Condition {
-    /// A condition that the engine raises.
+    /// The condition of what raises nothing. It takes no memory.
+    pub fn success() -> Condition
+        ensures { result ≡ completion }
+    {
+        Condition {
+            state: SqlState::known(*b"00000"),
+            message: Message::empty(),
+        }
+    }
+
+    /// A condition that the engine raises. It takes no memory.
     pub fn of(engine: EngineCondition) -> Condition
         ensures { result ≡ own engine }
     {
-        Condition { engine }
-    }
-
-    /// The same condition once more.
-    pub fn copied(&self) -> Condition
-        ensures { result ≡ self.now }
-    {
         Condition {
-            engine: self.engine,
+            state: engine.state(),
+            message: Message::of_engine(engine),
         }
     }
 
-    /// The SQLSTATE.
-    pub fn state(&self) -> &str
-        ensures { result.now ≡ self.now.state }
+    /// The same condition once more. It takes no memory.
+    pub fn copied(&self) -> Result<Condition, NoMemory>
+        ensures { IfOk result (λ c. c ≡ self.now) }
     {
-        self.engine.state()
-    }
-
-    /// The message text; it may be empty.
-    pub fn message(&self) -> &str
-        ensures { result.now ≡ self.now.message }
-    {
-        self.engine.text()
+        Ok(Condition {
+            state: self.state,
+            message: self.message.copied()?,
+        })
     }
 }
 
 /// What fills the places of an area that hold no condition yet.
 impl Default for Condition {
     fn default() -> Condition {
-        Condition::of(EngineCondition::NumberOutOfRange)
+        Condition::success()
     }
 }

@@ -1,5 +1,5 @@
-use Rattle.data_change.proofs.Laws.{insert_without_list}
+use Rattle.rel_algebra.proofs.Laws.{changes_run}
 use Rattle.data_change.proofs.insert_without_list.Goals as goal
 
 pub returns : goal.returns
-returns c = insert_without_list
+returns c = changes_run.without_list

@@ -5,6 +5,8 @@ pub returns : goal.returns
 returns c = record {
   has_plan = refl;
   no_plan = refl;
+  no_plan_on_null = refl;
+  no_plan_of_statements = refl;
   uneven = refl;
   several_rows = refl;
   second_raises = refl;

@@ -358,7 +358,7 @@ pub expr::run_body-returns : goal.expr::run_body-returns
 expr::run_body-returns t c =
     body_ends (tree_of c.args.catalog.now c.args.body.now) c.args.returns c.args.values
     c.of-frame.result c.args.world.now c.eval-value.new.world c.eval-value.result c.assigned.result
-    c.of-frame.ensures c.eval-value.ensures c.assigned.ensures
+    c.requires c.of-frame.ensures c.eval-value.ensures c.assigned.ensures
 
 pub expr::eval_arguments-returns-in_err-values :
     goal.expr::eval_arguments-returns-in_err-values

@@ -5,7 +5,7 @@ use Rattle.plan_exec.proofs.collecting.collect.Goals as goal
 
 pub returns-in-Some-clause-answer : goal.returns-in-Some-clause-answer
 returns-in-Some-clause-answer g c =
-    ap Err c.copied.ensures
+    ap Err c.in_ok-copied.ensures
     ∙ sym (ap shown_end (area_found c.args.rows c.loop-at.at c.at.result.now c.in-Some.area.now
     (omega (arith, c.loop-at-test.true)) c.at.ensures.row (sym c.in-Some.ensures)
     c.loop-at.invariant.looked))

@@ -1,5 +1,5 @@
 use Rattle.std.proofs.Common.{◌≡◌, false, length, subst}
-use Rattle.rel_algebra.specs.Tree.{Function}
+use Rattle.rel_algebra.specs.Tree.{Returned}
 use Rattle.rel_algebra.specs.Emit.{emit_body, top}
 use Rattle.bound_trees.specs.declared.expr.BoundExpr.{BoundExpr}
 use Rattle.catalog_store.specs.Kept.{IsPlan}
@@ -13,6 +13,6 @@ returns-clause-kept c =
     let shown = c.in-Some.ensures in
     let same : c.in-Some.tree.now ≡ c.args.routine.body = cc in
     subst (λ (b : BoundExpr). IsPlan c.in_ok-plan-in-Some.plan
-    (emit_body (Function false head.parameters head.returns (tree_of c.args.catalog.now b))
+    (emit_body (Returned head.parameters head.returns (tree_of c.args.catalog.now b))
     (width_in c.args.catalog.now) (top (length head.parameters)) 0)) same
     (rw c.len.ensures at (c.in_ok-plan-in-Some.ensures head.parameters))

@@ -23,4 +23,4 @@ returns-clause-names c =
 
 pub returns-clause-planned : goal.returns-clause-planned
 returns-clause-planned c = subst AllPlanned c.self.view_is
-    (all_planned [] c.self.inside.objects.entries (λ name. refl) c.self.invariant)
+    (all_planned [] c.self.inside.objects.entries (λ name. tt) c.self.invariant)
