@@ -18,9 +18,10 @@ use crate::begins::{
 };
 use grammar_algebra::{Input, ParseError, Stage};
 use grammar_sql::StructureWord;
+use parse_answers::semicolon_after;
 use parse_changes::{for_query, named_cursor, named_declaration, simple_statement};
 use parse_expressions::{anchor, ident};
-use parse_nodes::{case_of, if_of, next_stage, semicolon_after, with_first};
+use parse_nodes::{case_of, if_of, next_stage, with_first};
 use parse_queries::{after, expr, if_expr};
 use parse_reads::{closed, paired, put};
 use parse_simple::{atomic, end_label, handled, handler_type, if_label};

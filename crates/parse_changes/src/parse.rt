@@ -9,7 +9,7 @@ ghost use Rattle.grammar_sql.specs.Sql.{rules};
 
 use crate::simple::dml;
 use grammar_algebra::{Input, ParseFault};
-use parse_nodes::{answered, room_left};
+use parse_answers::{answered, room_left};
 use parse_queries::query;
 use sql_lex::Tokens;
 use statement_trees::Stmt;

@@ -1,16 +1,14 @@
 //! The nodes that parsers make of the parts that they read, and what they decide beside reading:
-//! what holds where nothing is written, how a refusal is answered, and how many constructs may
-//! still be opened. No function here reads a part of an expression, a query or a statement.
+//! what holds where nothing is written. No function here reads a part of an expression, a query or a
+//! statement.
 #![tactic(auto)]
 
-mod answers;
 mod defaults;
 mod expressions;
 mod lists;
 mod queries;
 mod statements;
 
-pub use answers::{answered, room_left, semicolon_after};
 pub use defaults::{area_or_current, mode_or_in, next_stage};
 pub use expressions::{
     applied, calls, cast_of, cast_to, chained, column_name_of, exists_of, is_or_not, predicate_of,

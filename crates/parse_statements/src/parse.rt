@@ -11,7 +11,7 @@ ghost use Rattle.grammar_sql.specs.Sql.{rules};
 use crate::routines::ddl;
 use crate::script::statement;
 use grammar_algebra::{Input, MOST_OPEN, ParseFault};
-use parse_nodes::{answered, room_left};
+use parse_answers::{answered, room_left};
 use sql_lex::Tokens;
 use statement_trees::Stmt;
 use std::alloc::Global;
