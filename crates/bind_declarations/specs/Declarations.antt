@@ -39,7 +39,7 @@ use Rattle.bind_rules.specs.Handlers.{undo_faults, twice_faults}
 use Rattle.bind_declarations.specs.declared.declared.Declared.{Declared}
 use Rattle.bind_declarations.specs.Loops.{next_slot, next_cursor, slot_after}
 use Rattle.bind_simple.specs.Places.{Surroundings, seen_from, with_scope, in_action}
-use Rattle.bind_simple.specs.States.{state_faults, state_named, faults_of_condition}
+use Rattle.bind_simple.specs.States.{state_faults, state_of, state_named, faults_of_condition}
 use Rattle.bind_simple.specs.Values.{value_of_kind}
 use Rattle.bind_rules.specs.Targets.{variable_of}
 
@@ -158,7 +158,7 @@ condition_faults d so = state_faults d.state ++ again d.name so.scope
 
 -- what is declared, with one condition more
 abbrev pub condition_declared : ConditionDeclaration → Declared → Declared
-condition_declared d so = over_scope (with_condition d.name.name d.state.text so.scope) so
+condition_declared d so = over_scope (with_condition d.name.name (state_of d.state) so.scope) so
 
 -- DECLARE of a condition
 abbrev pub judged_condition : ConditionDeclaration → Declared → Noted Declared
@@ -216,7 +216,7 @@ type_of_handler type.Undo = bound_type.Undo
 
 -- what a handler waits for; a condition is its state
 abbrev pub value_of : Surroundings → ConditionValue → BoundConditionValue
-value_of p (waited.Sqlstate at s) = value.State s.text
+value_of p (waited.Sqlstate at s) = value.State (state_of s)
 value_of p (waited.Condition i) = value.State (state_named i p)
 value_of p (waited.SqlException at) = value.SqlException
 value_of p (waited.SqlWarning at) = value.SqlWarning

@@ -10,6 +10,7 @@ use Rattle.bound_trees.specs.declared.statement.BoundHandler.{BoundHandler}
 use Rattle.bound_trees.specs.declared.statement.BoundStmt.TheVariants as bound
 use Rattle.bind_faults.specs.declared.fault.FaultKind.TheVariants.{UnknownName, DuplicateName}
 use Rattle.bind_faults.specs.declared.fault.FaultKind.TheVariants.{NotPermitted}
+use Rattle.bind_faults.specs.Faults.{least}
 use Rattle.bind_sight.specs.declared.scope.Scope.{Scope}
 use Rattle.bind_sight.specs.Scopes.{variable_named, condition_named}
 use Rattle.bind_simple.specs.Examples.{at, named, fault, declared, inside}
@@ -83,6 +84,12 @@ pub record DeclarationsStand : Type 0 where
   pub state_and_its_condition : values_faults inside []
       (waited.Condition (named (codes "D") 3) ∷ state (codes "45000") 5 ∷ []) ≡
       fault DuplicateName 5
+  pub first_of_two_that_are_no_states : least (values_faults inside []
+      (state (codes "4500") 3 ∷ state (codes "x") 5 ∷ [])) ≡
+      Some (record { at = at 4; kind = NotPermitted })
+  pub no_state_after_a_state : least (values_faults inside []
+      (state (codes "45000") 3 ∷ state (codes "4500") 5 ∷ [])) ≡
+      Some (record { at = at 6; kind = NotPermitted })
   pub value_of_another_handler : values_faults inside (waiting ∷ [])
       (waited.Condition (named (codes "D") 3) ∷ []) ≡ fault DuplicateName 3
   pub value_of_no_other : values_faults inside (waiting ∷ []) (waited.SqlException (at 3) ∷ []) ≡ []

@@ -14,7 +14,7 @@ use bind_parts::TypedQuery;
 use bind_rules::variable_of;
 use bind_selects::bind_ordered_typed;
 use bind_sight::{Cursor, Output, Scope, ScopeRef, Variable, empty_scope, entered_scope};
-use bind_simple::{Surroundings, bind_of_kind, note_state, seen_from, with_scopes};
+use bind_simple::{Surroundings, bind_of_kind, note_state, seen_from, state_of, with_scopes};
 use bound_trees::{BoundExpr, BoundHandler, BoundQuery, BoundVariables};
 use sql_values::{Name, NoMemory, SqlType};
 use sqlite_items::Items;
@@ -174,7 +174,7 @@ pub fn declare_condition(
     note_state(&declaration.state, least);
     note_again(&declaration.name, &so.scope, least);
     so.scope.conditions.push(declaration.name.name.copied()?)?;
-    so.scope.states.push(declaration.state.text.copied()?)?;
+    so.scope.states.push(state_of(&declaration.state))?;
     Ok(())
 }
 

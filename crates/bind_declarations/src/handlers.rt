@@ -7,7 +7,7 @@ ghost use Rattle.bind_declarations.specs.Declarations as spec;
 
 use bind_faults::Fault;
 use bind_rules::note_twice;
-use bind_simple::{Surroundings, note_condition, note_state, state_named};
+use bind_simple::{Surroundings, note_condition, note_state, state_named, state_of};
 use bound_trees::{BoundConditionValue, BoundHandler, BoundHandlerType, BoundStmt};
 use sql_values::NoMemory;
 use sqlite_items::{Boxed, Items};
@@ -25,24 +25,15 @@ fn type_of_handler(handler: HandlerType) -> BoundHandlerType
     }
 }
 
-fn value_of(
-    alloc: Global,
-    value: &ConditionValue,
-    place: &Surroundings<'_>,
-) -> Result<BoundConditionValue, NoMemory>
-    ensures { IfOk result (λ v. v ≡ spec.value_of (place_by place.now) value.now) }
+fn value_of(value: &ConditionValue, place: &Surroundings<'_>) -> BoundConditionValue
+    ensures { result ≡ spec.value_of (place_by place.now) value.now }
 {
     match value {
-        ConditionValue::Sqlstate(_, state) => {
-            Ok(BoundConditionValue::State(state.text.copied()?))
-        }
-        ConditionValue::Condition(ident) => {
-            let state = state_named(alloc, ident, place)?;
-            Ok(BoundConditionValue::State(state))
-        }
-        ConditionValue::SqlException(_) => Ok(BoundConditionValue::SqlException),
-        ConditionValue::SqlWarning(_) => Ok(BoundConditionValue::SqlWarning),
-        ConditionValue::NotFound(_) => Ok(BoundConditionValue::NotFound),
+        ConditionValue::Sqlstate(_, state) => BoundConditionValue::State(state_of(state)),
+        ConditionValue::Condition(ident) => BoundConditionValue::State(state_named(ident, place)),
+        ConditionValue::SqlException(_) => BoundConditionValue::SqlException,
+        ConditionValue::SqlWarning(_) => BoundConditionValue::SqlWarning,
+        ConditionValue::NotFound(_) => BoundConditionValue::NotFound,
     }
 }
 
@@ -86,7 +77,7 @@ pub fn bind_values(
     let mut bound = Items::new(alloc);
     for value in values {
         note_own(value, place, least);
-        let one = value_of(alloc, value, place)?;
+        let one = value_of(value, place);
         note_twice(
             &one,
             anchor_of_value(value),

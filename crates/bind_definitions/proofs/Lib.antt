@@ -1,3 +1,4 @@
 pub mod Access
 pub mod Elements
+pub mod Guards
 pub mod Laws

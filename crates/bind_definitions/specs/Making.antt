@@ -1,6 +1,6 @@
 -- What CREATE FUNCTION and CREATE PROCEDURE make of a body with its names resolved. ISO/IEC 9075-4,
 -- 9.20 (SQL-invoked function); ISO/IEC 9075-2, 11.60 (SQL-invoked routine).
-use Rattle.std.specs.Prelude.{ℕ, false, if◌then◌else◌, List, [], ◌++◌, map, Some, None}
+use Rattle.std.specs.Prelude.{ℕ, false, if◌then◌else◌, List, [], ◌++◌, map, length, Some, None}
 use Rattle.syntax_trees.specs.declared.anchor.Ident.{Ident}
 use Rattle.statement_trees.specs.declared.definition.Characteristic.{Characteristic}
 use Rattle.statement_trees.specs.declared.definition.Parameter.{Parameter}
@@ -30,7 +30,9 @@ use Rattle.bind_rules.specs.Access.{writes}
 use Rattle.bind_rules.specs.Definitions.{Definition, ProcedureDefinition}
 use Rattle.bind_rules.specs.Heights.{height_above, too_high}
 use Rattle.bind_rules.specs.Names.{taken_name}
+use Rattle.null_guards.specs.Guards.{guarded}
 use Rattle.bind_definitions.specs.Characteristics.{is_null_on_null, need_of, access_faults}
+use Rattle.bind_definitions.specs.Characteristics.{access_by}
 use Rattle.bind_definitions.specs.Routines.{parameter_types, parameters_of, parameter_faults}
 use Rattle.bind_definitions.specs.Routines.{used_in, calls}
 
@@ -105,22 +107,41 @@ signature_faults s catalog = taken_name s.name catalog ++
 abbrev pub need_in : Catalog → List (List ℕ) → BoundStmt → DataAccess
 need_in catalog uses body = need_of catalog uses (writes body)
 
--- what is asked of a body: what it needs is written, and its height is within the limit
+-- what is asked by what a body needs: that is written, and the height is within the limit
+abbrev pub asked_with : DataAccess → Ident → List Characteristic → Catalog → List (List ℕ) →
+    List Fault
+asked_with need i cs catalog uses = access_faults need cs ++ too_high i
+    (greatest_height catalog uses)
+
+-- what is asked of a body
 abbrev pub asked_of_body : Ident → List Characteristic → Catalog → List (List ℕ) → BoundStmt →
     List Fault
-asked_of_body i cs catalog uses body = access_faults (need_in catalog uses body) cs ++ too_high i
-    (greatest_height catalog uses)
+asked_of_body i cs catalog uses body = asked_with (need_in catalog uses body) i cs catalog uses
+
+-- what is asked of RETURN, which writes nothing
+abbrev pub asked_of_result : Definition → Catalog → List (List ℕ) → List Fault
+asked_of_result s catalog uses = asked_with (need_of catalog uses false) s.name s.characteristics
+    catalog uses
 
 -- ---- functions
 
+-- RETURNS NULL ON NULL INPUT is the CASE that gives NULL where a parameter is; every other
+-- characteristic leaves the value as it is
+abbrev pub guarded_body : Definition → BoundExpr → BoundExpr
+guarded_body s result = if is_null_on_null s.characteristics then guarded (length s.parameters)
+    result else result
+
+-- a function with a plan, by its head and its value
+abbrev pub with_value : Definition → FunctionHead → BoundExpr → NewObject
+with_value s head result = new.Function
+    (record { head = head; body = guarded_body s result; plan = None })
+
 -- it has a plan where all that it uses has one
-abbrev pub planned_function : Definition → Catalog → List (List ℕ) → BoundExpr → NewObject
-planned_function s catalog uses result = new.Function (record {
-  head = head_with s (need_of catalog uses false) (height_above (greatest_height catalog uses))
-      (weight catalog (Return result)) uses;
-  body = result;
-  plan = None;
-})
+abbrev pub planned_function : Definition → Catalog → DataAccess → List (List ℕ) → BoundExpr →
+    NewObject
+planned_function s catalog access uses result = with_value s
+    (head_with s access (height_above (greatest_height catalog uses))
+    (weight catalog (Return result)) uses) result
 
 -- the head of a function without a plan: it lies above what it calls
 abbrev pub interpreted_head : Definition → Catalog → DataAccess → List (List ℕ) → BoundStmt →
@@ -143,11 +164,16 @@ abbrev pub interpreted : Definition → Catalog → DataAccess → List (List �
 interpreted s catalog access uses body = with_body s (interpreted_head s catalog access uses body)
     uses body
 
+-- what a function does with SQL data whose body is RETURN: what is written, and else what it needs
+abbrev pub access_of_result : Definition → Catalog → List (List ℕ) → DataAccess
+access_of_result s catalog uses = access_by s.characteristics (need_of catalog uses false)
+
 -- a function whose body is RETURN: with a plan where all that it calls has one
 abbrev pub returning : Definition → Catalog → List (List ℕ) → BoundExpr → NewObject
 returning s catalog uses result =
-    if all_run catalog uses then planned_function s catalog uses result
-    else interpreted s catalog (need_of catalog uses false) uses (Return result)
+    if all_run catalog uses
+    then planned_function s catalog (access_of_result s catalog uses) uses result
+    else interpreted s catalog (access_of_result s catalog uses) uses (Return result)
 
 -- ---- procedures
 

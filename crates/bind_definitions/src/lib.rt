@@ -5,14 +5,16 @@
 mod characteristics;
 mod making;
 mod removal;
+mod returned;
 mod routine;
 mod table;
 
 pub use characteristics::{access_by, note_groups, note_null_calls};
 pub use making::{
-    BoundBody, BoundResult, bind_signature, body_need, interpreted, note_body, own_function,
-    own_procedure, procedure_head, procedure_of, returning,
+    BoundBody, bind_signature, body_need, interpreted, note_body, own_function, own_procedure,
+    procedure_head, procedure_of,
 };
 pub use removal::bind_drop;
+pub use returned::{BoundResult, note_result, returning, value_returned};
 pub use routine::{greatest_height, parameters_of};
 pub use table::bind_table;

@@ -11,14 +11,13 @@ use crate::routine::{calls, greatest_height, parameter_types, parameters_of, use
 use bind_faults::Fault;
 use bind_kinds::{note_type, type_of};
 use bind_rules::{height_above, note_height, note_taken, writes};
-use bind_selects::all_run;
 use bind_sight::{EnclosingRoutine, Scope};
-use bound_trees::{BoundExpr, BoundStmt};
+use bound_trees::BoundStmt;
 use catalog_store::{
-    Body, Catalog, DataAccess, FunctionHead, InterpretedFunction, Object, ParameterMode, Procedure,
-    ProcedureHead, RoutineRecord,
+    Catalog, DataAccess, FunctionHead, InterpretedFunction, Object, ParameterMode, Procedure,
+    ProcedureHead,
 };
-use routine_form::{HEAVIEST, weight, weight_of_return};
+use routine_form::{HEAVIEST, weight};
 use sql_values::{Name, NoMemory};
 use sqlite_items::Items;
 use statement_trees::{
@@ -27,13 +26,6 @@ use statement_trees::{
 use std::alloc::Global;
 use std::mem::drop;
 use syntax_trees::Ident;
-
-/// A function's result with its names resolved, and the names that it uses.
-#[derive(Drop)]
-pub struct BoundResult {
-    pub tree: BoundExpr,
-    pub uses: Items<Name>,
-}
 
 /// A routine's body with its names resolved, and the names that it uses.
 #[derive(Drop)]
@@ -44,7 +36,8 @@ pub struct BoundBody {
 
 // ---- heads
 
-fn head_with(
+/// The head of a function.
+pub(crate) fn head_with(
     alloc: Global,
     create: &CreateFunction,
     access: DataAccess,
@@ -164,7 +157,24 @@ pub fn body_need(catalog: &Catalog, body: &BoundBody) -> DataAccess
     need_of(catalog, body.uses.as_slice(), writes(&body.stmt))
 }
 
-/// What the body needs is written, and its height is within the limit.
+/// What a body needs is written, and its height is within the limit.
+pub(crate) fn note_asked(
+    need: DataAccess,
+    ident: &Ident,
+    characteristics: &[Characteristic],
+    catalog: &Catalog,
+    uses: &[Name],
+    least: &mut Option<Fault>,
+)
+    ensures { least.new ≡ noted least.old (spec.asked_with need ident.now characteristics.now
+        catalog.now uses.now) }
+{
+    note_access(need, characteristics, least);
+    let called = greatest_height(catalog, uses);
+    note_height(ident, called, least);
+}
+
+/// The same of a body.
 pub fn note_body(
     ident: &Ident,
     characteristics: &[Characteristic],
@@ -176,33 +186,17 @@ pub fn note_body(
         catalog.now body.now.uses body.now.stmt) }
 {
     let need = body_need(catalog, body);
-    note_access(need, characteristics, least);
-    let called = greatest_height(catalog, body.uses.as_slice());
-    note_height(ident, called, least);
+    note_asked(
+        need,
+        ident,
+        characteristics,
+        catalog,
+        body.uses.as_slice(),
+        least,
+    );
 }
 
 // ---- functions
-
-// A function with a plan.
-fn planned_function(
-    alloc: Global,
-    create: &CreateFunction,
-    catalog: &Catalog,
-    bound: BoundResult,
-) -> Result<Object, NoMemory>
-    ensures { IfOk result (λ o. o ≡ spec.planned_function (out-CreateFunction create.now)
-        catalog.now bound.uses bound.tree) }
-{
-    let access = need_of(catalog, bound.uses.as_slice(), false);
-    let height = height_above(greatest_height(catalog, bound.uses.as_slice()));
-    let weight = weight_of_return(&bound.tree, catalog);
-    let head = head_with(alloc, create, access, height, weight, bound.uses)?;
-    Ok(Object::Function(RoutineRecord {
-        head,
-        body: Body::shown(bound.tree),
-        plan: None,
-    }))
-}
 
 // The head of a function without a plan, by its body and what it uses.
 fn interpreted_head(
@@ -251,28 +245,6 @@ pub fn interpreted(
             drop(body);
             Err(NoMemory)
         }
-    }
-}
-
-/// A function whose body is RETURN: with a plan where all that it calls has one.
-pub fn returning(
-    alloc: Global,
-    create: &CreateFunction,
-    catalog: &Catalog,
-    bound: BoundResult,
-) -> Result<Object, NoMemory>
-    ensures { IfOk result (λ o. o ≡ spec.returning (out-CreateFunction create.now) catalog.now
-        bound.uses bound.tree) }
-{
-    if all_run(bound.uses.as_slice(), catalog) {
-        planned_function(alloc, create, catalog, bound)
-    } else {
-        let access = need_of(catalog, bound.uses.as_slice(), false);
-        let body = BoundBody {
-            stmt: BoundStmt::Return(bound.tree),
-            uses: bound.uses,
-        };
-        interpreted(alloc, create, catalog, access, body)
     }
 }
 

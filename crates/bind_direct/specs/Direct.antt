@@ -2,7 +2,7 @@
 -- for, the name faults in it, and whether it is run. ISO/IEC 9075-2, 22.1 (direct SQL statement),
 -- 11.3 (table definition), 11.31 and 11.62 (drop statements), 14.9, 14.11 and 14.14 (changes) and
 -- 15.1 (call statement).
-use Rattle.std.specs.Prelude.{Bool, true, false, [], None}
+use Rattle.std.specs.Prelude.{Bool, true, false, ◌&&◌, [], None, is_some}
 use Rattle.syntax_trees.specs.declared.anchor.Ident.{Ident}
 use Rattle.syntax_trees.specs.declared.query.OrderedQuery.{OrderedQuery}
 use Rattle.statement_trees.specs.declared.definition.CreateTable.{CreateTable}
@@ -19,6 +19,7 @@ use Rattle.bind_faults.specs.Faults.{Noted, as_value}
 use Rattle.bind_sight.specs.Sight.{at_top}
 use Rattle.bind_queries.specs.Order.{judge_ordered}
 use Rattle.bind_queries.specs.Runs.{all_run}
+use Rattle.bind_rules.specs.Definitions.{Definition, result_of}
 use Rattle.bind_changes.specs.Writing.{judged_insert, judged_update, judged_delete}
 use Rattle.bind_definitions.specs.Tables.{judged_table}
 use Rattle.bind_definitions.specs.Removals.{judged_drop}
@@ -55,7 +56,7 @@ run_over catalog make x = record {
   uses = x.uses;
 }
 
--- a table or a function with a plan is made by what is run
+-- a table, or a function with a plan
 abbrev pub is_run : NewObject → Bool
 is_run (new.Table t) = true
 is_run (new.Function r) = true
@@ -64,9 +65,13 @@ is_run (new.Procedure p) = false
 
 -- ---- definitions
 
--- a new entry of the catalog, under its name
+-- a new table or procedure, under its name
 abbrev pub created : Ident → NewObject → BoundStatement
 created i o = with_runs (is_run o) (bound.Create i.name o)
+
+-- a new function: one with a plan is made by what is run where it is of the form that is run
+abbrev pub created_function : Definition → NewObject → BoundStatement
+created_function s o = with_runs (is_some (result_of s) && is_run o) (bound.Create s.name.name o)
 
 -- a direct CREATE TABLE
 abbrev pub direct_table : CreateTable → Catalog → Noted BoundStatement

@@ -2,15 +2,17 @@
 //! statement.
 
 ghost use Rattle.std.specs.Prelude.{◌≡◌, IfOk, OnOk};
+ghost use Rattle.statement_trees.specs.declared.statement.CreateFunction.{out-CreateFunction};
 ghost use Rattle.bind_faults.specs.Faults.{noted};
 ghost use Rattle.bind_direct.specs.Direct as spec;
 
 use crate::bound::{Bound, BoundStatement};
 use bind_definitions::{bind_drop, bind_table};
 use bind_faults::Fault;
+use bind_rules::result_of;
 use catalog_store::{Catalog, Object};
 use sql_values::NoMemory;
-use statement_trees::{CreateTable, DropObject};
+use statement_trees::{CreateFunction, CreateTable, DropObject};
 use std::alloc::Global;
 use syntax_trees::Ident;
 
@@ -25,13 +27,24 @@ fn is_run(object: &Object) -> bool
     }
 }
 
-/// A new entry of the catalog as a statement, which is run where it makes a table or a function
-/// with a plan.
+/// A new table or procedure as a statement, which is run where it makes a table.
 pub fn created(ident: &Ident, object: Object) -> Result<BoundStatement, NoMemory>
     ensures { IfOk result (λ b. b ≡ spec.created ident.now object) }
 {
     let runs = is_run(&object);
     let name = ident.name.copied()?;
+    Ok(BoundStatement {
+        bound: Bound::Create(name, object),
+        runs,
+    })
+}
+
+/// A new function as a statement, which is run where it is of the form that is run and has a plan.
+pub fn created_function(create: &CreateFunction, object: Object) -> Result<BoundStatement, NoMemory>
+    ensures { IfOk result (λ b. b ≡ spec.created_function (out-CreateFunction create.now) object) }
+{
+    let runs = result_of(create).is_some() && is_run(&object);
+    let name = create.name.name.copied()?;
     Ok(BoundStatement {
         bound: Bound::Create(name, object),
         runs,

@@ -13,6 +13,6 @@ mod returning;
 pub use bound::{Bound, BoundStatement};
 pub use call::bind_direct_call;
 pub use change::{bind_direct_delete, bind_direct_insert, bind_direct_update};
-pub use definition::{bind_direct_drop, bind_direct_table, created};
+pub use definition::{bind_direct_drop, bind_direct_table, created, created_function};
 pub use query::{bind_direct_query, bind_explain};
 pub use returning::bind_returning;

@@ -5,10 +5,11 @@ ghost use Rattle.statement_trees.specs.declared.statement.CreateFunction.{out-Cr
 ghost use Rattle.bind_faults.specs.Faults.{noted};
 ghost use Rattle.bind_direct.specs.Returning as spec;
 
-use bind_definitions::{BoundResult, bind_signature, greatest_height, own_function, returning};
+use bind_definitions::{
+    BoundResult, bind_signature, note_groups, note_result, own_function, returning,
+};
 use bind_faults::{Fault, Notes};
 use bind_kinds::{kind_of_type, type_of};
-use bind_rules::note_height;
 use bind_sight::{Scope, ScopeRef};
 use bind_simple::{Surroundings, bind_of_kind};
 use catalog_store::{Catalog, Object};
@@ -54,7 +55,7 @@ fn bind_result(
     })
 }
 
-// The function of its result, with the faults of the result and of its height noted.
+// The function of its result, with the faults of the result and of what it needs noted.
 fn returning_with(
     alloc: Global,
     create: &CreateFunction,
@@ -72,8 +73,7 @@ fn returning_with(
         catalog.now)).faults) }
 {
     let bound = bind_result(alloc, create, returned, scope, catalog, least)?;
-    let called = greatest_height(catalog, bound.uses.as_slice());
-    note_height(&create.name, called, least);
+    note_result(create, catalog, bound.uses.as_slice(), least);
     returning(alloc, create, catalog, bound)
 }
 
@@ -91,6 +91,7 @@ pub fn bind_returning(
         (spec.judged_returning (out-CreateFunction create.now) returned.now catalog.now).faults) }
 {
     let scope = bind_signature(alloc, create, catalog, least)?;
+    note_groups(create.characteristics.as_slice(), least);
     let object = returning_with(alloc, create, returned, &scope, catalog, least)?;
     Ok(object)
 }

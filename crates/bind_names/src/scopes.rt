@@ -2,14 +2,14 @@
 //! 9075-4, 4.2 and 13.1). No query is known here.
 
 ghost use Rattle.std.specs.Prelude.{◌≡◌, IfOk, map, option_map};
-ghost use Rattle.std.specs.Option.{option_copied};
 ghost use Rattle.bind_sight.specs.Scopes as spec;
 ghost use Rattle.bind_sight.specs.Scopes.{scope_by, cursor_by};
 
 use crate::hits::same;
 use bind_kinds::Kind;
 use bind_sight::{Cursor, FoundCursor, Scope, ScopeRef, Variable};
-use sql_values::{Name, NoMemory, Text};
+use sql_conditions::SqlState;
+use sql_values::{Name, NoMemory};
 
 // ---- variables
 
@@ -96,12 +96,12 @@ pub fn loop_variable(
 // ---- conditions
 
 /// The SQLSTATE of the condition that a name stands for: of the innermost scope that has the name.
-pub fn condition_named<'a>(name: &Name, scopes: &[ScopeRef<'a>]) -> Option<&'a Text>
-    ensures { option_copied result ≡ spec.condition_named name.now (map scope_by scopes.now) }
+pub fn condition_named(name: &Name, scopes: &[ScopeRef<'_>]) -> Option<SqlState>
+    ensures { result ≡ spec.condition_named name.now (map scope_by scopes.now) }
 {
     for inner in scopes {
         if let Some(place) = inner.scope.conditions.place(name) {
-            return inner.scope.states.get(place);
+            return inner.scope.states.get(place).copied();
         }
     }
     None

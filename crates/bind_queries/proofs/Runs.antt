@@ -34,7 +34,8 @@ not-own known (Some o) name new r = by (bytes_eq o.name name) refl
         ((bytes_eq-Decides o.name name).0 e) new)) ∙ r))
     by false e = e
 
-pub in-catalog : (known : Catalog) (own : Option EnclosingRoutine) (name : List ℕ) (h : FunctionHead) →
+pub in-catalog : (known : Catalog) (own : Option EnclosingRoutine) (name : List ℕ)
+    (h : FunctionHead) →
     is_own name own ≡ false → function_known name own known ≡ Some h →
     head_named name known ≡ Some h
 in-catalog known own name h n p = sym (ap (λ b. if b then own_head own else head_named name known)

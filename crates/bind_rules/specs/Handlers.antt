@@ -23,16 +23,16 @@ is_undo type.Undo = true
 abbrev pub undo_faults : Anchor → HandlerType → Bool → List Fault
 undo_faults at handler atomic = fault_if (is_undo handler && not atomic) NotPermitted at
 
--- whether a value is the state of these characters
+-- whether a value is this state
 abbrev pub is_state : List ℕ → BoundConditionValue → Bool
-is_state text (value.State other) = bytes_eq text other
-is_state text value.SqlException = false
-is_state text value.SqlWarning = false
-is_state text value.NotFound = false
+is_state state (value.State other) = bytes_eq state other
+is_state state value.SqlException = false
+is_state state value.SqlWarning = false
+is_state state value.NotFound = false
 
 -- whether two values are one
 abbrev pub same_value : BoundConditionValue → BoundConditionValue → Bool
-same_value (value.State text) w = is_state text w
+same_value (value.State state) w = is_state state w
 same_value value.SqlException value.SqlException = true
 same_value value.SqlWarning value.SqlWarning = true
 same_value value.NotFound value.NotFound = true

@@ -8,7 +8,7 @@ ghost use Rattle.bind_rules.specs.Handlers as spec;
 
 use bind_faults::{Fault, FaultKind, note_if};
 use bound_trees::{BoundConditionValue, BoundHandler};
-use sql_values::Text;
+use sql_conditions::SqlState;
 use statement_trees::HandlerType;
 use syntax_trees::Anchor;
 
@@ -29,11 +29,11 @@ pub fn note_undo(at: Anchor, handler: HandlerType, atomic: bool, least: &mut Opt
     note_if(barred, FaultKind::NotPermitted, at, least);
 }
 
-fn is_state(text: &Text, value: &BoundConditionValue) -> bool
-    ensures { result ≡ spec.is_state text.now value.now }
+fn is_state(state: &SqlState, value: &BoundConditionValue) -> bool
+    ensures { result ≡ spec.is_state state.now value.now }
 {
     match value {
-        BoundConditionValue::State(other) => text == other,
+        BoundConditionValue::State(other) => state.is(other),
         BoundConditionValue::SqlException => false,
         BoundConditionValue::SqlWarning => false,
         BoundConditionValue::NotFound => false,
@@ -45,7 +45,7 @@ fn same_value(one: &BoundConditionValue, other: &BoundConditionValue) -> bool
     ensures { result ≡ spec.same_value one.now other.now }
 {
     match one {
-        BoundConditionValue::State(text) => is_state(text, other),
+        BoundConditionValue::State(state) => is_state(state, other),
         BoundConditionValue::SqlException => match other {
             BoundConditionValue::SqlException => true,
             _ => false,

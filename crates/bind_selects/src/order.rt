@@ -7,7 +7,7 @@ ghost use Rattle.bind_queries.specs.Binds.{Binds, HasPlan};
 ghost use Rattle.bind_queries.specs.Order as spec;
 ghost use Rattle.bind_queries.specs.Queries.{judge_query};
 ghost use Rattle.bind_queries.specs.Runs.{IsNew};
-ghost use Rattle.bind_selects.specs.Asked.{asked};
+ghost use Rattle.bind_selects.specs.Asked.{asked, IsTypedIn};
 
 use crate::runs::all_run;
 use bind_faults::{Fault, Notes};
@@ -90,7 +90,8 @@ fn bind_top(
 
 /// A query with its names resolved, by what is in sight outside of it and the catalog, and whether
 /// it can be run. Fault: exactly where it has a fault, and then the least, by place and then kind.
-/// What can be run has a plan, where the routine in whose body it stands, if any, is new.
+/// What can be run has a plan, where the routine in whose body it stands, if any, is new. It is well
+/// typed in all that has what is in sight.
 #[tactic(auto, using(bind_faults::proofs::Laws::is_free))]
 pub fn bind_query(
     alloc: Global,
@@ -102,6 +103,8 @@ pub fn bind_query(
         (judge_query [] query.now (over_catalog catalog.now (seen_by sight.now)))) result }
     ensures fits { IfOk result (λ a. IsNew catalog.now (seen_by sight.now).own → a.runs ≡ true →
         HasPlan catalog.now a.query) }
+    ensures typed { IfOk result (λ a. IsTypedIn (over_catalog catalog.now (seen_by sight.now))
+        a.query) }
 {
     let _entries = catalog.len();
     let mut least = None;

@@ -8,7 +8,8 @@ ghost use Rattle.bind_sight.specs.Scopes.{scope_by};
 use crate::name_list::NameList;
 use bind_kinds::Kind;
 use catalog_store::FunctionHead;
-use sql_values::{Name, NoMemory, SqlType, Text};
+use sql_conditions::SqlState;
+use sql_values::{Name, NoMemory, SqlType};
 use sqlite_items::Items;
 use std::alloc::Global;
 
@@ -40,7 +41,7 @@ pub struct Scope {
     /// The names of its conditions.
     pub conditions: NameList,
     /// The SQLSTATE of each condition, in the order of their names.
-    pub states: Items<Text>,
+    pub states: Items<SqlState>,
     /// The slot of its first cursor.
     pub first_cursor: usize,
     /// The names of its cursors.

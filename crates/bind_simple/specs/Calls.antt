@@ -1,7 +1,7 @@
 -- CALL: the procedure, and its arguments. ISO/IEC 9075-2, 15.1 (call statement) and 10.4 (routine
 -- invocation).
-use Rattle.std.specs.Prelude.{ℕ, ◌==◌, ◌||◌, Bool, true, false, not, if◌then◌else◌, List, [], ◌∷◌, ◌++◌}
-use Rattle.std.specs.Prelude.{length, slice_get, Option, Some, None}
+use Rattle.std.specs.Prelude.{ℕ, ◌==◌, ◌||◌, Bool, true, false, not, if◌then◌else◌, List, [], ◌∷◌}
+use Rattle.std.specs.Prelude.{◌++◌, length, slice_get, Option, Some, None}
 use Rattle.std.specs.Str.{bytes_eq}
 use Rattle.sql_values.specs.declared.value.SqlType.{SqlType}
 use Rattle.syntax_trees.specs.declared.anchor.Ident.{Ident}

@@ -4,6 +4,7 @@ use Rattle.sql_values.specs.declared.value.SqlType.TheVariants.{Integer as Integ
 use Rattle.syntax_trees.specs.declared.anchor.Anchor.{Anchor}
 use Rattle.syntax_trees.specs.declared.anchor.Ident.{Ident}
 use Rattle.statement_trees.specs.declared.condition.SignalValue.TheVariants as raised
+use Rattle.statement_trees.specs.declared.condition.SqlstateValue.{SqlstateValue}
 use Rattle.statement_trees.specs.declared.writing.Fetch.{Fetch}
 use Rattle.bound_trees.specs.declared.statement.BoundStmt.TheVariants as bound
 use Rattle.bind_faults.specs.declared.fault.Fault.{Fault}
@@ -16,7 +17,7 @@ use Rattle.bind_sight.specs.declared.scope.Scope.{Scope}
 use Rattle.bind_rules.specs.Labels.{Label, label_faults, end_faults}
 use Rattle.bind_simple.specs.Places.{Surroundings, with_labels, in_action}
 use Rattle.bind_simple.specs.Values.{faults_at, stored_at}
-use Rattle.bind_simple.specs.States.{is_sqlstate, judged_signal}
+use Rattle.bind_simple.specs.States.{is_sqlstate, state_of, state_named, judged_signal}
 use Rattle.bind_simple.specs.Storing.{fetched_faults, fetched_targets}
 use Rattle.bind_simple.specs.Calls.{judged_call}
 use Rattle.bind_simple.specs.Simple.{judged_leave, judged_iterate, judged_open, judged_close}
@@ -86,6 +87,10 @@ acting = in_action (with_labels (label (codes "B") false ∷ label (codes "L") t
 abbrev pub fetch : List Ident → Fetch
 fetch targets = record { anchor = at 0; cursor = named (codes "C") 1; targets = targets }
 
+-- SQLSTATE text
+abbrev pub sqlstate : List ℕ → SqlstateValue
+sqlstate text = record { anchor = at 1; text = text }
+
 -- what labels, targets, cursors, conditions and calls stand for in this place
 pub record StatementsStand : Type 0 where
   pub leave_counts_outwards : (judged_leave (named (codes "B") 7) inside).value ≡ bound.Leave 1
@@ -125,6 +130,11 @@ pub record StatementsStand : Type 0 where
   pub state_of_success : is_sqlstate (codes "00001") ≡ false
   pub state_too_short : is_sqlstate (codes "4500") ≡ false
   pub state_in_small_letters : is_sqlstate (codes "4500a") ≡ false
+  pub state_of_no_data : is_sqlstate (codes "02000") ≡ true
+  pub state_of_a_text : state_of (sqlstate (codes "45000")) ≡ codes "45000"
+  pub state_of_a_text_of_success : state_of (sqlstate (codes "00001")) ≡ codes "00001"
+  pub state_of_what_is_none : state_of (sqlstate (codes "4500")) ≡ codes "00000"
+  pub state_of_what_is_not : state_named (named (codes "A") 1) inside ≡ codes "00000"
   pub signal_of_a_condition : judged_signal (record {
     anchor = at 0;
     value =
@@ -141,8 +151,7 @@ pub record StatementsStand : Type 0 where
   pub signal_of_success :
       (judged_signal (record {
         anchor = at 0;
-        value =
-            raised.Sqlstate (record { anchor = at 1; text = codes "00000" });
+        value = raised.Sqlstate (sqlstate (codes "00000"));
         message = None;
       })
       inside).faults ≡ fault NotPermitted 1

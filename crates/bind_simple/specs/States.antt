@@ -1,9 +1,12 @@
 -- SQLSTATE values, conditions and messages. ISO/IEC 9075-4, 14.3 (condition declaration), 17.2
 -- (signal statement) and 17.3 (resignal statement); ISO/IEC 9075-2, 24.1 (SQLSTATE).
-use Rattle.std.specs.Prelude.{ℕ, ◌==◌, nat_le, Bool, false, ◌&&◌, ◌||◌, not, List, [], ◌∷◌, length}
-use Rattle.std.specs.Prelude.{Option, Some, None, is_some}
-use Rattle.std.specs.List.{list_all}
+use Rattle.std.specs.Prelude.{ℕ, Bool, true, false, not, List, [], Option, Some, None, is_some}
 use Rattle.std.specs.Str.{encode_utf8_all}
+use Rattle.sql_conditions.specs.declared.state.Class.{Class}
+use Rattle.sql_conditions.specs.declared.state.Class.TheVariants.{Success, Warning, NoData}
+use Rattle.sql_conditions.specs.declared.state.Class.TheVariants.{Exception}
+use Rattle.sql_conditions.specs.Conditions.{completion}
+use Rattle.sql_conditions.specs.States.{state_in_text, class_of}
 use Rattle.syntax_trees.specs.declared.anchor.Ident.{Ident}
 use Rattle.syntax_trees.specs.declared.expr.Expr.{Expr}
 use Rattle.statement_trees.specs.declared.condition.Resignal.{Resignal}
@@ -22,44 +25,46 @@ use Rattle.bind_sight.specs.Scopes.{condition_named}
 use Rattle.bind_simple.specs.Places.{Surroundings}
 use Rattle.bind_simple.specs.Values.{value_of_kind}
 
--- a digit or a capital letter
-abbrev pub is_state_character : ℕ → Bool
-is_state_character c = (nat_le 48 c && nat_le c 57) || (nat_le 65 c && nat_le c 90)
+-- the state that a text spells, where it is five digits and capitals
+abbrev pub state_spelled : List ℕ → Option (List ℕ)
+state_spelled text = state_in_text (encode_utf8_all text)
 
--- two zeros at its start: success, which nothing raises
-abbrev pub is_success : List ℕ → Bool
-is_success [] = false
-is_success (c ∷ []) = false
-is_success (c ∷ d ∷ cs) = (c == 48) && (d == 48)
+-- each class but 00 may be raised
+abbrev pub may_be_raised : Class → Bool
+may_be_raised Success = false
+may_be_raised Warning = true
+may_be_raised NoData = true
+may_be_raised Exception = true
 
--- digits and capitals alone
-abbrev pub are_state_characters : List ℕ → Bool
-are_state_characters cs = list_all is_state_character cs
-
--- five digits and capitals, not of class 00
-abbrev pub is_state_text : List ℕ → Bool
-is_state_text cs = (length cs == 5) && (are_state_characters cs && not (is_success cs))
+-- there is a state, and it may be raised
+abbrev pub is_raisable : Option (List ℕ) → Bool
+is_raisable None = false
+is_raisable (Some state) = may_be_raised (class_of state)
 
 -- five digits and capitals, not of class 00
 abbrev pub is_sqlstate : List ℕ → Bool
-is_sqlstate text = is_state_text (encode_utf8_all text)
+is_sqlstate text = is_raisable (state_spelled text)
 
 -- NotPermitted at a text that is no SQLSTATE
 abbrev pub state_faults : SqlstateValue → List Fault
 state_faults s = fault_if (not (is_sqlstate s.text)) NotPermitted s.anchor
 
+-- a state; where there is none, 00000, which no faultless text spells
+abbrev pub or_success : Option (List ℕ) → List ℕ
+or_success None = completion.state
+or_success (Some state) = state
+
+-- the state of a text; of one that spells none, 00000
+abbrev pub state_of : SqlstateValue → List ℕ
+state_of s = or_success (state_spelled s.text)
+
 -- a condition of the name is in sight
 abbrev pub condition_faults : Ident → Option (List ℕ) → List Fault
 condition_faults i found = fault_if (not (is_some found)) UnknownName i.anchor
 
--- a state, or no character where there is none
-abbrev pub or_none : Option (List ℕ) → List ℕ
-or_none None = []
-or_none (Some state) = state
-
--- the state of the condition of a name; of one that is not declared none is known
+-- the state of the condition of a name; of one that is not in sight, 00000
 abbrev pub state_named : Ident → Surroundings → List ℕ
-state_named i p = or_none (condition_named i.name p.scopes)
+state_named i p = or_success (condition_named i.name p.scopes)
 
 -- UnknownName at a condition that is not in sight
 abbrev pub faults_of_condition : Ident → Surroundings → List Fault
@@ -69,7 +74,7 @@ faults_of_condition i p = condition_faults i (condition_named i.name p.scopes)
 
 -- the state that SIGNAL raises
 abbrev pub state_raised : SignalValue → Surroundings → List ℕ
-state_raised (raised.Sqlstate s) p = s.text
+state_raised (raised.Sqlstate s) p = state_of s
 state_raised (raised.Condition i) p = state_named i p
 
 -- what is asked of the state or condition that is raised

@@ -23,7 +23,7 @@ pub use simple::{
     bind_changed, bind_close, bind_fetched, bind_get, bind_insertion, bind_iterate, bind_leave,
     bind_open, bind_removed, bind_return, misplaced,
 };
-pub use state::{note_condition, note_state, state_named};
+pub use state::{note_condition, note_state, state_named, state_of};
 pub use storing::{Assigned, SelectedInto, bind_select_into, bind_set};
 pub use target::{bind_of_kind, bind_value};
 

@@ -6,12 +6,13 @@ ghost use Rattle.bind_simple.specs.Places.{place_by};
 ghost use Rattle.bind_simple.specs.States as spec;
 
 use crate::place::Surroundings;
-use crate::state::{note_condition, note_state, state_named};
+use crate::state::{note_condition, note_state, state_named, state_of};
 use crate::target::bind_of_kind;
 use bind_faults::{Fault, Notes};
 use bind_kinds::Kind;
 use bound_trees::{BoundExpr, BoundResignal, BoundSignal};
-use sql_values::{NoMemory, Text};
+use sql_conditions::SqlState;
+use sql_values::NoMemory;
 use statement_trees::{Resignal, Signal, SignalValue};
 use std::alloc::Global;
 use syntax_trees::Expr;
@@ -25,16 +26,12 @@ fn note_raised(value: &SignalValue, place: &Surroundings<'_>, least: &mut Option
     }
 }
 
-fn state_raised(
-    alloc: Global,
-    value: &SignalValue,
-    place: &Surroundings<'_>,
-) -> Result<Text, NoMemory>
-    ensures { IfOk result (λ t. t ≡ spec.state_raised value.now (place_by place.now)) }
+fn state_raised(value: &SignalValue, place: &Surroundings<'_>) -> SqlState
+    ensures { result ≡ spec.state_raised value.now (place_by place.now) }
 {
     match value {
-        SignalValue::Sqlstate(state) => state.text.copied(),
-        SignalValue::Condition(ident) => state_named(alloc, ident, place),
+        SignalValue::Sqlstate(state) => state_of(state),
+        SignalValue::Condition(ident) => state_named(ident, place),
     }
 }
 
@@ -70,7 +67,7 @@ pub fn bind_signal(
         (spec.judged_signal signal.now (place_by place.now))) }
 {
     note_raised(&signal.value, place, &mut notes.least);
-    let state = state_raised(alloc, &signal.value, place)?;
+    let state = state_raised(&signal.value, place);
     let message = bind_message(alloc, &signal.message, place, notes)?;
     Ok(BoundSignal { state, message })
 }
@@ -83,19 +80,12 @@ fn note_again(value: &Option<SignalValue>, place: &Surroundings<'_>, least: &mut
     }
 }
 
-fn state_again(
-    alloc: Global,
-    value: &Option<SignalValue>,
-    place: &Surroundings<'_>,
-) -> Result<Option<Text>, NoMemory>
-    ensures { IfOk result (λ t. t ≡ spec.state_again value.now (place_by place.now)) }
+fn state_again(value: &Option<SignalValue>, place: &Surroundings<'_>) -> Option<SqlState>
+    ensures { result ≡ spec.state_again value.now (place_by place.now) }
 {
     match value {
-        Some(value) => {
-            let state = state_raised(alloc, value, place)?;
-            Ok(Some(state))
-        }
-        None => Ok(None),
+        Some(value) => Some(state_raised(value, place)),
+        None => None,
     }
 }
 
@@ -111,7 +101,7 @@ pub fn bind_resignal(
         (spec.judged_resignal resignal.now (place_by place.now))) }
 {
     note_again(&resignal.value, place, &mut notes.least);
-    let state = state_again(alloc, &resignal.value, place)?;
+    let state = state_again(&resignal.value, place);
     let message = bind_message(alloc, &resignal.message, place, notes)?;
     Ok(BoundResignal { state, message })
 }

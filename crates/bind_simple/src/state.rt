@@ -1,6 +1,6 @@
 //! SQLSTATE values and conditions.
 
-ghost use Rattle.std.specs.Prelude.{◌≡◌, [], IfOk};
+ghost use Rattle.std.specs.Prelude.{◌≡◌};
 ghost use Rattle.bind_faults.specs.Faults.{noted};
 ghost use Rattle.bind_simple.specs.Places.{place_by};
 ghost use Rattle.bind_simple.specs.States as spec;
@@ -8,46 +8,41 @@ ghost use Rattle.bind_simple.specs.States as spec;
 use crate::place::Surroundings;
 use bind_faults::{Fault, FaultKind, note_if};
 use bind_names::condition_named;
-use sql_values::{NoMemory, Text};
+use sql_conditions::{Class, SqlState};
+use sql_values::Text;
 use statement_trees::SqlstateValue;
-use std::alloc::Global;
 use syntax_trees::Ident;
 
-fn is_state_byte(byte: u8) -> bool
-    ensures { result ≡ spec.is_state_character byte }
+fn state_spelled(text: &Text) -> Option<SqlState>
+    ensures { result ≡ spec.state_spelled text.now }
 {
-    48 <= byte && byte <= 57 || 65 <= byte && byte <= 90
+    SqlState::parse(text.as_str())
 }
 
-fn are_state_bytes(bytes: &[u8]) -> bool
-    ensures { result ≡ spec.are_state_characters bytes.now }
+// Each class but 00.
+fn may_be_raised(class: Class) -> bool
+    ensures { result ≡ spec.may_be_raised class }
 {
-    bytes.iter().all(|byte| is_state_byte(*byte))
-}
-
-fn is_success(bytes: &[u8]) -> bool
-    ensures { result ≡ spec.is_success bytes.now }
-{
-    match bytes {
-        [first, second, ..] => *first == 48 && *second == 48,
-        [_] => false,
-        [] => false,
+    match class {
+        Class::Success => false,
+        Class::Warning | Class::NoData | Class::Exception => true,
     }
 }
 
-// Five digits and capitals, not of class 00.
-fn is_sqlstate(text: &Text) -> bool
-    ensures { result ≡ spec.is_sqlstate text.now }
+fn is_raisable(state: Option<SqlState>) -> bool
+    ensures { result ≡ spec.is_raisable state }
 {
-    let bytes = text.as_str().as_bytes();
-    bytes.len() == 5 && are_state_bytes(bytes) && !is_success(bytes)
+    match state {
+        Some(state) => may_be_raised(state.class()),
+        None => false,
+    }
 }
 
 /// A text that is no SQLSTATE, or one of class 00.
 pub fn note_state(state: &SqlstateValue, least: &mut Option<Fault>)
     ensures { least.new ≡ noted least.old (spec.state_faults state.now) }
 {
-    let wrong = !is_sqlstate(&state.text);
+    let wrong = !is_raisable(state_spelled(&state.text));
     note_if(wrong, FaultKind::NotPermitted, state.anchor, least);
 }
 
@@ -59,18 +54,25 @@ pub fn note_condition(ident: &Ident, place: &Surroundings<'_>, least: &mut Optio
     note_if(unknown, FaultKind::UnknownName, ident.anchor, least);
 }
 
-fn no_text(alloc: Global) -> Result<Text, NoMemory>
-    ensures { IfOk result (λ t. t ≡ []) }
+fn or_success(state: Option<SqlState>) -> SqlState
+    ensures { result ≡ spec.or_success state }
 {
-    Text::of(alloc, String::new(alloc))
+    match state {
+        Some(state) => state,
+        None => SqlState::known(*b"00000"),
+    }
 }
 
-/// The state of a condition; of one that is not in sight it has no character.
-pub fn state_named(alloc: Global, ident: &Ident, place: &Surroundings<'_>) -> Result<Text, NoMemory>
-    ensures { IfOk result (λ t. t ≡ spec.state_named ident.now (place_by place.now)) }
+/// The state of a text; of one that spells none, 00000.
+pub fn state_of(state: &SqlstateValue) -> SqlState
+    ensures { result ≡ spec.state_of state.now }
 {
-    match condition_named(&ident.name, place.scopes) {
-        Some(state) => state.copied(),
-        None => no_text(alloc),
-    }
+    or_success(state_spelled(&state.text))
+}
+
+/// The state of a condition; of one that is not in sight, 00000.
+pub fn state_named(ident: &Ident, place: &Surroundings<'_>) -> SqlState
+    ensures { result ≡ spec.state_named ident.now (place_by place.now) }
+{
+    or_success(condition_named(&ident.name, place.scopes))
 }

@@ -1,5 +1,5 @@
 -- A statement without faults makes what fits the catalog.
-use Rattle.std.proofs.Common.{◌≡◌, refl, sym, subst, arith, ℕ, ◌+◌, ◌<◌, nat_lt, Bool, true, false}
+use Rattle.std.proofs.Common.{◌≡◌, refl, sym, ◌∙◌, subst, arith, ℕ, ◌+◌, ◌<◌, nat_lt, Bool, true, false}
 use Rattle.std.proofs.Common.{List, [], ◌∷◌, ◌++◌, Option, Some, None}
 use Rattle.std.specs.Prelude.{is_some, not, ◌==◌, if◌then◌else◌}
 use Rattle.std.proofs.lemmas.Bool.Decides.{nat_tests}
@@ -22,7 +22,10 @@ use Rattle.catalog_store.specs.Catalog.{Object, Catalog, object_named}
 use Rattle.catalog_store.specs.Entries.{ObjectFits}
 use Rattle.catalog_store.specs.Planning.{AllPlanned}
 use Rattle.catalog_store.specs.Users.{users_of}
-use Rattle.catalog_store.specs.Uses.{UsesStand, names_used, uses_in_query}
+use Rattle.catalog_store.specs.Uses.{Uses, UsesStand, AllFit, SameNames, names_used, uses_in}
+use Rattle.catalog_store.specs.Uses.{uses_in_query}
+use Rattle.catalog_store.specs.View.{tree_of}
+use Rattle.rel_algebra.specs.Plain.{planned_expr}
 use Rattle.bind_faults.specs.Faults.{noted}
 use Rattle.bind_faults.specs.declared.fault.FaultKind.TheVariants.{DuplicateName, NotPermitted}
 use Rattle.bind_faults.specs.declared.fault.FaultKind.TheVariants.{TooHigh}
@@ -49,17 +52,20 @@ use Rattle.bind_direct.specs.declared.bound.Bound.TheVariants as bound
 use Rattle.bind_rules.specs.declared.heights.TheConstants.{MOST_HEIGHT}
 use Rattle.bind_statements.specs.Binds.{FaultlessFits, StatementFits, MeetsRows}
 use Rattle.bind_definitions.specs.Characteristics.{group_faults, null_call_faults, need_of}
+use Rattle.bind_definitions.specs.Characteristics.{access_faults}
 use Rattle.bind_rules.specs.Definitions.{Definition, ProcedureDefinition}
 use Rattle.bind_direct.specs.Returning.{in_function, judged_returning}
 use Rattle.bind_statements.specs.Functions.{function_with}
 use Rattle.bind_statements.specs.Functions.{body_of_function, judged_function, procedure_faults}
 use Rattle.bind_statements.specs.Functions.{procedure_with, body_of_procedure, judged_procedure}
 use Rattle.bind_definitions.specs.Making.{signature_faults, planned_function, interpreted}
+use Rattle.bind_definitions.specs.Making.{access_of_result}
+use Rattle.bind_definitions.proofs.Laws.{guarded_uses, guarded_planned}
 use Rattle.bind_definitions.specs.Routines.{parameters_of, parameter_faults, stands, used_in}
 use Rattle.bind_rules.specs.Heights.{height_above, too_high}
 use Rattle.bind_definitions.specs.Removals.{is_of_sort, judged_drop}
 use Rattle.bind_rules.specs.Drops.{drop_faults}
-use Rattle.bind_rules.specs.Definitions.{Form, result_of}
+use Rattle.bind_rules.specs.Definitions.{Form, value_returned}
 use Rattle.bind_statements.specs.Statements.{judged_object, judged_form, judged_statement}
 use Rattle.bind_definitions.specs.Tables.{element_faults, judged_table}
 use Rattle.bind_definitions.proofs.Laws.{key-columns}
@@ -103,11 +109,27 @@ used-stand catalog (name ∷ names) = kept-stand catalog name names (used-stand 
 
 -- a function with a plan, or without one
 either-fits : (s : Definition) (catalog : Catalog) (uses : List (List ℕ)) (tree : BoundExpr)
-    (b : Bool) → (b ≡ true → ObjectFits catalog (planned_function s catalog uses tree))
-    → ObjectFits catalog (if b then planned_function s catalog uses tree else interpreted s catalog
-    (need_of catalog uses false) uses (Return tree))
+    (b : Bool) →
+    (b ≡ true → ObjectFits catalog
+    (planned_function s catalog (access_of_result s catalog uses) uses tree))
+    → ObjectFits catalog
+    (if b then planned_function s catalog (access_of_result s catalog uses) uses tree else
+    interpreted s catalog (access_of_result s catalog uses) uses (Return tree))
 either-fits s catalog uses tree true f = f refl
 either-fits s catalog uses tree false f = used-stand catalog uses
+
+-- RETURNS NULL ON NULL INPUT changes neither what a function uses nor whether it has a plan
+guarded-fits : (s : Definition) (catalog : Catalog) (uses : List (List ℕ)) (tree : BoundExpr)
+    → AllFit catalog (height_above (greatest_height catalog uses)) (uses_in tree) →
+    SameNames uses (names_used (uses_in tree)) → planned_expr (tree_of catalog tree) ≡ true →
+    ObjectFits catalog (planned_function s catalog (access_of_result s catalog uses) uses tree)
+guarded-fits s catalog uses tree all same planned =
+    let used = sym (guarded_uses s tree) in record {
+      all = subst (λ (us : Uses). AllFit catalog (height_above (greatest_height catalog uses)) us)
+          used all;
+      uses = subst (λ (us : Uses). SameNames uses (names_used us)) used same;
+      planned = guarded_planned catalog s tree ∙ planned;
+    }
 
 returning-fits : (s : Definition) (result : Expr) (catalog : Catalog) → AllPlanned catalog →
     (judged_returning s result catalog).faults ≡ []
@@ -119,25 +141,26 @@ returning-fits s result catalog all p =
     let given = misfit (kind_of_type (type_of s.returns)) expr.value.head in
     let called = greatest_height catalog expr.uses in
     let high = too_high s.name called in
-    let asked = (expr.faults ++ given) ++ high in
+    let access = access_faults (need_of catalog expr.uses false) s.characteristics in
+    let asked = (expr.faults ++ given) ++ (access ++ high) in
+    let groups = group_faults s.characteristics in
     let heads = signature_faults s catalog in
-    let rest = back_nil heads asked p in
-    let inside = front_nil (expr.faults ++ given) high rest in
+    let rest = back_nil (heads ++ groups) asked p in
+    let first = front_nil heads groups (front_nil (heads ++ groups) asked p) in
+    let inside = front_nil (expr.faults ++ given) (access ++ high) rest in
     let new = free s.name catalog (front_nil (taken_name s.name catalog)
-    (parameter_faults s.parameters ++ type_faults s.returns) (front_nil heads asked p)) in
+    (parameter_faults s.parameters ++ type_faults s.returns) first) in
     let covers = fitting catalog all result seen refl refl (front_nil expr.faults given inside) in
     let low = no_fault (nat_lt MOST_HEIGHT (called + 1)) TooHigh s.name.anchor
-    (back_nil (expr.faults ++ given) high rest) in (
+    (back_nil access high (back_nil (expr.faults ++ given) (access ++ high) rest)) in (
       new,
       either-fits s catalog expr.uses expr.value.tree (all_run catalog expr.uses)
-          (λ runs. record {
-            all = covers.0 new runs (height_above called) (low_enough called low);
-            uses = covers.2;
-            planned = covers.1 new runs;
-          }),
+          (λ runs. guarded-fits s catalog expr.uses expr.value.tree
+          (covers.0 new runs (height_above called) (low_enough called low)) covers.2
+          (covers.1 new runs)),
     )
 
--- a function of another form
+-- a function whose body is another statement
 function-fits : (s : Definition) (catalog : Catalog) → (judged_function s catalog).faults ≡ []
     → (object_named s.name.name catalog ≡ None) ×
     ObjectFits catalog (judged_function s catalog).value
@@ -255,7 +278,8 @@ form-fits : (y : Form) (whole : Stmt) (catalog : Catalog) → AllPlanned catalog
     → StatementFits catalog (judged_form y whole catalog).value
 form-fits (Stmt-F.CreateTable s) whole catalog all p = table-fits s catalog p
 form-fits (Stmt-F.CreateFunction s) whole catalog all p =
-    definition-fits (out-CreateFunction s) (result_of (out-CreateFunction s)) catalog all p
+    definition-fits (out-CreateFunction s) (value_returned (out-Stmt (out-CreateFunction s).body))
+    catalog all p
 form-fits (Stmt-F.CreateProcedure s) whole catalog all p =
     procedure-fits (out-CreateProcedure s) catalog p
 form-fits (Stmt-F.Drop s) whole catalog all p = drop-fits s catalog p

@@ -136,7 +136,8 @@ module _ (known : Catalog) (all : AllPlanned known) (seen : Seen) (is : seen.cat
       let one = one_value to seen so a in
       let first = front_nil one.faults (each_noted (one_value to seen) one.value sets).faults p in
       let rest = back_nil one.faults (each_noted (one_value to seen) one.value sets).faults p in
-      let both = runs-parts known x.uses (each_noted (one_value to seen) one.value sets).uses runs in
+      let both = runs-parts known x.uses
+      (each_noted (one_value to seen) one.value sets).uses runs in
       let e = judged-planned a.value (front_nil x.faults
       (misfit (kind_named to a.target) x.value.head) first) both.0 in
       values-planned n (so ++ x.value.tree ∷ []) sets

@@ -1,7 +1,8 @@
 -- Statements that hold plain trees are judged as these are, which computes.
 use Rattle.std.proofs.Common.{◌≡◌, refl, ap, ap₂, ◌∙◌, ℕ, false, List, [], ◌∷◌, ◌++◌, map, length}
 use Rattle.std.proofs.Common.{Option, Some, None}
-use Rattle.std.specs.Prelude.{codes}
+use Rattle.std.specs.Prelude.{codes, is_some, ◌&&◌}
+use Rattle.syntax_trees.specs.declared.expr.Expr.{Expr as Tree}
 use Rattle.syntax_trees.specs.declared.anchor.Ident.{Ident}
 use Rattle.syntax_trees.specs.declared.data_type.DataType.{DataType}
 use Rattle.statement_trees.specs.declared.definition.Characteristic.{Characteristic}
@@ -50,6 +51,7 @@ use Rattle.bind_parts.specs.Order.{ordered_by}
 use Rattle.bind_parts.specs.Turns.{each_noted}
 use Rattle.bind_parts.specs.Typed.{alone, no_parts}
 use Rattle.catalog_store.specs.Catalog.{Catalog}
+use Rattle.catalog_store.specs.declared.entry.Object.{Object as NewObject}
 use Rattle.bind_queries.specs.Examples.{at, called, null, catalog}
 use Rattle.bind_queries.specs.Judges.{Expression, look}
 use Rattle.bind_queries.specs.Lists.{judged_filter, judged_test}
@@ -61,12 +63,15 @@ use Rattle.bind_statements.specs.Examples.{unordered, asked, values_of, values, 
 use Rattle.bind_statements.specs.Examples.{listed_row, listed_of, insert_listed, assignment}
 use Rattle.bind_statements.specs.Examples.{filter_of, update_of, update, delete_of, delete}
 use Rattle.bind_statements.specs.Examples.{select_of, select, new_table, table_of, table, removal}
-use Rattle.bind_statements.specs.Examples.{drop, new_function, function, g_of, function_g, call_of}
+use Rattle.bind_statements.specs.Examples.{drop, definition_returning, new_function, function}
+use Rattle.bind_statements.specs.Examples.{g_of, function_g, call_of}
 use Rattle.bind_statements.specs.Examples.{begin_end, block, procedure, explained}
 use Rattle.bind_rules.specs.Definitions.{Definition, ProcedureDefinition}
-use Rattle.bind_direct.specs.Direct.{run, not_run, run_over, created, direct_call}
+use Rattle.bind_direct.specs.Direct.{run, not_run, run_over, with_runs, is_run, created}
+use Rattle.bind_direct.specs.Direct.{direct_call}
 use Rattle.bind_direct.specs.Returning.{in_function, returning_with}
 use Rattle.bind_statements.specs.Functions.{judged_function}
+use Rattle.bind_definitions.specs.Characteristics.{group_faults}
 use Rattle.bind_definitions.specs.Making.{signature_faults}
 use Rattle.bind_definitions.specs.Routines.{parameters_of}
 use Rattle.bind_simple.specs.Places.{seen_from}
@@ -153,22 +158,28 @@ pub drop-row : (known : Catalog) (of : ObjectSort) (n : List ℕ) →
 drop-row known of n = of_form (drop of n) (Stmt-F.Drop (removal of n)) known
     (outs-Drop (removal of n))
 
+-- a new function of the value that its body gives, if it is RETURN
+abbrev pub created_by : Definition → Option Tree → NewObject → BoundStatement
+created_by d value o = with_runs (is_some (if_bare d.characteristics value) && is_run o)
+    (bound.Create d.name.name o)
+
 -- a function whose body is of a form
 definition-row : (d : Definition) (y : Form) → out-Stmt d.body ≡ y
     → judged_statement (stmt.CreateFunction (roll-CreateFunction d)) catalog ≡ as_value
-    (created d.name) (judged_object d (if_bare d.characteristics (value_returned y)) catalog)
+    (created_by d (value_returned y)) (judged_object d (value_returned y) catalog)
 definition-row d y p =
     of_form (stmt.CreateFunction (roll-CreateFunction d))
     (Stmt-F.CreateFunction (roll-CreateFunction d)) catalog
     (outs-CreateFunction (roll-CreateFunction d))
     ∙ ap (λ z. judged_definition z catalog) (out-roll-CreateFunction d)
-    ∙ ap (λ z. as_value (created d.name) (judged_object d
-    (if_bare d.characteristics (value_returned z)) catalog)) p
+    ∙ ap (λ z. as_value (created_by d (value_returned z))
+    (judged_object d (value_returned z) catalog)) p
 
 -- a function of its result
-abbrev pub of_result : Definition → Noted Typed → Noted BoundStatement
-of_result d t =
-    as_value (created d.name) (signature_faults d catalog >> returning_with d catalog
+abbrev pub of_result : Definition → Tree → Noted Typed → Noted BoundStatement
+of_result d value t =
+    as_value (created_by d (Some value)) (signature_faults d catalog ++
+    group_faults d.characteristics >> returning_with d catalog
     (with_faults (λ (x : Typed). x.tree) (λ (x : Typed). misfit (kind_of_type (type_of d.returns))
     x.head) t))
 
@@ -176,14 +187,22 @@ of_result d t =
 abbrev pub body_sees : Definition → Seen
 body_sees d = seen_from (in_function d (parameters_of d.parameters) catalog)
 
-pub function-row : (n : List ℕ) (ps : List Parameter) (to : DataType) (e : Expr)
-    → judged_statement (function n ps to e) catalog ≡ of_result (new_function n ps to e)
-    (alone (look (plain e).judge (body_sees (new_function n ps to e)) no_parts))
-function-row n ps to e =
-    let d = new_function n ps to e in
+pub returning-row : (n : List ℕ) (ps : List Parameter) (to : DataType) (cs : List Characteristic)
+    (e : Expr) →
+    judged_statement (stmt.CreateFunction (roll-CreateFunction (definition_returning n ps to cs e)))
+    catalog
+    ≡ of_result (definition_returning n ps to cs e) (expr_of e)
+    (alone (look (plain e).judge (body_sees (definition_returning n ps to cs e)) no_parts))
+returning-row n ps to cs e =
+    let d = definition_returning n ps to cs e in
     definition-row d (Stmt-F.Return (at 9) (expr_of e)) (outs-Return (at 9) (expr_of e))
-    ∙ ap (λ (j : Expression). of_result d (alone (look j.judge (body_sees d) no_parts)))
-    (expr_plain e)
+    ∙ ap (λ (j : Expression). of_result d (expr_of e)
+    (alone (look j.judge (body_sees d) no_parts))) (expr_plain e)
+
+pub function-row : (n : List ℕ) (ps : List Parameter) (to : DataType) (e : Expr)
+    → judged_statement (function n ps to e) catalog ≡ of_result (new_function n ps to e) (expr_of e)
+    (alone (look (plain e).judge (body_sees (new_function n ps to e)) no_parts))
+function-row n ps to e = returning-row n ps to [] e
 
 -- ---- statements that are bound alone
 
@@ -238,7 +257,8 @@ procedure-row body =
 
 pub body-block-row : (statements : List Stmt) →
     judged_statement (function_g [] (block None 9 statements)) catalog ≡ as_value
-    (created (called (codes "G") 2)) (judged_function (g_of [] (block None 9 statements)) catalog)
+    (created_by (g_of [] (block None 9 statements)) None)
+    (judged_function (g_of [] (block None 9 statements)) catalog)
 body-block-row statements =
     let s : LabelledForm = record {
       label = None;
@@ -249,10 +269,10 @@ body-block-row statements =
     definition-row (g_of [] (block None 9 statements)) (Stmt-F.Labelled (roll-Labelled s))
     (outs-Labelled (roll-Labelled s))
 
-pub characteristic-row : (c : Characteristic) (cs : List Characteristic) (body : Stmt)
-    → judged_statement (function_g (c ∷ cs) body) catalog ≡ as_value
-    (created (called (codes "G") 2)) (judged_function (g_of (c ∷ cs) body) catalog)
-characteristic-row c cs body = definition-row (g_of (c ∷ cs) body) (out-Stmt body) refl
+pub characteristic-row : (c : Characteristic) (cs : List Characteristic) (body : Stmt) →
+    (judged_statement (function_g (c ∷ cs) body) catalog).value.runs ≡ false
+characteristic-row c cs body = ap (λ (x : Noted BoundStatement). x.value.runs)
+    (definition-row (g_of (c ∷ cs) body) (out-Stmt body) refl)
 
 -- ---- anchors
 

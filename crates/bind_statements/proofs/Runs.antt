@@ -3,12 +3,14 @@ use Rattle.std.proofs.Common.{◌≡◌, refl, sym, ap, ◌∙◌, subst, ℕ, B
 use Rattle.std.proofs.Common.{◌∷◌, ◌++◌, Option, Some, None}
 use Rattle.std.specs.Prelude.{is_some, ◌&&◌, if◌then◌else◌}
 use Rattle.std.specs.Str.{bytes_eq}
+use Rattle.std.proofs.lemmas.Bool.{and_from}
 use Rattle.std.proofs.lemmas.Slice.Eq.{bytes_eq-Decides}
 use Rattle.syntax_trees.specs.declared.anchor.Ident.{Ident}
 use Rattle.syntax_trees.specs.declared.expr.Expr.{Expr}
 use Rattle.syntax_trees.specs.declared.query.OrderedQuery.{OrderedQuery}
 use Rattle.syntax_trees.specs.declared.query.Query.{Query}
 use Rattle.syntax_trees.specs.declared.query.SortSpecification.{SortSpecification}
+use Rattle.statement_trees.specs.declared.definition.Characteristic.{Characteristic}
 use Rattle.statement_trees.specs.declared.statement.CreateFunction.{out-CreateFunction}
 use Rattle.statement_trees.specs.declared.statement.Declaration.TheOpen.{Stmt-F}
 use Rattle.statement_trees.specs.declared.statement.Stmt.{Stmt, out-Stmt}
@@ -38,7 +40,6 @@ use Rattle.bind_parts.specs.From.{table_in, table_uses}
 use Rattle.bind_parts.specs.Order.{place_at, one_key, keys_of}
 use Rattle.bind_parts.specs.Turns.{each_noted}
 use Rattle.bind_parts.specs.Typed.{no_parts, head_in, is_own}
-use Rattle.bind_queries.specs.Heights.{greatest_height}
 use Rattle.bind_queries.specs.Names.{judge, inner}
 use Rattle.bind_queries.specs.Order.{judge_ordered}
 use Rattle.bind_queries.specs.Queries.{judge_query}
@@ -51,18 +52,17 @@ use Rattle.bind_changes.specs.Writing.{into_faults, wrong_width, judged_insert, 
 use Rattle.bind_changes.specs.Writing.{one_value, judged_values, judged_where, target_faults}
 use Rattle.bind_changes.specs.Writing.{assigned, judged_update, judged_delete}
 use Rattle.bind_simple.specs.Places.{seen_from}
-use Rattle.bind_definitions.specs.Characteristics.{need_of}
+use Rattle.bind_definitions.specs.Characteristics.{group_faults}
 use Rattle.bind_rules.specs.Definitions.{Definition}
 use Rattle.bind_definitions.specs.Making.{own_function, signature_faults, planned_function}
-use Rattle.bind_definitions.specs.Making.{interpreted}
+use Rattle.bind_definitions.specs.Making.{interpreted, access_of_result, asked_of_result}
 use Rattle.bind_direct.specs.Returning.{in_function, judged_result, judged_returning}
 use Rattle.bind_definitions.specs.Routines.{parameters_of, calls as calls_in}
-use Rattle.bind_rules.specs.Heights.{too_high}
 use Rattle.bind_statements.specs.Runs.{lacks_plan, FunctionsPlanned, has_run_form, calls_back}
 use Rattle.bind_statements.specs.Runs.{form_calls_itself, FaultlessRuns}
 use Rattle.bind_direct.specs.Direct.{is_run as is_made_to_run}
 use Rattle.bind_statements.specs.Statements.{judged_object, judged_form}
-use Rattle.bind_rules.specs.Definitions.{Form, result_of}
+use Rattle.bind_rules.specs.Definitions.{Form, if_bare, value_returned}
 
 -- ---- what a name stands for
 
@@ -272,11 +272,13 @@ module _ (known : Catalog) (all : AllPlanned known) (plans : FunctionsPlanned kn
       let seen = seen_from place in
       let x = judge result seen in
       let given = misfit (kind_of_type (type_of s.returns)) x.value.head in
-      let high = too_high s.name (greatest_height known x.uses) in
-      let inside = front_nil (x.faults ++ given) high
-      (back_nil (signature_faults s known) ((x.faults ++ given) ++ high) p) in
-      ap (λ b. is_made_to_run (if b then planned_function s known x.uses x.value.tree else
-      interpreted s known (need_of known x.uses false) x.uses (Return x.value.tree)))
+      let asked = asked_of_result s known x.uses in
+      let heads = signature_faults s known ++ group_faults s.characteristics in
+      let inside = front_nil (x.faults ++ given) asked
+      (back_nil heads ((x.faults ++ given) ++ asked) p) in
+      let access = access_of_result s known x.uses in
+      ap (λ b. is_made_to_run (if b then planned_function s known access x.uses x.value.tree else
+      interpreted s known access x.uses (Return x.value.tree)))
       (expr-runs result seen refl refl (outside (own_function s) x.uses c)
       (front_nil x.faults given inside))
 
@@ -286,6 +288,25 @@ module _ (known : Catalog) (all : AllPlanned known) (plans : FunctionsPlanned kn
   definition-runs s None r c p = absurd cc
   definition-runs s (Some result) r c p = returning-runs s result c p
 
+  -- of a function without characteristics the value that it returns is its form
+  bare : (cs : List Characteristic) (value : Option Expr) → is_some (if_bare cs value) ≡ true →
+      if_bare cs value ≡ value
+  bare [] value r = refl
+  bare (c ∷ cs) value r = absurd cc
+
+  created-runs : (s : Definition) (value : Option Expr) →
+      is_some (if_bare s.characteristics value) ≡ true
+      → calls_back s (if_bare s.characteristics value) known ≡ false →
+      (judged_object s value known).faults ≡ []
+      → (is_some (if_bare s.characteristics value) &&
+      is_made_to_run (judged_object s value known).value) ≡ true
+  created-runs s value r c p =
+      let same = bare s.characteristics value r in
+      and_from (is_some (if_bare s.characteristics value))
+      (is_made_to_run (judged_object s value known).value) r
+      (definition-runs s value (ap is_some (sym same) ∙ r)
+      (ap (λ o. calls_back s o known) (sym same) ∙ c) p)
+
   -- ---- statements
 
   form-runs : (y : Form) (whole : Stmt) → has_run_form y ≡ true →
@@ -293,7 +314,7 @@ module _ (known : Catalog) (all : AllPlanned known) (plans : FunctionsPlanned kn
       (judged_form y whole known).value.runs ≡ true
   form-runs (Stmt-F.CreateTable s) whole r c p = refl
   form-runs (Stmt-F.CreateFunction s) whole r c p =
-      definition-runs (out-CreateFunction s) (result_of (out-CreateFunction s)) r c p
+      created-runs (out-CreateFunction s) (value_returned (out-Stmt (out-CreateFunction s).body)) r c p
   form-runs (Stmt-F.CreateProcedure s) whole r c p = absurd cc
   form-runs (Stmt-F.Drop s) whole r c p = refl
   form-runs (Stmt-F.Insert s) whole r c p = insert-runs s p

@@ -2,7 +2,7 @@
 use Rattle.std.proofs.Common.{◌≡◌, refl, sym, ap, ◌∙◌, subst, arith, ℕ, zero, suc, ◌+◌, Bool, true}
 use Rattle.std.proofs.Common.{false, cond, ◌||◌, List, [], ◌∷◌, ◌++◌, map, length, Option, Some}
 use Rattle.std.proofs.Common.{None}
-use Rattle.std.specs.Prelude.{slice_get, is_some}
+use Rattle.std.specs.Prelude.{slice_get, is_some, if◌then◌else◌}
 use Rattle.syntax_trees.specs.declared.expr.Expr.{Expr}
 use Rattle.syntax_trees.specs.declared.query.OrderedQuery.{OrderedQuery}
 use Rattle.statement_trees.specs.declared.definition.Parameter.{Parameter}
@@ -37,6 +37,7 @@ use Rattle.bound_trees.specs.declared.statement.BoundStmt.{out-BoundStmt}
 use Rattle.bound_trees.specs.declared.statement.BoundStmt.TheViews.{outs-Call}
 use Rattle.bound_trees.specs.declared.statement.BoundStmt.TheVariants as stmt
 use Rattle.catalog_store.specs.Catalog.{Catalog}
+use Rattle.catalog_store.specs.declared.entry.DataAccess.{DataAccess}
 use Rattle.bind_faults.specs.Faults.{noted}
 use Rattle.bind_faults.proofs.Laws.{is_free}
 use Rattle.bind_kinds.specs.declared.kind.Kind.{Kind}
@@ -49,9 +50,9 @@ use Rattle.bind_queries.specs.Runs.{all_run}
 use Rattle.bind_queries.proofs.Laws.{front_nil, back_nil}
 use Rattle.bind_simple.specs.Calls.{judged_call}
 use Rattle.bind_routines.specs.Statements.{judge_stmt}
-use Rattle.typing_trees.specs.Around.{Slot, stored}
+use Rattle.typing_trees.specs.Around.{Around, Slot, stored}
 use Rattle.typing_trees.specs.Queries.{kinds_of_query}
-use Rattle.typing_trees.specs.Statements.{value_of, is_typed}
+use Rattle.typing_trees.specs.Statements.{value_of, is_of, is_typed}
 use Rattle.typing_queries.proofs.Laws.{HasAll, Sees, ScopeIn, SlotIs, ordered_typed}
 use Rattle.typing_statements.proofs.Laws.{call-typed, statement_typed, return-layer, Stands}
 use Rattle.typing_statements.proofs.Laws.{CursorsOf, value-typed, insert-typed, update-typed}
@@ -60,15 +61,18 @@ use Rattle.bind_direct.specs.declared.bound.BoundStatement.{BoundStatement}
 use Rattle.bind_rules.specs.Definitions.{Definition, ProcedureDefinition}
 use Rattle.bind_definitions.specs.Making.{own_function as own_function_of}
 use Rattle.bind_definitions.specs.Making.{own_procedure as own_procedure_of, signature_faults}
-use Rattle.bind_definitions.specs.Making.{returning, planned_function, interpreted}
+use Rattle.null_guards.specs.Guards.{guarded}
+use Rattle.null_guards.proofs.Laws.{guards_keep_kinds}
+use Rattle.bind_definitions.specs.Making.{returning, planned_function, interpreted, guarded_body}
+use Rattle.bind_definitions.specs.Making.{access_of_result}
 use Rattle.bind_direct.specs.Direct.{at_script as script_place, direct_call}
 use Rattle.bind_direct.specs.Returning.{in_function, judged_result, returning_with}
 use Rattle.bind_statements.specs.Functions.{in_procedure, body_of_function, procedure_faults}
 use Rattle.bind_statements.specs.Functions.{body_of_procedure, judged_procedure, body_faults}
 use Rattle.bind_definitions.specs.Routines.{parameter_types, parameters_held, parameters_of}
 use Rattle.bind_definitions.specs.Routines.{parameter_names}
-use Rattle.bind_definitions.specs.Characteristics.{group_faults, need_of}
-use Rattle.bind_rules.specs.Definitions.{Form, result_of}
+use Rattle.bind_definitions.specs.Characteristics.{group_faults, is_null_on_null}
+use Rattle.bind_rules.specs.Definitions.{Form, value_returned}
 use Rattle.bind_statements.specs.Statements.{judged_form, judged_object, judged_statement}
 use Rattle.bind_statements.specs.Statements.{judged_routine}
 use Rattle.bind_statements.specs.Types.{around, inside, at_script, script_call, object_typed}
@@ -186,30 +190,44 @@ result-typed s result catalog p =
     (in_function s (parameters_of s.parameters) catalog)
     (around (slots_of s.parameters) (Some (own_function_of s)) catalog) h.sees p
 
+-- so is the value of a function that may return NULL on NULL input
+guarded-typed : (s : Definition) (catalog : Catalog) (e : BoundExpr)
+    → value_of (kind_of_type (type_of s.returns)) e
+    (around (slots_of s.parameters) (Some (own_function_of s)) catalog) ≡ true
+    → value_of (kind_of_type (type_of s.returns)) (guarded_body s e)
+    (around (slots_of s.parameters) (Some (own_function_of s)) catalog) ≡ true
+guarded-typed s catalog e p = by (is_null_on_null s.characteristics)
+  where
+    a : Around
+    a = around (slots_of s.parameters) (Some (own_function_of s)) catalog
+
+    n : ℕ
+    n = length s.parameters
+
+    as-many : n ≡ length a.slots
+    as-many = sym (many-slots s.parameters)
+
+    by : (b : Bool) → value_of (kind_of_type (type_of s.returns)) (if b then guarded n e else e) a ≡
+        true
+    by true = ap (is_of (kind_of_type (type_of s.returns)))
+        (guards_keep_kinds n e a (omega (arith, as-many))) ∙ p
+    by false = p
+
 returned-typed : (s : Definition) (catalog : Catalog) (uses : List (List ℕ)) (e : BoundExpr)
     → value_of (kind_of_type (type_of s.returns)) e
     (around (slots_of s.parameters) (Some (own_function_of s)) catalog) ≡ true
     → object_typed s.name.name (returning s catalog uses e) catalog ≡ true
-returned-typed s catalog uses e p = by (all_run catalog uses) refl
+returned-typed s catalog uses e p = by (all_run catalog uses)
   where
-    with-plan : object_typed s.name.name (planned_function s catalog uses e) catalog ≡ true
-    with-plan = p
+    access : DataAccess
+    access = access_of_result s catalog uses
 
-    without-plan : object_typed s.name.name (interpreted s catalog (need_of catalog uses false) uses
-        (stmt.Return e)) catalog ≡ true
-    without-plan = return-layer e (inside (parameter_types s.parameters) (Some (type_of s.returns))
+    by : (b : Bool) → object_typed s.name.name
+        (if b then planned_function s catalog access uses e else
+        interpreted s catalog access uses (stmt.Return e)) catalog ≡ true
+    by true = guarded-typed s catalog e p
+    by false = return-layer e (inside (parameter_types s.parameters) (Some (type_of s.returns))
         (Some (own_function_of s)) None catalog) ∙ p
-
-    by : (b : Bool) → all_run catalog uses ≡ b →
-        object_typed s.name.name (returning s catalog uses e) catalog ≡ true
-    by true is = subst (λ b. object_typed s.name.name
-        (cond b (planned_function s catalog uses e)
-        (interpreted s catalog (need_of catalog uses false) uses (stmt.Return e))) catalog ≡ true)
-        (sym is) with-plan
-    by false is = subst (λ b. object_typed s.name.name
-        (cond b (planned_function s catalog uses e)
-        (interpreted s catalog (need_of catalog uses false) uses (stmt.Return e))) catalog ≡ true)
-        (sym is) without-plan
 
 definition-typed : (s : Definition) (result : Option Expr) (catalog : Catalog) →
     is_ordered s.body ≡ true → (judged_object s result catalog).faults ≡ [] →
@@ -228,7 +246,7 @@ definition-typed s (Some result) catalog o p =
     let rest = (returning_with s catalog body).faults in
     returned-typed s catalog body.uses body.value
     (result-typed s result catalog (front_nil body.faults _
-    (back_nil (signature_faults s catalog) rest p)))
+    (back_nil (signature_faults s catalog ++ group_faults s.characteristics) rest p)))
 
 procedure-typed : (s : ProcedureDefinition) (catalog : Catalog) → is_ordered s.body ≡ true →
     (judged_procedure s catalog).faults ≡ [] →
@@ -311,7 +329,7 @@ form-typed : (y : Form) (whole : Stmt) (catalog : Catalog) → form_ordered y �
     IsTyped catalog (judged_form y whole catalog).value.bound
 form-typed (Stmt-F.CreateTable s) whole catalog o w p = refl
 form-typed (Stmt-F.CreateFunction s) whole catalog o w p = definition-typed (out-CreateFunction s)
-    (result_of (out-CreateFunction s)) catalog (sym (function-order s) ∙ o) p
+    (value_returned (out-Stmt (out-CreateFunction s).body)) catalog (sym (function-order s) ∙ o) p
 form-typed (Stmt-F.CreateProcedure s) whole catalog o w p =
     procedure-typed (out-CreateProcedure s) catalog (sym (procedure-order s) ∙ o) p
 form-typed (Stmt-F.Drop s) whole catalog o w p = refl

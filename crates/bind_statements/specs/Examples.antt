@@ -20,7 +20,9 @@ use Rattle.syntax_trees.specs.declared.expr.TruthTest.TheVariants as test
 use Rattle.syntax_trees.specs.declared.query.OrderedQuery.{OrderedQuery}
 use Rattle.statement_trees.specs.declared.definition.Column.{Column}
 use Rattle.statement_trees.specs.declared.definition.Characteristic.{Characteristic}
+use Rattle.statement_trees.specs.declared.definition.CharacteristicKind.{CharacteristicKind}
 use Rattle.statement_trees.specs.declared.definition.CharacteristicKind.TheVariants.{Deterministic}
+use Rattle.statement_trees.specs.declared.definition.CharacteristicKind.TheVariants as marked
 use Rattle.statement_trees.specs.declared.definition.CreateTable.{CreateTable}
 use Rattle.statement_trees.specs.declared.definition.DropObject.{DropObject}
 use Rattle.statement_trees.specs.declared.definition.ObjectSort.{ObjectSort}
@@ -70,6 +72,7 @@ use Rattle.bind_queries.specs.Examples.{qualified, call, word, chain, equal, agg
 use Rattle.bind_queries.specs.Examples.{catalog, item, table as table_ref}
 use Rattle.bind_queries.specs.Written.{Expr, Subquery, Query, Select, Values, Comma, exprs, froms}
 use Rattle.bind_queries.specs.Written.{expr_of, query_of}
+use Rattle.bind_direct.specs.declared.bound.Bound.{Bound}
 use Rattle.bind_direct.specs.declared.bound.Bound.TheVariants as bound_as
 use Rattle.bind_rules.specs.Definitions.{Definition}
 use Rattle.bind_direct.specs.Direct.{with_runs}
@@ -227,10 +230,15 @@ definition_of n parameters to cs body =
       body = body;
     }
 
--- CREATE FUNCTION whose body is RETURN, opened one layer
-abbrev pub new_function : List ℕ → List Parameter → DataType → Expr → Definition
-new_function n parameters to result = definition_of n parameters to []
+-- CREATE FUNCTION with characteristics whose body is RETURN, opened one layer
+abbrev pub definition_returning : List ℕ → List Parameter → DataType → List Characteristic → Expr →
+    Definition
+definition_returning n parameters to cs result = definition_of n parameters to cs
     (stmt.Return (at 9) (expr_of result))
+
+-- CREATE FUNCTION without characteristics whose body is RETURN, opened one layer
+abbrev pub new_function : List ℕ → List Parameter → DataType → Expr → Definition
+new_function n parameters to result = definition_returning n parameters to [] result
 
 -- CREATE FUNCTION name (parameters) RETURNS type RETURN result
 abbrev pub function : List ℕ → List Parameter → DataType → Expr → Stmt
@@ -472,6 +480,49 @@ pub record FormsBoundAlone : Type 0 where
   pub at_explain : anchor_of (explained (codes "T")) ≡ at 0
   pub at_begin : anchor_of (block None 0 []) ≡ at 0
   pub at_begin_after_a_label : anchor_of (block (Some (called (codes "L") 0)) 2 []) ≡ at 2
+
+-- ---- functions whose body is RETURN
+
+-- CREATE FUNCTION G (X INTEGER, Y INTEGER) RETURNS INTEGER with a characteristic, RETURN result
+abbrev pub g_with : CharacteristicKind → Expr → Stmt
+g_with what result = stmt.CreateFunction (roll-CreateFunction
+    (definition_returning (codes "G")
+    (new_parameter (codes "X") 3 (integer 4) ∷ new_parameter (codes "Y") 5 (integer 6) ∷ [])
+    (integer 7) (record { anchor = at 8; kind = what } ∷ []) result))
+
+-- the value of a new function that has a plan
+abbrev pub planned_value : Bound → Option BoundExpr
+planned_value (bound_as.Create n (new.Function r)) = Some r.body
+planned_value _ = None
+
+-- what such a function returns, or that it has no plan
+abbrev pub Plans : Stmt → Option BoundExpr → Type 0
+Plans s value = planned_value (judged_statement s catalog).value.bound ≡ value
+
+-- x IS NULL
+abbrev pub is_null : ℕ → BoundExpr
+is_null slot = bound.Operation NullTest (bound.Variable slot ∷ [])
+
+-- which functions whose body is RETURN have plans, and of what
+pub record FunctionsHavePlans : Type 0 where
+  pub without_a_characteristic : Plans (function (codes "G")
+      (new_parameter (codes "X") 3 (integer 4) ∷ []) (integer 7) (name (codes "X") 10))
+      (Some (bound.Variable 0))
+  pub language : Plans (g_with marked.LanguageSql (name (codes "X") 10))
+      (Some (bound.Variable 0))
+  pub deterministic : Plans (g_with marked.Deterministic (name (codes "X") 10))
+      (Some (bound.Variable 0))
+  pub data_access : Plans (g_with marked.ModifiesSqlData (name (codes "X") 10))
+      (Some (bound.Variable 0))
+  pub called_on_null : Plans (g_with marked.CalledOnNullInput (name (codes "X") 10))
+      (Some (bound.Variable 0))
+  -- CASE WHEN X IS NULL OR Y IS NULL THEN NULL ELSE X END
+  pub null_on_null : Plans (g_with marked.ReturnsNullOnNullInput (name (codes "X") 10))
+      (Some (bound.Operation word_of.Case
+      (bound.Operation word_of.Or (is_null 0 ∷ is_null 1 ∷ []) ∷ bound.Literal Null
+      ∷ bound.Variable 0 ∷ [])))
+  pub self_call : Plans (g_with marked.Deterministic
+      (call (codes "G") 10 (name (codes "X") 12 ∷ name (codes "Y") 14 ∷ []))) None
 
 -- ---- writing
 

@@ -22,7 +22,7 @@ use Rattle.bind_definitions.specs.Making.{procedure_head, procedure_of, signatur
 use Rattle.bind_rules.specs.Definitions.{Definition, ProcedureDefinition}
 use Rattle.bind_direct.specs.Returning.{in_function}
 
--- ---- functions of another form than a bare RETURN
+-- ---- functions whose body is another statement than RETURN
 
 -- what a judged body needs
 abbrev pub body_need : Catalog → Noted BoundStmt → DataAccess
@@ -49,7 +49,7 @@ function_with s catalog body = record {
 abbrev pub body_of_function : Definition → Scope → Catalog → Noted BoundStmt
 body_of_function s parameters catalog = judge_stmt s.body (in_function s parameters catalog)
 
--- CREATE FUNCTION of another form than the one that is run
+-- CREATE FUNCTION whose body is another statement than RETURN
 abbrev pub judged_function : Definition → Catalog → Noted NewObject
 judged_function s catalog =
     signature_faults s catalog ++ group_faults s.characteristics >> function_with s catalog

@@ -14,12 +14,14 @@ use Rattle.statement_trees.specs.declared.statement.Stmt.{Stmt, out-Stmt}
 use Rattle.catalog_store.specs.Catalog.{Catalog}
 use Rattle.catalog_store.specs.declared.entry.Object.{Object as NewObject}
 use Rattle.bind_faults.specs.Faults.{Noted, as_value}
-use Rattle.bind_rules.specs.Definitions.{Definition, ProcedureDefinition, Form, result_of}
+use Rattle.bind_rules.specs.Definitions.{Definition, ProcedureDefinition, Form}
+use Rattle.bind_rules.specs.Definitions.{value_returned}
 use Rattle.bind_simple.specs.Anchors.{standing_of}
 use Rattle.bind_routines.specs.Statements.{judge_stmt}
 use Rattle.bind_direct.specs.declared.bound.BoundStatement.{BoundStatement}
 use Rattle.bind_direct.specs.declared.bound.Bound.TheVariants as bound
-use Rattle.bind_direct.specs.Direct.{not_run, created, explained, at_script, direct_table}
+use Rattle.bind_direct.specs.Direct.{not_run, created, created_function, explained, at_script}
+use Rattle.bind_direct.specs.Direct.{direct_table}
 use Rattle.bind_direct.specs.Direct.{direct_drop, direct_query, direct_insert, direct_update}
 use Rattle.bind_direct.specs.Direct.{direct_delete, direct_call}
 use Rattle.bind_direct.specs.Returning.{judged_returning}
@@ -27,18 +29,18 @@ use Rattle.bind_statements.specs.Functions.{judged_function, judged_procedure}
 
 -- ---- CREATE FUNCTION and CREATE PROCEDURE
 
--- a function of that form, or of another
+-- a function whose body is RETURN, or another statement
 abbrev pub judged_object : Definition → Option Expr → Catalog → Noted NewObject
 judged_object s None catalog = judged_function s catalog
 judged_object s (Some result) catalog = judged_returning s result catalog
 
 -- CREATE FUNCTION: the new function, with its faults
 abbrev pub judged_new : Definition → Catalog → Noted NewObject
-judged_new s catalog = judged_object s (result_of s) catalog
+judged_new s catalog = judged_object s (value_returned (out-Stmt s.body)) catalog
 
 -- CREATE FUNCTION as a statement
 abbrev pub judged_definition : Definition → Catalog → Noted BoundStatement
-judged_definition s catalog = as_value (created s.name) (judged_new s catalog)
+judged_definition s catalog = as_value (created_function s) (judged_new s catalog)
 
 -- CREATE PROCEDURE as a statement
 abbrev pub judged_procedure_definition : ProcedureDefinition → Catalog → Noted BoundStatement

@@ -48,7 +48,7 @@ fn bind_body(
     })
 }
 
-// ---- functions of other forms
+// ---- functions whose body is another statement than RETURN
 
 // The body of a function, in sight of its parameters.
 fn function_body(
@@ -99,7 +99,7 @@ fn function_with(
     interpreted(alloc, create, catalog, access, body)
 }
 
-/// A new function of another form, with its faults noted.
+/// A new function whose body is another statement than RETURN, with its faults noted.
 pub(crate) fn bind_function(
     alloc: Global,
     create: &CreateFunction,

@@ -7,6 +7,7 @@ ghost use Rattle.bind_statements.specs.Runs.{FaultlessRuns};
 ghost use Rattle.bind_statements.specs.Types.{FaultlessTyped};
 ghost use Rattle.bind_statements.specs.Examples.{EachFaultAtItsPlace, KeysOfTables, DropsOfEntries};
 ghost use Rattle.bind_statements.specs.Examples.{FormsBoundAlone, FaultsOfWriting, KindsFit};
+ghost use Rattle.bind_statements.specs.Examples.{FunctionsHavePlans};
 ghost use Rattle.bind_statements.specs.Examples.{BindsByPlaceAndName, BindsWriting};
 
 mod function;
@@ -56,6 +57,12 @@ pub fn drops_of_entries()
 /// Which statements are run, and which are bound alone.
 pub fn forms_bound_alone()
     ensures { FormsBoundAlone }
+{}
+
+/// Which functions whose body is RETURN have plans: all but one that calls itself. With RETURNS NULL
+/// ON NULL INPUT the value is a CASE over the parameters.
+pub fn functions_have_plans()
+    ensures { FunctionsHavePlans }
 {}
 
 /// Lists of columns, assignments and WHERE of what writes a table: each fault at its place.

@@ -11,15 +11,15 @@ ghost use Rattle.bind_statements.specs.Binds.{Binds, StatementFits};
 ghost use Rattle.bind_statements.specs.Types.{IsTyped};
 
 use crate::function::{bind_function, bind_procedure};
+use bind_definitions::value_returned;
 use bind_direct::{
     Bound, BoundStatement, bind_direct_call, bind_direct_delete, bind_direct_drop,
     bind_direct_insert, bind_direct_query, bind_direct_table, bind_direct_update, bind_explain,
-    bind_returning, created,
+    bind_returning, created, created_function,
 };
 use bind_faults::{Fault, Notes};
 use bind_parts::NameFault;
 use bind_routines::bind_statement as bind_in_routine;
-use bind_rules::result_of;
 use bind_simple::{Surroundings, anchor_of_query};
 use catalog_store::{Catalog, Object};
 use sql_values::NoMemory;
@@ -56,7 +56,7 @@ fn bind_routine(
     })
 }
 
-// A new function, of the form that is run or of another.
+// A new function, whose body is RETURN or another statement.
 fn bind_object(
     alloc: Global,
     create: &CreateFunction,
@@ -67,7 +67,7 @@ fn bind_object(
     ensures faults { OnOk result (least.new ≡ noted least.old
         (spec.judged_new (out-CreateFunction create.now) catalog.now).faults) }
 {
-    match result_of(create) {
+    match value_returned(create) {
         Some(returned) => bind_returning(alloc, create, returned, catalog, least),
         None => bind_function(alloc, create, catalog, least),
     }
@@ -86,7 +86,7 @@ fn bind_new_function(
         (spec.judged_definition (out-CreateFunction create.now) catalog.now).faults) }
 {
     let object = bind_object(alloc, create, catalog, least)?;
-    created(&create.name, object)
+    created_function(create, object)
 }
 
 // CREATE PROCEDURE as a statement.

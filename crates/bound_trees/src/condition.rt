@@ -1,8 +1,8 @@
 //! Conditions in bound statements: what handlers wait for, what is raised, and what is asked of a
-//! diagnostics area. A condition stands by its state.
+//! diagnostics area. A condition stands by its SQLSTATE.
 
 use crate::{BoundExpr, BoundTarget};
-use sql_values::Text;
+use sql_conditions::SqlState;
 use sqlite_items::Items;
 
 /// What follows a handler's action (ISO/IEC 9075-4, 14.2).
@@ -14,10 +14,10 @@ pub enum BoundHandlerType {
 }
 
 /// What a handler waits for (ISO/IEC 9075-4, 14.2).
-#[derive(Debug, Drop)]
+#[derive(Clone, Copy, Debug)]
 pub enum BoundConditionValue {
     /// An SQLSTATE, written or that of a condition.
-    State(Text),
+    State(SqlState),
     SqlException,
     SqlWarning,
     NotFound,
@@ -26,14 +26,14 @@ pub enum BoundConditionValue {
 /// SIGNAL (ISO/IEC 9075-4, 17.2): the state, and the text, where one is written.
 #[derive(Drop)]
 pub struct BoundSignal {
-    pub state: Text,
+    pub state: SqlState,
     pub message: Option<BoundExpr>,
 }
 
 /// RESIGNAL (17.3): the state and the text, where they are written.
 #[derive(Drop)]
 pub struct BoundResignal {
-    pub state: Option<Text>,
+    pub state: Option<SqlState>,
     pub message: Option<BoundExpr>,
 }
 

@@ -31,7 +31,13 @@ pub use Rattle.catalog_store.proofs.Layers.{source_uses-at, link_uses-at, groupi
 pub use Rattle.catalog_store.proofs.Layers.{select_uses-at}
 pub use Rattle.catalog_store.proofs.Layers.{tree_of-at, item_of-at, query_of-at, row_of-at}
 pub use Rattle.catalog_store.proofs.Layers.{source_of-at, link_of-at, grouping_of-at, select_of-at}
-use Rattle.catalog_store.proofs.Named.{named_more, named_less, other_bytes}
+pub use Rattle.catalog_store.proofs.Layers.{ExprLayer, ItemLayer, QueryLayer, RowLayer, SourceLayer}
+pub use Rattle.catalog_store.proofs.Layers.{LinkLayer, GroupingLayer, SelectLayer, expr_used}
+pub use Rattle.catalog_store.proofs.Layers.{item_used, query_used, row_used, source_used, link_used}
+pub use Rattle.catalog_store.proofs.Layers.{grouping_used, select_used}
+pub use Rattle.catalog_store.proofs.Named.{same_bytes, bytes_self, bytes_swap, other_bytes}
+pub use Rattle.catalog_store.proofs.Named.{without_front, without_last, without_none}
+use Rattle.catalog_store.proofs.Named.{named_more, named_less}
 
 pub adding_leaves_others : AddingLeavesOthers
 adding_leaves_others name known entry f = named_more name known entry

@@ -12,7 +12,7 @@ use Rattle.sql_lex.specs.Tokens.{kind_of, token_at}
 use Rattle.statement_trees.specs.declared.statement.Stmt.{Stmt}
 use Rattle.grammar_algebra.specs.Grammar.{Spells, inside}
 use Rattle.grammar_algebra.specs.Statement.{SpellsWithin}
-use Rattle.grammar_algebra.proofs.After.{After, after_next, spells_after, inside_after}
+use Rattle.grammar_algebra.proofs.Laws.{After, after_next, spells_after, inside_after}
 use Rattle.grammar_sql.specs.Sql.{rules, unended, statement}
 use Rattle.grammar_ends.specs.Begins.{Begins, next}
 

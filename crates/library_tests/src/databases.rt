@@ -3,6 +3,7 @@
 ghost use Rattle.std.specs.Prelude.{◌≡◌, true, IfSome};
 ghost use Rattle.catalog_store.specs.View.{query_of};
 ghost use Rattle.rel_algebra.specs.Plain.{planned};
+ghost use Rattle.psm_session.specs.Bodies.{IsTypedQuery};
 
 use bind_selects::bind_query;
 use bind_sight::Sight;
@@ -55,7 +56,8 @@ pub fn made(alloc: Global, doing: Doing, statements: &[&[u8]]) -> Option<Databas
 }
 
 fn bound_tree(alloc: Global, tree: &Query, catalog: &Catalog) -> Option<BoundQuery>
-    ensures { IfSome result (λ q. planned (query_of catalog.now q) ≡ true) }
+    ensures planned { IfSome result (λ q. planned (query_of catalog.now q) ≡ true) }
+    ensures typed { IfSome result (λ q. IsTypedQuery catalog.now q) }
 {
     let sight = Sight {
         levels: &[],
@@ -76,9 +78,11 @@ fn parsed(alloc: Global, text: &str) -> Option<Query> {
     }
 }
 
-/// The query of a text, with its names resolved, where all functions that it calls have plans.
+/// The query of a text, with its names resolved, where all functions that it calls have plans. It is
+/// well typed.
 pub fn bound(alloc: Global, text: &str, catalog: &Catalog) -> Option<BoundQuery>
-    ensures { IfSome result (λ q. planned (query_of catalog.now q) ≡ true) }
+    ensures planned { IfSome result (λ q. planned (query_of catalog.now q) ≡ true) }
+    ensures typed { IfSome result (λ q. IsTypedQuery catalog.now q) }
 {
     let tree = parsed(alloc, text)?;
     bound_tree(alloc, &tree, catalog)

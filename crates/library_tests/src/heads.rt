@@ -35,12 +35,18 @@ static MAKING_G: &[u8] =
     b"CREATE FUNCTION g (x INTEGER) RETURNS INTEGER BEGIN DECLARE r INTEGER; SET r = x; RETURN r; END;";
 
 // Statements that make F, and its height, its weight and how many names it uses.
-static HEADS: [(&str, u32, u32, usize); 12] = [
+static HEADS: [(&str, u32, u32, usize); 13] = [
     (
         "CREATE FUNCTION f (x INTEGER) RETURNS INTEGER RETURN x;",
         1,
         1,
         0,
+    ),
+    (
+        "CREATE FUNCTION f (x INTEGER) RETURNS INTEGER READS SQL DATA RETURNS NULL ON NULL INPUT RETURN (SELECT k FROM t WHERE k = x);",
+        1,
+        1,
+        1,
     ),
     (
         "CREATE FUNCTION f () RETURNS INTEGER BEGIN DECLARE r INTEGER DEFAULT 0; SET r = 1; RETURN r; END;",

@@ -11,7 +11,8 @@ use Rattle.sql_conditions.specs.declared.condition.EngineCondition.TheVariants.{
 use Rattle.sql_conditions.specs.declared.condition.EngineCondition.TheVariants.{SeveralRows}
 use Rattle.sql_conditions.specs.declared.condition.EngineCondition.TheVariants.{StringTooLong}
 use Rattle.sql_conditions.specs.Conditions.{area_of}
-use Rattle.rel_algebra.specs.Tree.{Column, Variable, CallSelf, Stmt, NoStmt}
+use Rattle.rel_algebra.specs.Tree.{Literal, Column, Variable, Coalesce, CallSelf, Stmt, NoStmt}
+use Rattle.rel_algebra.specs.Tree.{MoreExprs}
 use Rattle.rel_algebra.specs.Tree.{Routine, Function, Procedure, Return, Set, Signal, Without}
 use Rattle.rel_algebra.specs.Tree.{Continue, Exit, SqlException, NotFound, NoVariable}
 use Rattle.rel_algebra.specs.Tree.{MoreVariables, NoHandler, SearchedCase, SimpleCase}
@@ -120,6 +121,10 @@ pub record NullOnNull : Type 0 where
       empty ≡ Gives (int 4) empty
   pub not_null : applied_to (Function false (Integer ∷ []) Integer true (Return (number 4)))
       (int 1) empty ≡ Gives (int 4) empty
+  -- f (x): RETURN COALESCE(f(NULL), 5): the self-call takes no turn
+  pub itself : applied_to (Function true (Integer ∷ []) Integer true
+      (Return (Coalesce (MoreExprs (CallSelf (Integer ∷ []) (only (Literal Null)))
+      (only (number 5)))))) (int 1) (world [] 9) ≡ Gives (int 5) (world [] 8)
 
 -- a function's value is assigned at the call: no handler of its body takes that
 pub record ValueAssignedAtCall : Type 0 where

@@ -104,13 +104,16 @@ member_emits None a inner start now new sought s first second =
     record {
       tree =
           second.tree ∙
-          (λ j. on_each (apply_by (constant (Truth true)) (member (first.scalar j)) anew inner no_node)
+          (λ j. on_each
+          (apply_by (constant (Truth true)) (member (first.scalar j)) anew inner no_node)
           (first.tree j))
-          ∙ sym (on_each-joined a.nodes (apply_by (constant (Truth true)) (member a.scalar) anew inner
-          no_node) (drafted start).tree);
+          ∙ sym (on_each-joined a.nodes
+          (apply_by (constant (Truth true)) (member a.scalar) anew inner no_node)
+          (drafted start).tree);
       columns =
           second.columns ∙
-          (λ j. width (apply_by (constant (Truth true)) (member (first.scalar j)) anew inner no_node)
+          (λ j. width
+          (apply_by (constant (Truth true)) (member (first.scalar j)) anew inner no_node)
           (first.columns j))
           ∙ sym (width-joined a.nodes (apply_by (constant (Truth true)) (member a.scalar) anew inner
           no_node) n);

@@ -18,7 +18,7 @@ use plan_exec::Answer;
 use reply_text::{Reply, done_reply};
 use row_types::{RowList, Steps};
 use run_changes::{change_rows, remove_rows, store_rows};
-use run_expressions::{Stop, World};
+use run_expressions::{Raise, Stop, World};
 use sql_values::NoMemory;
 use sqlite_items::Items;
 use std::sync::ledger::Ledger;
@@ -84,7 +84,7 @@ fn make<L: Ledger>(
     let alloc = world.allocator();
     match planned_answer(alloc, change.query(), catalog, world.tables(), steps)? {
         Answer::Rows(rows) => make_of(change, rows, world, steps),
-        Answer::Raised(area) => Err(Stop::Raised(area)),
+        Answer::Raised(area) => Err(Stop::Raised(Raise::held(alloc, area)?)),
     }
 }
 

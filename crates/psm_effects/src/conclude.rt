@@ -34,7 +34,10 @@ pub(crate) fn stop_reply(stop: Stop, mark: Mark, world: &mut World) -> Result<Re
     ensures { IsStopped stop mark world.old world.new result }
 {
     match stop {
-        Stop::Raised(area) => conclude(area_reply(world.allocator(), &area), mark, world),
+        Stop::Raised(raise) => {
+            let area = raise.into_area();
+            conclude(area_reply(world.allocator(), &area), mark, world)
+        }
         Stop::Spent => {
             world.roll_back(mark);
             spent_reply(world.allocator())

@@ -1,4 +1,5 @@
 pub mod Codes
+pub mod Bodies
 pub mod Effects
 pub mod Executing
 pub mod Statement

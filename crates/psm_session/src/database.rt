@@ -7,10 +7,13 @@ ghost use Rattle.rel_algebra.specs.Meaning.{answer};
 ghost use Rattle.rel_algebra.specs.Joins.{table_width};
 ghost use Rattle.rel_algebra.specs.Lasting.{QueryLasts};
 ghost use Rattle.rel_algebra.specs.Plain.{planned};
+ghost use Rattle.rel_algebra.specs.Work.{work};
 ghost use Rattle.catalog_store.specs.View.{query_of};
+ghost use Rattle.typing_plans.specs.Bodies.{kinds_in};
 ghost use Rattle.bind_statements.specs.Statements.{judged_statement, anchor_of};
 ghost use Rattle.psm_effects.specs.Answering.{ends_with, HasValues};
-ghost use Rattle.psm_effects.specs.Preparing.{IsPrepared, plan_in, most_steps};
+ghost use Rattle.psm_effects.specs.Preparing.{IsPlanOf, IsPrepared, over, plan_in};
+ghost use Rattle.psm_session.specs.Bodies.{IsTypedQuery};
 ghost use Rattle.psm_session.specs.Executing.{Executes, Checks, reply_to, refusal};
 
 use crate::effect::{check_bound, run_bound};
@@ -32,7 +35,8 @@ use syntax_trees::Anchor;
 use table_store::Tables;
 
 /// A catalog, and the tables that it names, each with the columns and the key that it says, in its
-/// order. Contracts see both as plain data.
+/// order; and the body of each function with a plan is well typed over the entries made before it.
+/// Contracts see both as plain data.
 #[derive(Drop)]
 pub struct Database {
     alloc: Global,
@@ -50,10 +54,11 @@ impl Model for Database {
 
     ghost use Rattle.psm_effects.specs.Conclusions.{database};
     ghost use Rattle.psm_effects.specs.Shapes.{IsWhole};
+    ghost use Rattle.psm_session.specs.Bodies.{HasTypedBodies};
 
     ghost view = { λ d. database d.catalog d.tables };
 
-    ghost invariant = { λ d. IsWhole (database d.catalog d.tables) };
+    ghost invariant = { λ d. IsWhole (database d.catalog d.tables) × HasTypedBodies d.catalog };
 }
 
 // The reply to a fault.
@@ -106,12 +111,13 @@ impl Database {
         (catalog, tables)
     }
 
-    /// Prepares a query whose functions all have plans: its plan is made once, and means the query
-    /// for every content of the tables.
+    /// Prepares a well typed query whose functions all have plans: its plan is made once, means the
+    /// query for every content of the tables, and is well formed.
     pub fn prepare(&self, query: &BoundQuery) -> Result<Prepared, NoMemory>
         requires planned { planned (query_of self.now.catalog query.now) ≡ true }
+        requires typed { IsTypedQuery self.now.catalog query.now }
         ensures { IfOk result (λ p. IsPrepared (query_of self.now.catalog query.now)
-            (table_width self.now.tables) (plan_in p)) }
+            (table_width self.now.tables) (kinds_in self.now.catalog) (plan_in p)) }
     {
         let _entries = self.catalog.len();
         prepare_query(self.alloc, query, &self.catalog)
@@ -119,20 +125,19 @@ impl Database {
 
     /// How a prepared query ends over the tables as they are now: its rows in their order, or the
     /// first condition, where the tables that it names have as many columns as when it was
-    /// prepared. It takes at most as many steps as the plan's work, and one for each row that the
-    /// plan gives.
+    /// prepared. It takes at most as many steps as the plan's work.
     pub fn run_prepared<L: Ledger>(
         &self,
         prepared: &Prepared,
         steps: &mut Steps<L>,
     ) -> Result<Answer, NoMemory>
         ensures ends { IfOk result (λ a. (q : Query) (widths : List ℕ → ℕ) →
-            IsPrepared q widths (plan_in prepared.now) →
+            IsPlanOf q widths (plan_in prepared.now) →
             QueryLasts q widths (table_width self.now.tables)
             → (w : World) → w.tables ≡ self.now.tables →
             answer q no_self [] no_frame w ≡ ends_with a w) }
         ensures values { IfOk result (λ a. HasValues a) }
-        ensures work { steps.new ≤ steps.old + most_steps (plan_in prepared.now) self.now.tables }
+        ensures work { steps.new ≤ steps.old + work (plan_in prepared.now) (over self.now.tables) [] }
     {
         run_plan(self.alloc, prepared, &self.tables, steps)
     }

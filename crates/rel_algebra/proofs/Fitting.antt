@@ -27,7 +27,7 @@ use Rattle.rel_algebra.specs.Tree.{Returned, Grouped, In, Inner, LeftOuter, Link
 use Rattle.rel_algebra.specs.Tree.{MoreExprs, MoreLinks, MoreRows, NoExpr, NoLink, NoRow, Operate}
 use Rattle.rel_algebra.specs.Tree.{Or, Ordered, Query, Routine, Rows, Select, Single, Table, Values}
 use Rattle.rel_algebra.specs.Tree.{Variable, count, parameters_of}
-use Rattle.rel_algebra.specs.WellFormed.{HasRow, Shaped, ShapedAll, ShapedBody, ShapedFrom}
+use Rattle.rel_algebra.specs.WellFormed.{Shaped, ShapedAll, ShapedBody, ShapedFrom}
 use Rattle.rel_algebra.specs.WellFormed.{ShapedLinks, ShapedQuery, ShapedRows, WellFormedPlans}
 use Rattle.rel_algebra.specs.WellFormed.{aggregates_fit, columns_fit, has_column, keys_fit}
 use Rattle.rel_algebra.specs.WellFormed.{kind_fits, lists_fit, nodes_fit, scalar_fits, scalars_fit}
@@ -385,16 +385,18 @@ either_tree_fits : (b : Bool) (x y : PlanTree) (S : List ℕ → ℕ) (ws : List
 either_tree_fits true x y S ws ps p q = p refl
 either_tree_fits false x y S ws ps p q = q
 
-values_fits : (rows : Rows) → RowsFits rows → HasRow rows → (k : ℕ) → all_even k rows ≡ true →
+values_fits : (rows : Rows) → RowsFits rows → (k : ℕ) → k ≡ rows_width rows →
+    all_even k rows ≡ true →
     (S : List ℕ → ℕ) (e : Env) (ws : List ℕ) (ps : ℕ) →
     ShapedRows rows S → EnvFits e ws ps →
     tree_fits (values_plan k (emit_rows rows S (lifted e) 0) (emit_rows rows S (lifted e) 1)) S ws
     ps ≡ true
-values_fits NoRow h r k even S e ws ps s v = absurd r
-values_fits (MoreRows es NoRow) h r k even S e ws ps s v =
+values_fits NoRow h k w even S e ws ps s v =
+    subst (λ (n : ℕ). tree_fits (several n []) S ws ps ≡ true) (sym w) refl
+values_fits (MoreRows es NoRow) h k w even S e ws ps s v =
     listed_fits (emit_all es S (lifted e) 0) 0 unit_row S ws ps refl
     (all_fit es h.0 S (lifted e) 0 ws ps s.0 (lifted_fits e 0 ws ps v)) refl
-values_fits (MoreRows es (MoreRows fs rows)) h r k even S e ws ps s v =
+values_fits (MoreRows es (MoreRows fs rows)) h k w even S e ws ps s v =
     let all = MoreRows es (MoreRows fs rows) in let first = emit_rows all S (lifted e) 0 in
     let a = emit_all es S (lifted e) 1 in
     either_tree_fits (all_plain first) (values (scalars_of first))
@@ -427,7 +429,7 @@ grouped_fits k ags input S ws ps e t =
 shaped_even : (q : Query) (S : List ℕ → ℕ) → ShapedQuery q S → Even q
 shaped_even (Select items from tests) S s = tt
 shaped_even (Grouped from tests k items ags having list) S s = tt
-shaped_even (Values rows) S s = s.1
+shaped_even (Values rows) S s = s.0
 shaped_even (Ordered q keys) S s = shaped_even q S s.0
 
 shaped_even_from : (x : From) (S : List ℕ → ℕ) → ShapedFrom x S → EvenFrom x
@@ -531,7 +533,7 @@ mutual
       (from_plan from S e) s.1 s.2 v
       (from_plan_width from S e (shaped_even_from from S s.0)) (from_fits from S e ws ps s.0 v)))
   query_fits (Values rows) =
-      λ S e ws ps s v. values_fits rows (rows_each rows) s.0 (rows_width rows) s.1 S e ws ps s.2 v
+      λ S e ws ps s v. values_fits rows (rows_each rows) (rows_width rows) refl s.0 S e ws ps s.1 v
   query_fits (Ordered q keys) = λ S e ws ps s v.
       and_true (keys_fit keys (tree_width (plan q S e))) (tree_fits (plan q S e) S ws ps)
       (ap (keys_fit keys) (plan_width q S e (shaped_even q S s.0)) ∙ s.1)

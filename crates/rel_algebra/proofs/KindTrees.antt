@@ -40,7 +40,6 @@ use Rattle.rel_algebra.specs.Tree.{From, Returned, Grouped, In, Inner, LeftOuter
 use Rattle.rel_algebra.specs.Tree.{MoreExprs, MoreLinks, MoreRows, NoExpr, NoLink, NoRow, Operate}
 use Rattle.rel_algebra.specs.Tree.{Or, Ordered, Query, Routine, Rows, Select, Single, Table, Values}
 use Rattle.rel_algebra.specs.Tree.{Variable, count, parameters_of}
-use Rattle.rel_algebra.specs.WellFormed.{HasRow}
 use Rattle.rel_algebra.proofs.Truths.{and_true, both, equal_numbers, left_true, never, right_true}
 use Rattle.rel_algebra.proofs.Counts.{numbered_long, plain_width}
 use Rattle.rel_algebra.proofs.KindNodes.{KindsAgree, KindsRead, PlanIs, TestsGood, Yields}
@@ -88,7 +87,7 @@ typed_even : (q : Query) (T : List ℕ → Kinds) (g : List Kinds) (p : Kinds) �
     Even q
 typed_even (Select items from tests) T g p ty = tt
 typed_even (Grouped from tests k items ags having list) T g p ty = tt
-typed_even (Values rows) T g p ty = ty.1
+typed_even (Values rows) T g p ty = ty.0
 typed_even (Ordered q keys) T g p ty = typed_even q T g p ty
 
 query_long : (q : Query) (T : List ℕ → Kinds) (g : List Kinds) (p : Kinds) → Even q →
@@ -684,14 +683,16 @@ either_is : (b : Bool) (x y : PlanTree) (T : List ℕ → Kinds) (ks : List Kind
 either_is true x y T ks ps r p q = p refl
 either_is false x y T ks ps r p q = q
 
-values_are : (rows : Rows) → RowsKinds rows → HasRow rows → (c : ℕ) → all_even c rows ≡ true →
+values_are : (rows : Rows) → RowsKinds rows → (c : ℕ) → c ≡ rows_width rows →
+    all_even c rows ≡ true →
     (T : List ℕ → Kinds) (g : List Kinds) (p : Kinds) (e : Env) (ks : List Kinds) (ps : Kinds) →
     KindsAgree e ks ps g p → TypedRows rows c T g p →
     PlanIs (values_plan c (emit_rows rows (table_widths T) (lifted e) 0)
     (emit_rows rows (table_widths T) (lifted e) 1)) T ks ps
     (rows_kinds rows c T g p)
-values_are NoRow h r c even T g p e ks ps ag ty = absurd r
-values_are (MoreRows es NoRow) h r c even T g p e ks ps ag ty =
+values_are NoRow h c w even T g p e ks ps ag ty =
+    subst (λ (n : ℕ). PlanIs (several n []) T ks ps (replicate n NullKind)) (sym w) (refl, refl)
+values_are (MoreRows es NoRow) h c w even T g p e ks ps ag ty =
     let i : PlanIs (listed (emit_all es (table_widths T) (lifted e) 0) 0 unit_row) T ks ps
     (exprs_kinds es T g p) =
     listed_is (emit_all es (table_widths T) (lifted e) 0) 0 unit_row T []
@@ -704,7 +705,7 @@ values_are (MoreRows es NoRow) h r c even T g p e ks ps ag ty =
       i.1 ∙ sym (join_nulls (exprs_kinds es T g p) c
           (even_long es c T g p (left_true (nat_eq (count es) c) true even))),
     )
-values_are (MoreRows es (MoreRows fs rows)) h r c even T g p e ks ps ag ty =
+values_are (MoreRows es (MoreRows fs rows)) h c w even T g p e ks ps ag ty =
     let S = table_widths T in let all = MoreRows es (MoreRows fs rows) in
     let first = emit_rows all S (lifted e) 0 in
     either_is (all_plain first) (values (scalars_of first))
@@ -873,8 +874,8 @@ mutual
       (selected_is tests items (each_kinds tests) (each_kinds items) T g p e r ks ps n
       (from_plan from S e) (from_long from T g p ty.0) ag ty.1 ty.2
       ty.3 (from_are from T g p e ks ps ag ty.0)) ty.4)
-  query_are (Values rows) = λ T g p e ks ps ag ty. values_are rows (rows_each rows) ty.0
-      (rows_width rows) ty.1 T g p e ks ps ag ty.2
+  query_are (Values rows) = λ T g p e ks ps ag ty. values_are rows (rows_each rows)
+      (rows_width rows) refl ty.0 T g p e ks ps ag ty.1
   query_are (Ordered q keys) = λ T g p e ks ps ag ty. query_are q T g p e ks ps ag ty
 
   pub rows_each : (rows : Rows) → RowsKinds rows

@@ -28,7 +28,6 @@ use Rattle.rel_algebra.specs.Tree.{Sum, Table, TrueTest, Values, Variable, param
 use Rattle.rel_algebra.specs.OnConditions.{ConditionWord, catch_word, matches_word, class_word}
 use Rattle.rel_algebra.specs.OnConditions.{number_word, item_word, push_word, retext_word}
 use Rattle.rel_algebra.specs.OnConditions.{raise_word}
-use Rattle.rel_algebra.specs.WellFormed.{HasRow}
 
 -- the kind of a value: NULL's, or one of the three data types
 pub data DataKind : Type 0 where
@@ -125,7 +124,8 @@ castable IntegerKind BooleanKind = false
 castable BooleanKind IntegerKind = false
 castable _ _ = true
 
--- operands of the kinds that an operation wants. 6.13, 6.27, 6.28, 6.32, 6.39, 8.2, 8.4 and 8.8
+-- Operands of the kinds that an operation wants. Over another number of them than it takes it gives
+-- NULL, and wants nothing. 6.13, 6.27, 6.28, 6.32, 6.39, 8.2, 8.4 and 8.8
 abbrev pub op_good : Operation → Kinds → Bool
 op_good Negation (a ∷ []) = agree a IntegerKind
 op_good (Arithmetic operator) (a ∷ b ∷ []) =
@@ -143,7 +143,7 @@ op_good NullTest (a ∷ []) = true
 op_good TrueTest (a ∷ []) = agree a BooleanKind
 op_good FalseTest (a ∷ []) = agree a BooleanKind
 op_good AnyOf (x ∷ ks) = all_agree x ks
-op_good _ _ = false
+op_good _ _ = true
 
 -- each is a truth value. 6.39 (boolean value expression)
 abbrev pub tests_good : Kinds → Bool
@@ -569,7 +569,7 @@ abbrev mutual
       (group_kinds k ags (exprs_kinds items T (from_kinds from T g p ∷ g) p) ∷ g) p) ≡ true)
       × TypedAll list T (group_kinds k ags (exprs_kinds items T (from_kinds from T g p ∷ g) p)
       ∷ g) p
-  TypedQuery (Values rows) T g p = HasRow rows × (all_even (rows_width rows) rows ≡ true)
+  TypedQuery (Values rows) T g p = (all_even (rows_width rows) rows ≡ true)
       × TypedRows rows (rows_width rows) T g p
   TypedQuery (Ordered q keys) T g p = TypedQuery q T g p
 

@@ -173,11 +173,12 @@ abbrev mutual
     xs ← ev_args es (drop 1 types) self rows f
     give (x ∷ xs)
 
-  -- the body is run anew, in a frame of its own
+  -- The body is run anew, in a frame of its own. NULL among the arguments of a self-call is judged
+  -- as it is at any other call.
   pub call : Routine → Called
   call (Function calls_itself parameters returns null_call body) =
-      null_or null_call (call_of calls_itself no_self (λ self values w.
-      returned returns (does body (start_of self no_again) (frame_of values) w)))
+      null_or null_call (call_of calls_itself no_self (λ self values w. returned returns
+      (does body (start_of (null_or null_call self) no_again) (frame_of values) w)))
   call (Procedure calls_itself parameters body) = λ values. give Null
 
   -- the same of a procedure, which gives the values of its OUT and INOUT parameters

@@ -126,14 +126,9 @@ abbrev mutual
       (m ∷ ws) ps))
       && (tree_fits inner S (m ∷ ws) ps && nodes_fit rest S (m + kind_width kind) ws ps)
 
--- VALUES has a row. 7.3 (table value constructor)
-abbrev pub HasRow : Rows → Type 0
-HasRow NoRow = ⊥
-HasRow (MoreRows es rows) = Unit {0}
-
 -- what queries keep that are well typed: a scalar or IN subquery has one column, the places of
--- ORDER BY are there, VALUES has a row, and all its rows one length, and the columns that are
--- grouped are the grouping columns and one for each aggregate
+-- ORDER BY are there, all rows of VALUES have one length, and the columns that are grouped are the
+-- grouping columns and one for each aggregate
 abbrev mutual
   -- an expression whose queries have these shapes
   pub Shaped : Expr → (List ℕ → ℕ) → Type 0
@@ -176,8 +171,7 @@ abbrev mutual
   ShapedQuery (Grouped from tests k items ags having list) S =
       ShapedFrom from S × ShapedAll tests S × ShapedAll items S × ShapedAll having S
       × ShapedAll list S × (count items ≡ k + length ags)
-  ShapedQuery (Values rows) S = HasRow rows × (all_even (rows_width rows) rows ≡ true)
-      × ShapedRows rows S
+  ShapedQuery (Values rows) S = (all_even (rows_width rows) rows ≡ true) × ShapedRows rows S
   ShapedQuery (Ordered q keys) S = ShapedQuery q S × (keys_fit keys (query_width q S) ≡ true)
 
   -- the rows of VALUES. 7.3

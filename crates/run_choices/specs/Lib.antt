@@ -3,3 +3,4 @@ pub mod Ending
 pub mod Sight
 pub mod Words
 pub mod Units
+pub mod Forms

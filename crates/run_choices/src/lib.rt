@@ -3,12 +3,14 @@
 //! catalog and no table is known here.
 #![tactic(auto)]
 
+mod raise;
 mod sight;
 mod stop;
 mod subqueries;
 mod units;
 mod values;
 
+pub use raise::Raise;
 pub use sight::{RowsInSight, column, under};
 pub use stop::Stop;
 pub use subqueries::{exists, member, single};

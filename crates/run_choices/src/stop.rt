@@ -2,21 +2,25 @@
 
 ghost use Rattle.std.specs.Prelude.{◌≡◌};
 
+use crate::Raise;
 use atomic_undo::ApplyFault;
-use sql_conditions::{Area, Condition, EngineCondition};
+use sql_conditions::EngineCondition;
 use sql_values::{NoMemory, ValueFault};
 use std::alloc::{AllocError, AllocFailed};
+use std::mem::size_of;
 
 /// Why a run gives nothing.
 #[derive(Debug, Drop)]
 pub enum Stop {
     /// Conditions are raised.
-    Raised(Area),
+    Raised(Raise),
     /// No turn was left.
     Spent,
     /// No memory was there.
     NoMemory,
 }
+
+const _: () = prove!(size_of::<Stop>() <= 24);
 
 impl Stop {
     ghost use Rattle.std.specs.Prelude.{◌≡◌};
@@ -27,7 +31,7 @@ impl Stop {
     pub fn of(condition: EngineCondition) -> Stop
         ensures { result ≡ Raised (area_of condition) }
     {
-        Stop::Raised(Area::of(Condition::of(condition)))
+        Stop::Raised(Raise::of(condition))
     }
 }
 

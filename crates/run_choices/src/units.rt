@@ -11,7 +11,7 @@ pub fn is_taken_back(stop: &Stop) -> bool
     ensures { result ≡ taken_back_by stop.now }
 {
     match stop {
-        Stop::Raised(area) => area.state().is_exception(),
+        Stop::Raised(raise) => raise.state().is_exception(),
         Stop::Spent => false,
         Stop::NoMemory => true,
     }

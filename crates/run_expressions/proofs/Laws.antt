@@ -13,3 +13,4 @@ pub use Rattle.run_expressions.proofs.Cases.{costs-arm}
 pub use Rattle.run_expressions.proofs.Words.{IsCaseOf, is_strict, strict_ends, arms_cost}
 pub use Rattle.run_expressions.proofs.Words.{case_of_stops, case_of_ends}
 pub use Rattle.run_expressions.proofs.Left.{unit_stops}
+pub use Rattle.run_expressions.proofs.Activations.{turn_ends, activation_ends}

@@ -6,3 +6,4 @@ pub mod Cases
 pub mod Words
 pub mod Laws
 pub mod Left
+pub mod Activations

@@ -19,6 +19,14 @@ pub record Content : Type 0 where
 abbrev pub world_of : Content → World
 world_of c = record { tables = c.memory.tables; turns = c.turns; active = c.active }
 
+-- the same with so many turns left
+abbrev pub turned : ℕ → Content → Content
+turned n c = record c { turns = n }
+
+-- the same with so many active routines
+abbrev pub counted : ℕ → Content → Content
+counted n c = record c { active = n }
+
 -- What each run keeps: no mark is lost, and what a roll back to each mark taken before would give
 -- is unchanged; as many routines are active; turns never rise.
 pub record Stays (old new : Content) : Type 0 where

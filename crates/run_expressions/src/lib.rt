@@ -3,17 +3,15 @@
 //! What is decided by values alone is run_choices'. No tree is run here.
 #![tactic(auto)]
 
-mod arguments;
-mod frame;
 mod units;
 mod values;
 mod world;
 
-pub use arguments::Arguments;
-pub use frame::Frame;
 pub use run_choices::{
-    RowsInSight, Stop, assign_at, column, exists, is_false, is_true, member, passes, single, under,
+    Raise, RowsInSight, Stop, assign_at, column, exists, is_false, is_true, member, passes, single,
+    under,
 };
+pub use run_frames::{Arguments, Frame};
 pub use units::leave;
 pub use values::operation_value;
 pub use world::World;

@@ -1,14 +1,21 @@
 //! The world that runs work on.
 
-ghost use Rattle.std.specs.Prelude.{◌≡◌, ◌<◌, ◌≤◌, ℕ, [], length, take};
+ghost use Rattle.std.specs.Prelude.{◌≡◌, ◌<◌, ◌≤◌, ◌-◌, ℕ, suc, [], length, nat_lt, take};
+ghost use Rattle.std.specs.Prelude.{if◌then◌else◌};
 ghost use Rattle.row_types.specs.Tables.{table_at};
 ghost use Rattle.atomic_undo.specs.Applying.{IsFor, IsApplied, KeepsMarks};
-ghost use Rattle.run_expressions.specs.Content.{IsBackAt};
+ghost use Rattle.rel_algebra.specs.World.{most_active, turn};
+ghost use Rattle.run_choices.specs.Ending.{Tells};
+ghost use Rattle.run_expressions.specs.Content.{IsBackAt, counted, turned, world_of};
 
 use atomic_undo::{ApplyFault, Changes, Log, Mark, apply, roll_back};
+use run_choices::Stop;
 use std::alloc::Global;
 use std::marker::Model;
 use table_store::Tables;
+
+// how many routines that call themselves may be active
+const MOST_ACTIVE: u32 = 24;
 
 /// The tables with the log by which their changes are taken back, the turns that are left, and how
 /// many routines that call themselves are active. The log belongs to the tables.
@@ -101,5 +108,46 @@ impl World {
         ensures { IsBackAt mark self.old self.new }
     {
         roll_back(&mut self.tables, &mut self.log, mark);
+    }
+
+    /// Takes one turn. Where none is left it stops, and nothing changes.
+    pub fn take_turn(&mut self) -> Result<(), Stop>
+        ensures answer { Tells (world_of self.new) result (turn (world_of self.old)) }
+        ensures others { self.new ≡ turned (self.old.turns - 1) self.old }
+    {
+        if self.turns == 0 {
+            return Err(Stop::Spent);
+        }
+        self.turns -= 1;
+        Ok(())
+    }
+
+    /// How many routines that call themselves may still start.
+    pub fn room(&self) -> u32
+        ensures { result ≡ most_active - self.now.active }
+    {
+        MOST_ACTIVE.saturating_sub(self.active)
+    }
+
+    /// A routine that calls itself starts. Where as many as may be are active it answers that it
+    /// can't, and nothing changes.
+    pub fn activate(&mut self) -> bool
+        ensures answer { result ≡ nat_lt self.old.active most_active }
+        ensures others { self.new ≡ counted (if result then suc self.old.active
+            else self.old.active) self.old }
+    {
+        if self.active >= MOST_ACTIVE {
+            return false;
+        }
+        self.active += 1;
+        true
+    }
+
+    /// The routine that calls itself and started last has ended.
+    pub fn deactivate(&mut self)
+        requires one { 0 < self.old.active }
+        ensures { self.new ≡ counted (self.old.active - 1) self.old }
+    {
+        self.active -= 1;
     }
 }

@@ -45,9 +45,9 @@ use Rattle.typing_trees.specs.Queries.{exprs_of_row, kinds_of_source, kind_of_li
 use Rattle.typing_trees.specs.Queries.{kinds_of_grouping, kinds_of_select}
 use Rattle.typing_lasting.specs.Lasting.{Objects, around_with, AllSame}
 use Rattle.typing_lasting.proofs.Layers.{ExprLayer, ItemLayer, QueryLayer, RowLayer, SourceLayer}
-use Rattle.typing_lasting.proofs.Layers.{LinkLayer, GroupingLayer, SelectLayer, expr_seen}
-use Rattle.typing_lasting.proofs.Layers.{item_seen, query_seen, row_seen, source_seen, link_seen}
-use Rattle.typing_lasting.proofs.Layers.{grouping_seen, select_seen, kind_of-at, kinds_of_item-at}
+use Rattle.typing_lasting.proofs.Layers.{LinkLayer, GroupingLayer, SelectLayer, expr_kinded}
+use Rattle.typing_lasting.proofs.Layers.{item_kinded, query_kinded, row_kinded, source_kinded, link_kinded}
+use Rattle.typing_lasting.proofs.Layers.{grouping_kinded, select_kinded, kind_of-at, kinds_of_item-at}
 use Rattle.typing_lasting.proofs.Layers.{kinds_of_query-at, exprs_of_row-at, kinds_of_source-at}
 use Rattle.typing_lasting.proofs.Layers.{kind_of_link-at, kinds_of_grouping-at, kinds_of_select-at}
 use Rattle.typing_lasting.proofs.Layers.{expr_uses_seen, item_uses_seen, query_uses_seen}
@@ -275,7 +275,7 @@ module _ (m n : Objects) where
   expr-layer : (y : BoundExpr-F ShownExpr ShownItem ShownQuery ShownRow ShownSource ShownLink
       ShownGrouping ShownSelect) →
       Same (expr_uses (expr_uses_seen (expr_shown y))) →
-      SameKind (expr_kind (expr_seen (expr_shown y)))
+      SameKind (expr_kind (expr_kinded (expr_shown y)))
   expr-layer (BoundExpr-F.Literal v) s a = refl
   expr-layer (BoundExpr-F.Column level place) s a = refl
   expr-layer (BoundExpr-F.Variable slot) s a = refl
@@ -302,7 +302,7 @@ module _ (m n : Objects) where
   item-layer : (y : BoundFromItem-F ShownExpr ShownItem ShownQuery ShownRow ShownSource ShownLink
       ShownGrouping ShownSelect) →
       Same (item_uses (item_uses_seen (item_shown y))) →
-      SameFrom (item_kinds (item_seen (item_shown y)))
+      SameFrom (item_kinds (item_kinded (item_shown y)))
   item-layer (BoundFromItem-F.Comma f) s a so =
       λ i. then (f.1 s a i) (λ ks. Some (past_comma so ks))
   item-layer (BoundFromItem-F.Cross f) s a so =
@@ -323,7 +323,7 @@ module _ (m n : Objects) where
   query-layer : (y : BoundQuery-F ShownExpr ShownItem ShownQuery ShownRow ShownSource ShownLink
       ShownGrouping ShownSelect) →
       Same (query_uses (query_uses_seen (query_shown y))) →
-      SameColumns (query_kinds (query_seen (query_shown y)))
+      SameColumns (query_kinds (query_kinded (query_shown y)))
   query-layer (BoundQuery-F.Select select) s a = select.1 s a
   query-layer (BoundQuery-F.Values rs) s a = rows-same (map exprs_of_row (map (λ x. x.0) rs))
       (each-shown uses_in_row exprs_of_row (Each SameKind) rs s) a
@@ -333,26 +333,26 @@ module _ (m n : Objects) where
   row-layer : (y : BoundRow-F ShownExpr ShownItem ShownQuery ShownRow ShownSource ShownLink
       ShownGrouping ShownSelect) →
       Same (row_uses (row_uses_seen (row_shown y))) →
-      Each SameKind (row_exprs (row_seen (row_shown y)))
+      Each SameKind (row_exprs (row_kinded (row_shown y)))
   row-layer (BoundRow-F.Row es) s = each-shown uses_in kind_of SameKind es s
 
   source-layer : (y : BoundSource-F ShownExpr ShownItem ShownQuery ShownRow ShownSource ShownLink
       ShownGrouping ShownSelect) →
       Same (source_uses (source_uses_seen (source_shown y))) →
-      SameColumns (source_kinds (source_seen (source_shown y)))
+      SameColumns (source_kinds (source_kinded (source_shown y)))
   source-layer (BoundSource-F.Table name) s a = λ i. columns_of_table (s.0.tables i)
   source-layer (BoundSource-F.Derived q) s a = q.1 s a
 
   link-layer : (y : BoundLink-F ShownExpr ShownItem ShownQuery ShownRow ShownSource ShownLink
       ShownGrouping ShownSelect) →
       Same (link_uses (link_uses_seen (link_shown y))) →
-      SameLink (link_kind (link_seen (link_shown y)))
+      SameLink (link_kind (link_kinded (link_shown y)))
   link-layer y s = y.operand.1 s
 
   grouping-layer : (y : BoundGrouping-F ShownExpr ShownItem ShownQuery ShownRow ShownSource
       ShownLink ShownGrouping ShownSelect) →
       Same (grouping_uses (grouping_uses_seen (grouping_shown y))) →
-      SameGroups (group_kinds (grouping_seen (grouping_shown y)))
+      SameGroups (group_kinds (grouping_kinded (grouping_shown y)))
   grouping-layer y s =
       let parts = joined (map uses_in (map (λ x. x.0) y.parts)) in
       let having = joined (map uses_in (map (λ x. x.0) y.having)) in
@@ -393,7 +393,7 @@ module _ (m n : Objects) where
       ShownGrouping ShownSelect =
       record { items = items; from = from; conjuncts = conjuncts; grouping = g } in
       Same (select_uses (select_uses_seen (select_shown y))) →
-      SameColumns (select_kinds (select_seen (select_shown y)))
+      SameColumns (select_kinds (select_kinded (select_shown y)))
   select-made items from conjuncts None s =
       select-parts items conjuncts from [] None s (λ h. tt)
   select-made items from conjuncts (Some g) s =
@@ -402,7 +402,7 @@ module _ (m n : Objects) where
   select-layer : (y : BoundSelect-F ShownExpr ShownItem ShownQuery ShownRow ShownSource ShownLink
       ShownGrouping ShownSelect) →
       Same (select_uses (select_uses_seen (select_shown y))) →
-      SameColumns (select_kinds (select_seen (select_shown y)))
+      SameColumns (select_kinds (select_kinded (select_shown y)))
   select-layer y s = select-made y.items y.from y.conjuncts y.grouping s
 
   -- ---- whole trees

@@ -4,7 +4,7 @@ use Rattle.sql_values.specs.declared.fold.FoldKind.{FoldKind}
 use Rattle.sql_values.specs.declared.operators.Operator.{Operator}
 use Rattle.sql_values.specs.declared.value.Value.{Value}
 use Rattle.row_types.specs.declared.sort_key.SortKey.{SortKey}
-use Rattle.bound_trees.specs.declared.expr.BoundExpr.{BoundExpr, roll-BoundExpr}
+use Rattle.bound_trees.specs.declared.expr.BoundExpr.{BoundExpr}
 use Rattle.bound_trees.specs.declared.expr.BoundExpr.TheVariants as bound
 use Rattle.bound_trees.specs.declared.expr.BoundExpr.TheVariants.{rolls-Literal, rolls-Column}
 use Rattle.bound_trees.specs.declared.expr.BoundExpr.TheVariants.{rolls-Variable, rolls-Operation}
@@ -13,184 +13,44 @@ use Rattle.bound_trees.specs.declared.expr.BoundExpr.TheVariants.{rolls-Single, 
 use Rattle.bound_trees.specs.declared.expr.BoundExpr.TheVariants.{rolls-In}
 use Rattle.bound_trees.specs.declared.expr.BoundExpr.TheOpen.{BoundExpr-F, BoundFromItem-F}
 use Rattle.bound_trees.specs.declared.expr.BoundExpr.TheOpen.{BoundQuery-F, BoundRow-F}
-use Rattle.bound_trees.specs.declared.expr.BoundExpr.TheOpen.{BoundSource-F, BoundLink-F}
-use Rattle.bound_trees.specs.declared.expr.BoundExpr.TheOpen.{BoundGrouping-F, BoundSelect-F}
-use Rattle.bound_trees.specs.declared.expr.BoundExpr.TheFolds.{map-BoundExpr, map-BoundFromItem}
-use Rattle.bound_trees.specs.declared.expr.BoundExpr.TheFolds.{map-BoundQuery, map-BoundRow}
-use Rattle.bound_trees.specs.declared.expr.BoundExpr.TheFolds.{map-BoundSource, map-BoundLink}
-use Rattle.bound_trees.specs.declared.expr.BoundExpr.TheFolds.{map-BoundGrouping, map-BoundSelect}
-use Rattle.bound_trees.specs.declared.expr.BoundExpr.TheFolds.{fold-roll-BoundExpr}
-use Rattle.bound_trees.specs.declared.expr.BoundExpr.TheFolds.{fold-roll-BoundFromItem}
-use Rattle.bound_trees.specs.declared.expr.BoundExpr.TheFolds.{fold-roll-BoundQuery}
-use Rattle.bound_trees.specs.declared.expr.BoundExpr.TheFolds.{fold-roll-BoundRow}
-use Rattle.bound_trees.specs.declared.expr.BoundExpr.TheFolds.{fold-roll-BoundSource}
-use Rattle.bound_trees.specs.declared.expr.BoundExpr.TheFolds.{fold-roll-BoundLink}
-use Rattle.bound_trees.specs.declared.expr.BoundExpr.TheFolds.{fold-roll-BoundGrouping}
-use Rattle.bound_trees.specs.declared.expr.BoundExpr.TheFolds.{fold-roll-BoundSelect}
+use Rattle.bound_trees.specs.declared.expr.BoundExpr.TheOpen.{BoundSource-F}
 use Rattle.bound_trees.specs.declared.expr.BoundLink.{BoundLink, roll-BoundLink}
 use Rattle.bound_trees.specs.declared.expr.BoundOperation.{BoundOperation}
-use Rattle.bound_trees.specs.declared.query.BoundFromItem.{BoundFromItem, roll-BoundFromItem}
+use Rattle.bound_trees.specs.declared.query.BoundFromItem.{BoundFromItem}
 use Rattle.bound_trees.specs.declared.query.BoundFromItem.TheVariants as item
 use Rattle.bound_trees.specs.declared.query.BoundFromItem.TheVariants.{rolls-Comma, rolls-Cross}
 use Rattle.bound_trees.specs.declared.query.BoundFromItem.TheVariants.{rolls-Inner, rolls-Left}
 use Rattle.bound_trees.specs.declared.query.BoundGrouping.{BoundGrouping, roll-BoundGrouping}
-use Rattle.bound_trees.specs.declared.query.BoundQuery.{BoundQuery, roll-BoundQuery}
+use Rattle.bound_trees.specs.declared.query.BoundQuery.{BoundQuery}
 use Rattle.bound_trees.specs.declared.query.BoundQuery.TheVariants as query
 use Rattle.bound_trees.specs.declared.query.BoundQuery.TheVariants.{rolls-Select, rolls-Values}
 use Rattle.bound_trees.specs.declared.query.BoundQuery.TheVariants.{rolls-Ordered}
-use Rattle.bound_trees.specs.declared.query.BoundRow.{BoundRow, roll-BoundRow}
+use Rattle.bound_trees.specs.declared.query.BoundRow.{BoundRow}
 use Rattle.bound_trees.specs.declared.query.BoundRow.TheVariants as row
 use Rattle.bound_trees.specs.declared.query.BoundRow.TheVariants.{rolls-Row}
 use Rattle.bound_trees.specs.declared.query.BoundSelect.{BoundSelect, roll-BoundSelect}
-use Rattle.bound_trees.specs.declared.query.BoundSource.{BoundSource, roll-BoundSource}
+use Rattle.bound_trees.specs.declared.query.BoundSource.{BoundSource}
 use Rattle.bound_trees.specs.declared.query.BoundSource.TheVariants as source
 use Rattle.bound_trees.specs.declared.query.BoundSource.TheVariants.{rolls-Table, rolls-Derived}
 use Rattle.bind_kinds.specs.declared.kind.Kind.TheVariants.{Boolean}
 use Rattle.bind_kinds.specs.Kinds.{fits}
 use Rattle.typing_trees.specs.Kinds.{kind_of_value, allows, gives}
 use Rattle.typing_trees.specs.Around.{Around, then, only_if, kind_at, kind_in_slot}
-use Rattle.typing_trees.specs.Queries.{ExprKind, QueryKinds, FromRow, FromKinds, LinkKind}
+use Rattle.typing_trees.specs.Queries.{ExprKind, QueryKinds, FromRow, FromKinds}
 use Rattle.typing_trees.specs.Queries.{GroupKinds, kinds_of, chain_kind, only_column, call_kind}
 use Rattle.typing_trees.specs.Queries.{kinds_of_rows, columns_of_table, nothing_joined, past_comma}
 use Rattle.typing_trees.specs.Queries.{joined_with, whole_row, joined_on, items_joined, selected}
 use Rattle.typing_trees.specs.Queries.{keys_within}
-use Rattle.typing_trees.specs.Queries.{expr_kind, item_kinds, query_kinds, row_exprs, source_kinds}
-use Rattle.typing_trees.specs.Queries.{link_kind, group_kinds, select_kinds, kind_of, kinds_of_item}
+use Rattle.typing_trees.specs.Queries.{kind_of, kinds_of_item}
 use Rattle.typing_trees.specs.Queries.{kinds_of_query, exprs_of_row, kinds_of_source, kind_of_link}
 use Rattle.typing_trees.specs.Queries.{kinds_of_grouping, kinds_of_select}
-
-abbrev pub ExprLayer : Type 0
-ExprLayer = BoundExpr-F BoundExpr BoundFromItem BoundQuery BoundRow BoundSource BoundLink
-    BoundGrouping BoundSelect
-
-abbrev pub ItemLayer : Type 0
-ItemLayer = BoundFromItem-F BoundExpr BoundFromItem BoundQuery BoundRow BoundSource BoundLink
-    BoundGrouping BoundSelect
-
-abbrev pub QueryLayer : Type 0
-QueryLayer = BoundQuery-F BoundExpr BoundFromItem BoundQuery BoundRow BoundSource BoundLink
-    BoundGrouping BoundSelect
-
-abbrev pub RowLayer : Type 0
-RowLayer = BoundRow-F BoundExpr BoundFromItem BoundQuery BoundRow BoundSource BoundLink
-    BoundGrouping BoundSelect
-
-abbrev pub SourceLayer : Type 0
-SourceLayer = BoundSource-F BoundExpr BoundFromItem BoundQuery BoundRow BoundSource BoundLink
-    BoundGrouping BoundSelect
-
-abbrev pub LinkLayer : Type 0
-LinkLayer = BoundLink-F BoundExpr BoundFromItem BoundQuery BoundRow BoundSource BoundLink
-    BoundGrouping BoundSelect
-
-abbrev pub GroupingLayer : Type 0
-GroupingLayer = BoundGrouping-F BoundExpr BoundFromItem BoundQuery BoundRow BoundSource BoundLink
-    BoundGrouping BoundSelect
-
-abbrev pub SelectLayer : Type 0
-SelectLayer = BoundSelect-F BoundExpr BoundFromItem BoundQuery BoundRow BoundSource BoundLink
-    BoundGrouping BoundSelect
-
-abbrev pub expr_seen : ExprLayer → BoundExpr-F ExprKind FromKinds QueryKinds
-    (List ExprKind) QueryKinds LinkKind GroupKinds QueryKinds
-expr_seen x = map-BoundExpr BoundExpr BoundFromItem BoundQuery BoundRow BoundSource BoundLink
-    BoundGrouping BoundSelect ExprKind FromKinds QueryKinds (List ExprKind) QueryKinds LinkKind
-    GroupKinds QueryKinds kind_of kinds_of_item kinds_of_query exprs_of_row kinds_of_source
-    kind_of_link kinds_of_grouping kinds_of_select x
-
-pub kind_of-at : (x : ExprLayer) → kind_of (roll-BoundExpr x) ≡ expr_kind (expr_seen x)
-kind_of-at x = fold-roll-BoundExpr ExprKind FromKinds QueryKinds (List ExprKind) QueryKinds LinkKind
-    GroupKinds QueryKinds expr_kind item_kinds query_kinds row_exprs source_kinds link_kind
-    group_kinds select_kinds x
-
-abbrev pub item_seen : ItemLayer → BoundFromItem-F ExprKind FromKinds QueryKinds
-    (List ExprKind) QueryKinds LinkKind GroupKinds QueryKinds
-item_seen x = map-BoundFromItem BoundExpr BoundFromItem BoundQuery BoundRow BoundSource BoundLink
-    BoundGrouping BoundSelect ExprKind FromKinds QueryKinds (List ExprKind) QueryKinds LinkKind
-    GroupKinds QueryKinds kind_of kinds_of_item kinds_of_query exprs_of_row kinds_of_source
-    kind_of_link kinds_of_grouping kinds_of_select x
-
-pub kinds_of_item-at : (x : ItemLayer) → kinds_of_item (roll-BoundFromItem x) ≡ item_kinds
-    (item_seen x)
-kinds_of_item-at x = fold-roll-BoundFromItem ExprKind FromKinds QueryKinds
-    (List ExprKind) QueryKinds LinkKind GroupKinds QueryKinds expr_kind item_kinds query_kinds
-    row_exprs source_kinds link_kind group_kinds select_kinds x
-
-abbrev pub query_seen : QueryLayer → BoundQuery-F ExprKind FromKinds QueryKinds
-    (List ExprKind) QueryKinds LinkKind GroupKinds QueryKinds
-query_seen x = map-BoundQuery BoundExpr BoundFromItem BoundQuery BoundRow BoundSource BoundLink
-    BoundGrouping BoundSelect ExprKind FromKinds QueryKinds (List ExprKind) QueryKinds LinkKind
-    GroupKinds QueryKinds kind_of kinds_of_item kinds_of_query exprs_of_row kinds_of_source
-    kind_of_link kinds_of_grouping kinds_of_select x
-
-pub kinds_of_query-at : (x : QueryLayer) → kinds_of_query (roll-BoundQuery x) ≡ query_kinds
-    (query_seen x)
-kinds_of_query-at x = fold-roll-BoundQuery ExprKind FromKinds QueryKinds (List ExprKind) QueryKinds
-    LinkKind GroupKinds QueryKinds expr_kind item_kinds query_kinds row_exprs source_kinds link_kind
-    group_kinds select_kinds x
-
-abbrev pub row_seen : RowLayer → BoundRow-F ExprKind FromKinds QueryKinds (List ExprKind) QueryKinds
-    LinkKind GroupKinds QueryKinds
-row_seen x = map-BoundRow BoundExpr BoundFromItem BoundQuery BoundRow BoundSource BoundLink
-    BoundGrouping BoundSelect ExprKind FromKinds QueryKinds (List ExprKind) QueryKinds LinkKind
-    GroupKinds QueryKinds kind_of kinds_of_item kinds_of_query exprs_of_row kinds_of_source
-    kind_of_link kinds_of_grouping kinds_of_select x
-
-pub exprs_of_row-at : (x : RowLayer) → exprs_of_row (roll-BoundRow x) ≡ row_exprs (row_seen x)
-exprs_of_row-at x = fold-roll-BoundRow ExprKind FromKinds QueryKinds (List ExprKind) QueryKinds
-    LinkKind GroupKinds QueryKinds expr_kind item_kinds query_kinds row_exprs source_kinds link_kind
-    group_kinds select_kinds x
-
-abbrev pub source_seen : SourceLayer → BoundSource-F ExprKind FromKinds QueryKinds
-    (List ExprKind) QueryKinds LinkKind GroupKinds QueryKinds
-source_seen x = map-BoundSource BoundExpr BoundFromItem BoundQuery BoundRow BoundSource BoundLink
-    BoundGrouping BoundSelect ExprKind FromKinds QueryKinds (List ExprKind) QueryKinds LinkKind
-    GroupKinds QueryKinds kind_of kinds_of_item kinds_of_query exprs_of_row kinds_of_source
-    kind_of_link kinds_of_grouping kinds_of_select x
-
-pub kinds_of_source-at : (x : SourceLayer) → kinds_of_source (roll-BoundSource x) ≡ source_kinds
-    (source_seen x)
-kinds_of_source-at x = fold-roll-BoundSource ExprKind FromKinds QueryKinds
-    (List ExprKind) QueryKinds LinkKind GroupKinds QueryKinds expr_kind item_kinds query_kinds
-    row_exprs source_kinds link_kind group_kinds select_kinds x
-
-abbrev pub link_seen : LinkLayer → BoundLink-F ExprKind FromKinds QueryKinds
-    (List ExprKind) QueryKinds LinkKind GroupKinds QueryKinds
-link_seen x = map-BoundLink BoundExpr BoundFromItem BoundQuery BoundRow BoundSource BoundLink
-    BoundGrouping BoundSelect ExprKind FromKinds QueryKinds (List ExprKind) QueryKinds LinkKind
-    GroupKinds QueryKinds kind_of kinds_of_item kinds_of_query exprs_of_row kinds_of_source
-    kind_of_link kinds_of_grouping kinds_of_select x
-
-pub kind_of_link-at : (x : LinkLayer) → kind_of_link (roll-BoundLink x) ≡ link_kind (link_seen x)
-kind_of_link-at x = fold-roll-BoundLink ExprKind FromKinds QueryKinds (List ExprKind) QueryKinds
-    LinkKind GroupKinds QueryKinds expr_kind item_kinds query_kinds row_exprs source_kinds link_kind
-    group_kinds select_kinds x
-
-abbrev pub grouping_seen : GroupingLayer → BoundGrouping-F ExprKind FromKinds QueryKinds
-    (List ExprKind) QueryKinds LinkKind GroupKinds QueryKinds
-grouping_seen x = map-BoundGrouping BoundExpr BoundFromItem BoundQuery BoundRow BoundSource
-    BoundLink BoundGrouping BoundSelect ExprKind FromKinds QueryKinds (List ExprKind) QueryKinds
-    LinkKind GroupKinds QueryKinds kind_of kinds_of_item kinds_of_query exprs_of_row kinds_of_source
-    kind_of_link kinds_of_grouping kinds_of_select x
-
-pub kinds_of_grouping-at : (x : GroupingLayer) →
-    kinds_of_grouping (roll-BoundGrouping x) ≡ group_kinds (grouping_seen x)
-kinds_of_grouping-at x = fold-roll-BoundGrouping ExprKind FromKinds QueryKinds
-    (List ExprKind) QueryKinds LinkKind GroupKinds QueryKinds expr_kind item_kinds query_kinds
-    row_exprs source_kinds link_kind group_kinds select_kinds x
-
-abbrev pub select_seen : SelectLayer → BoundSelect-F ExprKind FromKinds QueryKinds
-    (List ExprKind) QueryKinds LinkKind GroupKinds QueryKinds
-select_seen x = map-BoundSelect BoundExpr BoundFromItem BoundQuery BoundRow BoundSource BoundLink
-    BoundGrouping BoundSelect ExprKind FromKinds QueryKinds (List ExprKind) QueryKinds LinkKind
-    GroupKinds QueryKinds kind_of kinds_of_item kinds_of_query exprs_of_row kinds_of_source
-    kind_of_link kinds_of_grouping kinds_of_select x
-
-pub kinds_of_select-at : (x : SelectLayer) → kinds_of_select (roll-BoundSelect x) ≡ select_kinds
-    (select_seen x)
-kinds_of_select-at x = fold-roll-BoundSelect ExprKind FromKinds QueryKinds
-    (List ExprKind) QueryKinds LinkKind GroupKinds QueryKinds expr_kind item_kinds query_kinds
-    row_exprs source_kinds link_kind group_kinds select_kinds x
+pub use Rattle.typing_trees.proofs.Laws.{ExprLayer, ItemLayer, QueryLayer, RowLayer, SourceLayer}
+pub use Rattle.typing_trees.proofs.Laws.{LinkLayer, GroupingLayer, SelectLayer}
+pub use Rattle.typing_trees.proofs.Laws.{expr_kinded, item_kinded, query_kinded, row_kinded}
+pub use Rattle.typing_trees.proofs.Laws.{source_kinded, link_kinded, grouping_kinded, select_kinded}
+pub use Rattle.typing_trees.proofs.Laws.{kind_of-at, kinds_of_item-at, kinds_of_query-at}
+pub use Rattle.typing_trees.proofs.Laws.{exprs_of_row-at, kinds_of_source-at, kind_of_link-at}
+pub use Rattle.typing_trees.proofs.Laws.{kinds_of_grouping-at, kinds_of_select-at}
 
 -- ---- expressions
 

@@ -15,10 +15,7 @@ use Rattle.bound_trees.specs.declared.statement.BoundBlock.{BoundBlock, roll-Bou
 use Rattle.bound_trees.specs.declared.statement.BoundBranch.{BoundBranch, roll-BoundBranch}
 use Rattle.bound_trees.specs.declared.statement.BoundCall.{BoundCall}
 use Rattle.bound_trees.specs.declared.statement.BoundHandler.{BoundHandler, roll-BoundHandler}
-use Rattle.bound_trees.specs.declared.statement.BoundStmt.{BoundStmt, roll-BoundStmt}
-use Rattle.bound_trees.specs.declared.statement.BoundStmt.TheFolds.{map-BoundStmt, map-BoundBlock}
-use Rattle.bound_trees.specs.declared.statement.BoundStmt.TheFolds.{fold-roll-BoundStmt}
-use Rattle.bound_trees.specs.declared.statement.BoundStmt.TheFolds.{fold-roll-BoundBlock}
+use Rattle.bound_trees.specs.declared.statement.BoundStmt.{BoundStmt}
 use Rattle.bound_trees.specs.declared.statement.BoundStmt.TheFolds.{fold-roll-BoundBranch}
 use Rattle.bound_trees.specs.declared.statement.BoundStmt.TheFolds.{fold-roll-BoundHandler}
 use Rattle.bound_trees.specs.declared.statement.BoundStmt.TheOpen.{BoundStmt-F, BoundBlock-F}
@@ -46,28 +43,7 @@ use Rattle.typing_trees.specs.Statements.{information_typed, all_typed, branches
 use Rattle.typing_trees.specs.Statements.{for_typed, may_leave, may_iterate, return_typed, undoes}
 use Rattle.typing_trees.specs.Statements.{stmt_typed, block_typed, branch_parts, handler_parts}
 use Rattle.typing_trees.specs.Statements.{is_typed, block_is_typed, branch_of, handler_of}
-
-abbrev StmtLayer : Type 0
-StmtLayer = BoundStmt-F BoundStmt BoundBlock BoundBranch BoundHandler
-
-abbrev BlockLayer : Type 0
-BlockLayer = BoundBlock-F BoundStmt BoundBlock BoundBranch BoundHandler
-
-abbrev stmt_seen : StmtLayer → BoundStmt-F Typed Typed TypedBranch TypedHandler
-stmt_seen x = map-BoundStmt BoundStmt BoundBlock BoundBranch BoundHandler Typed Typed TypedBranch
-    TypedHandler is_typed block_is_typed branch_of handler_of x
-
-is_typed-at : (x : StmtLayer) → is_typed (roll-BoundStmt x) ≡ stmt_typed (stmt_seen x)
-is_typed-at x = fold-roll-BoundStmt Typed Typed TypedBranch TypedHandler stmt_typed block_typed
-    branch_parts handler_parts x
-
-abbrev block_seen : BlockLayer → BoundBlock-F Typed Typed TypedBranch TypedHandler
-block_seen x = map-BoundBlock BoundStmt BoundBlock BoundBranch BoundHandler Typed Typed TypedBranch
-    TypedHandler is_typed block_is_typed branch_of handler_of x
-
-block-at : (x : BlockLayer) → block_is_typed (roll-BoundBlock x) ≡ block_typed (block_seen x)
-block-at x = fold-roll-BoundBlock Typed Typed TypedBranch TypedHandler stmt_typed block_typed
-    branch_parts handler_parts x
+use Rattle.typing_trees.proofs.Laws.{is_typed-at, block_is_typed-at}
 
 abbrev pub seen_block : Bool → List BoundVariables → ℕ → List BoundQuery → List BoundHandler →
     List BoundStmt → BoundBlock-F Typed Typed TypedBranch TypedHandler
@@ -97,7 +73,7 @@ pub block-layer : (atomic : Bool) (variables : List BoundVariables) (first_curso
     ≡ block_typed (seen_block atomic variables first_cursor cursors handlers statements) i
 block-layer atomic variables first_cursor cursors handlers statements i =
     ap (λ (f : Typed). f i)
-    (block-at (record {
+    (block_is_typed-at (record {
       atomic = atomic;
       variables = variables;
       first_cursor = first_cursor;

@@ -1,6 +1,6 @@
 //! Types of bound trees: when an expression, a query and a statement are well typed.
 #![tactic(auto)]
 
-mod laws;
+mod law;
 
-pub use laws::{expressions_have_kinds, queries_have_kinds, statements_are_typed};
+pub use law::{expressions_have_kinds, queries_have_kinds, statements_are_typed};

@@ -24,8 +24,7 @@ returns c = record {
       (call (codes "G") 10 (name (codes "X") 12 ∷ [])));
   body_that_is_a_block = ap (λ (x : Noted BoundStatement). x.value.runs)
       (body-block-row (returning (codes "X") ∷ []));
-  with_a_characteristic = ap (λ (x : Noted BoundStatement). x.value.runs)
-      (characteristic-row deterministic [] (returning (codes "X")));
+  with_a_characteristic = characteristic-row deterministic [] (returning (codes "X"));
   of_a_procedure = procedure-row (delete (codes "T") None);
   of_call = ap (λ (x : Noted BoundStatement). x.value.runs) (call-row 0);
   of_a_block = ap (λ (x : Noted BoundStatement). x.value.runs)

@@ -5,11 +5,13 @@ use Rattle.row_types.specs.Cells.{value_rows}
 use Rattle.row_types.specs.Rows.{Row}
 use Rattle.table_store.specs.Memory.{Memory, AllWellKept}
 use Rattle.bound_trees.specs.declared.query.BoundQuery.{BoundQuery}
+use Rattle.sql_conditions.specs.Conditions.{Area}
 use Rattle.rel_algebra.specs.World.{Ends, no_self, no_frame}
 use Rattle.rel_algebra.specs.Meaning.{answer}
 use Rattle.catalog_store.specs.Catalog.{Catalog}
 use Rattle.catalog_store.specs.View.{query_of}
 use Rattle.plan_exec.specs.declared.collecting.Answer.{Answer}
+use Rattle.plan_exec.specs.declared.collecting.Answer.TheVariants.{Raised}
 use Rattle.run_expressions.specs.Content.{Content, world_of}
 use Rattle.psm_effects.specs.Answering.{ends_with}
 use Rattle.psm_effects.specs.Tasks.{rows_query, made}
@@ -45,11 +47,13 @@ returns-in-Rows g c =
     ∙ ap (λ (a : Answer). ends_with a (world_of w)) c.in-Rows.is)
     c.make_of.ensures
 
-pub returns-in-Raised : goal.returns-in-Raised
-returns-in-Raised g c =
+pub returns-in_ok-held-in-Raised : goal.returns-in_ok-held-in-Raised
+returns-in_ok-held-in-Raised g c =
     let w = c.args.world.now in
     raised_ends (made c.args.change) (query_of c.args.catalog.now (rows_query c.args.change))
-    c.in-Raised.area w
+    c.in_ok-held-in-Raised.field-0 w
     (ap (ended c.args.catalog.now w) (sym c.query.ensures) ∙ c.in_ok-rows.ensures.ends (world_of w)
     (sym (ap (λ (m : Memory). m.tables) c.tables-2.ensures))
-    ∙ ap (λ (a : Answer). ends_with a (world_of w)) c.in-Raised.is)
+    ∙ ap (λ (a : Answer). ends_with a (world_of w)) c.in-Raised.is
+    ∙ ap (λ (area : Area). ends_with (Raised area) (world_of w))
+    (sym c.in_ok-held-in-Raised.ensures))

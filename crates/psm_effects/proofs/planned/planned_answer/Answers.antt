@@ -11,7 +11,7 @@ returns-clause-ends g c =
     let known = c.args.catalog.now in
     let q = query_of known c.args.query.now in
     if_ok c.run_plan.result
-    (λ a ends. ends q (width_in known) c.in_ok-prepared.ensures
+    (λ a ends. ends q (width_in known) c.in_ok-prepared.ensures.plan
     (lasts_here (database known c.args.tables.now) q c.requires.whole
     c.len-entries.ensures.names))
     c.run_plan.ensures.ends

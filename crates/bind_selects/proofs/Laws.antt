@@ -1,0 +1,2 @@
+-- The laws on which upper crates stand.
+pub use Rattle.bind_selects.proofs.Typed.{whole-typed}

@@ -1,0 +1,4 @@
+pub mod Means
+pub mod Seen
+pub mod Typed
+pub mod Laws

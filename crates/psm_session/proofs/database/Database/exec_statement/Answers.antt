@@ -1,0 +1,19 @@
+-- The tables stay those of the catalog, and bodies stay well typed.
+use Rattle.psm_effects.specs.Conclusions.{database}
+use Rattle.psm_session.specs.Effects.{effect}
+use Rattle.psm_session.proofs.Made.{effect-typed, left-typed, makes-typed}
+use Rattle.psm_session.proofs.database.Database.exec_statement.Goals as goal
+
+pub invariant_of-self : goal.invariant_of-self
+invariant_of-self c =
+    let old = database c.self.inside.catalog c.self.inside.tables in
+    let b = c.in-Ok.found in
+    let found = c.in-Ok.ensures in
+    let makes = makes-typed c.args.stmt.now c.self.inside.catalog b found.binds found.fits
+    found.typed in (
+      c.run_bound.ensures.whole,
+      left-typed c.run_bound.result (effect c.args.budget b.bound old) old
+          (database c.run_bound.new.catalog c.run_bound.new.tables)
+          c.run_bound.ensures.ok c.run_bound.ensures.err c.self.invariant.1
+          (effect-typed c.args.budget b.bound b.runs old found.fits makes c.self.invariant.1),
+    )

@@ -1,0 +1,3 @@
+pub mod Outcomes
+pub mod Scopes
+pub mod Examples

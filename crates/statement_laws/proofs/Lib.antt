@@ -1,0 +1,10 @@
+pub mod Values
+pub mod Raising
+pub mod InTurn
+pub mod Loops
+pub mod Declarations
+pub mod Passing
+pub mod Compounds
+pub mod Calls
+pub mod Examples
+pub mod Laws

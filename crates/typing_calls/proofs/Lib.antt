@@ -1,0 +1,5 @@
+pub mod Expressions
+pub mod Statements
+pub mod Bodies
+pub mod Worked
+pub mod Laws

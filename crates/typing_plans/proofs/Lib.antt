@@ -1,0 +1,15 @@
+pub mod Parts
+pub mod Shapes
+pub mod Froms
+pub mod Layers
+pub mod Lower
+pub mod Words
+pub mod Columns
+pub mod Kinded
+pub mod KindedFroms
+pub mod KindedInduction
+pub mod Induction
+pub mod Bodies
+pub mod KindedBodies
+pub mod Laws
+pub mod Worked

@@ -1,0 +1,4 @@
+pub mod Shaping
+pub mod Bodies
+pub mod Examples
+pub mod Kinding

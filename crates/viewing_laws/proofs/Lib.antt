@@ -1,0 +1,10 @@
+pub mod Layers
+pub mod Expressions
+pub mod Statements
+pub mod Deciding
+pub mod Standing
+pub mod Heads
+pub mod PlannedTrees
+pub mod Planned
+pub mod Worked
+pub mod Laws

@@ -1,0 +1,5 @@
+pub mod Calls
+pub mod Deciding
+pub mod Standing
+pub mod Planned
+pub mod Examples
