@@ -19,6 +19,7 @@ class Sqlite:
     after commas."""
 
     name = "sqlite3"
+    has_routines = False
 
     def __enter__(self):
         if shutil.which("sqlite3") is None:
@@ -37,6 +38,7 @@ class PostgreSQL:
     """A PostgreSQL server of its own, in a folder that goes when it is done. Tables are temporary."""
 
     name = "PostgreSQL"
+    has_routines = True
 
     def __enter__(self):
         found = sorted(glob.glob("/usr/lib/postgresql/*/bin"))

@@ -1,5 +1,6 @@
 -- Direct SQL statements that hold no statement of a routine: the bound statement that each stands
--- for, the name faults in it, and whether it is run. ISO/IEC 9075-2, 22.1 (direct SQL statement),
+-- for, the name faults in it, and whether plans answer it. ISO/IEC 9075-2, 22.1 (direct SQL
+-- statement),
 -- 11.3 (table definition), 11.31 and 11.62 (drop statements), 14.9, 14.11 and 14.14 (changes) and
 -- 15.1 (call statement).
 use Rattle.std.specs.Prelude.{Bool, true, false, ◌&&◌, [], None, is_some}
@@ -29,49 +30,50 @@ use Rattle.bind_direct.specs.declared.bound.Bound.{Bound}
 use Rattle.bind_direct.specs.declared.bound.BoundStatement.{BoundStatement}
 use Rattle.bind_direct.specs.declared.bound.Bound.TheVariants as bound
 
--- ---- whether a statement is run
+-- ---- whether plans answer a statement
 
--- a bound statement, and whether it is run
-abbrev pub with_runs : Bool → Bound → BoundStatement
-with_runs runs b = record { bound = b; runs = runs }
+-- a bound statement, and whether plans answer it
+abbrev pub with_plans : Bool → Bound → BoundStatement
+with_plans by_plan b = record { bound = b; by_plan = by_plan }
 
--- a statement that is run
-abbrev pub run : {A : Type 0} → (A → Bound) → Noted A → Noted BoundStatement
-run make x = as_value (λ a. with_runs true (make a)) x
+-- a statement that asks nothing of a plan
+abbrev pub asking_nothing : {A : Type 0} → (A → Bound) → Noted A → Noted BoundStatement
+asking_nothing make x = as_value (λ a. with_plans true (make a)) x
 
--- a statement that is bound alone
-abbrev pub not_run : {A : Type 0} → (A → Bound) → Noted A → Noted BoundStatement
-not_run make x = as_value (λ a. with_runs false (make a)) x
+-- a statement that no plan answers
+abbrev pub not_planned : {A : Type 0} → (A → Bound) → Noted A → Noted BoundStatement
+not_planned make x = as_value (λ a. with_plans false (make a)) x
 
--- a query or a change is run where all functions that it calls have plans
+-- a plan answers a query or a change where all functions that it calls have plans
 abbrev pub runs_over : {A : Type 0} → Catalog → Noted A → Bool
 runs_over catalog x = all_run catalog x.uses
 
--- a statement that is run where all functions that it calls have plans
+-- a statement that a plan answers where all functions that it calls have plans
 abbrev pub run_over : {A : Type 0} → Catalog → (A → Bound) → Noted A → Noted BoundStatement
 run_over catalog make x = record {
-  value = with_runs (runs_over catalog x) (make x.value);
+  value = with_plans (runs_over catalog x) (make x.value);
   faults =
       x.faults;
   uses = x.uses;
 }
 
 -- a table, or a function with a plan
-abbrev pub is_run : NewObject → Bool
-is_run (new.Table t) = true
-is_run (new.Function r) = true
-is_run (new.Interpreted f) = false
-is_run (new.Procedure p) = false
+abbrev pub is_planned : NewObject → Bool
+is_planned (new.Table t) = true
+is_planned (new.Function r) = true
+is_planned (new.Interpreted f) = false
+is_planned (new.Procedure p) = false
 
 -- ---- definitions
 
 -- a new table or procedure, under its name
 abbrev pub created : Ident → NewObject → BoundStatement
-created i o = with_runs (is_run o) (bound.Create i.name o)
+created i o = with_plans (is_planned o) (bound.Create i.name o)
 
--- a new function: one with a plan is made by what is run where it is of the form that is run
+-- a new function, and whether it only returns a value and has a plan
 abbrev pub created_function : Definition → NewObject → BoundStatement
-created_function s o = with_runs (is_some (result_of s) && is_run o) (bound.Create s.name.name o)
+created_function s o = with_plans (is_some (result_of s) && is_planned o)
+    (bound.Create s.name.name o)
 
 -- a direct CREATE TABLE
 abbrev pub direct_table : CreateTable → Catalog → Noted BoundStatement
@@ -79,7 +81,7 @@ direct_table s catalog = as_value (created s.name) (judged_table s catalog)
 
 -- a direct DROP
 abbrev pub direct_drop : DropObject → Catalog → Noted BoundStatement
-direct_drop s catalog = run (λ name. bound.Drop name) (judged_drop s catalog)
+direct_drop s catalog = asking_nothing (λ name. bound.Drop name) (judged_drop s catalog)
 
 -- ---- queries and changes
 
@@ -89,7 +91,7 @@ direct_query q catalog = run_over catalog (λ b. bound.Query b) (judge_ordered q
 
 -- EXPLAIN, which is bound alone
 abbrev pub explained : OrderedQuery → Catalog → Noted BoundStatement
-explained q catalog = not_run (λ b. bound.Explain b) (judge_ordered q (at_top catalog))
+explained q catalog = not_planned (λ b. bound.Explain b) (judge_ordered q (at_top catalog))
 
 -- a direct INSERT
 abbrev pub direct_insert : Insert → Catalog → Noted BoundStatement
@@ -117,7 +119,7 @@ at_script catalog = record {
   catalog = catalog;
 }
 
--- a direct CALL, which is bound alone
+-- a direct CALL
 abbrev pub direct_call : Call → Catalog → Noted BoundStatement
-direct_call s catalog = not_run (λ b. bound.Routine (stmt.Call b))
+direct_call s catalog = not_planned (λ b. bound.Routine (stmt.Call b))
     (judged_call true s (at_script catalog))

@@ -24,10 +24,10 @@ pub enum Bound {
     Routine(BoundStmt),
 }
 
-/// A statement with its names resolved, and whether it is run: a form that is not run is bound
-/// alone.
+/// A statement with its names resolved, and whether all that it asks is answered by plans: no CALL,
+/// no compound statement and no EXPLAIN is, nor what calls a function without a plan.
 #[derive(Drop)]
 pub struct BoundStatement {
     pub bound: Bound,
-    pub runs: bool,
+    pub by_plan: bool,
 }

@@ -13,7 +13,7 @@ use sql_values::NoMemory;
 use statement_trees::Call;
 use std::alloc::Global;
 
-/// A direct CALL, which is bound alone.
+/// A direct CALL, which has no plan.
 pub fn bind_direct_call(
     alloc: Global,
     call: &Call,
@@ -37,6 +37,6 @@ pub fn bind_direct_call(
     *least = notes.least;
     Ok(BoundStatement {
         bound: Bound::Routine(BoundStmt::Call(call)),
-        runs: false,
+        by_plan: false,
     })
 }

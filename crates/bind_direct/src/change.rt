@@ -35,10 +35,10 @@ pub fn bind_direct_insert(
     let mut notes = Notes::after(alloc, *least);
     let change = bind_insert(alloc, insert, &sight, &mut notes)?;
     *least = notes.least;
-    let runs = all_run(notes.uses.as_slice(), catalog);
+    let by_plan = all_run(notes.uses.as_slice(), catalog);
     Ok(BoundStatement {
         bound: Bound::Insert(change.insert, change.listed),
-        runs,
+        by_plan,
     })
 }
 
@@ -63,10 +63,10 @@ pub fn bind_direct_update(
     let mut notes = Notes::after(alloc, *least);
     let change = bind_update(alloc, update, &sight, &mut notes)?;
     *least = notes.least;
-    let runs = all_run(notes.uses.as_slice(), catalog);
+    let by_plan = all_run(notes.uses.as_slice(), catalog);
     Ok(BoundStatement {
         bound: Bound::Update(change),
-        runs,
+        by_plan,
     })
 }
 
@@ -91,9 +91,9 @@ pub fn bind_direct_delete(
     let mut notes = Notes::after(alloc, *least);
     let change = bind_delete(alloc, delete, &sight, &mut notes)?;
     *least = notes.least;
-    let runs = all_run(notes.uses.as_slice(), catalog);
+    let by_plan = all_run(notes.uses.as_slice(), catalog);
     Ok(BoundStatement {
         bound: Bound::Delete(change),
-        runs,
+        by_plan,
     })
 }

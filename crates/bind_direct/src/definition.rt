@@ -16,8 +16,8 @@ use statement_trees::{CreateFunction, CreateTable, DropObject};
 use std::alloc::Global;
 use syntax_trees::Ident;
 
-fn is_run(object: &Object) -> bool
-    ensures { result ≡ spec.is_run object.now }
+fn is_planned(object: &Object) -> bool
+    ensures { result ≡ spec.is_planned object.now }
 {
     match object {
         Object::Table(_) => true,
@@ -27,27 +27,27 @@ fn is_run(object: &Object) -> bool
     }
 }
 
-/// A new table or procedure as a statement, which is run where it makes a table.
+/// A new table or procedure as a statement.
 pub fn created(ident: &Ident, object: Object) -> Result<BoundStatement, NoMemory>
     ensures { IfOk result (λ b. b ≡ spec.created ident.now object) }
 {
-    let runs = is_run(&object);
+    let by_plan = is_planned(&object);
     let name = ident.name.copied()?;
     Ok(BoundStatement {
         bound: Bound::Create(name, object),
-        runs,
+        by_plan,
     })
 }
 
-/// A new function as a statement, which is run where it is of the form that is run and has a plan.
+/// A new function as a statement, with whether it only returns a value and has a plan.
 pub fn created_function(create: &CreateFunction, object: Object) -> Result<BoundStatement, NoMemory>
     ensures { IfOk result (λ b. b ≡ spec.created_function (out-CreateFunction create.now) object) }
 {
-    let runs = result_of(create).is_some() && is_run(&object);
+    let by_plan = result_of(create).is_some() && is_planned(&object);
     let name = create.name.name.copied()?;
     Ok(BoundStatement {
         bound: Bound::Create(name, object),
-        runs,
+        by_plan,
     })
 }
 
@@ -79,6 +79,6 @@ pub fn bind_direct_drop(
     let name = bind_drop(removal, catalog, least)?;
     Ok(BoundStatement {
         bound: Bound::Drop(name),
-        runs: true,
+        by_plan: true,
     })
 }

@@ -56,7 +56,7 @@ pub fn bind_direct_query(
     let asked = bind_asked(alloc, query, catalog, least)?;
     Ok(BoundStatement {
         bound: Bound::Query(asked.query),
-        runs: asked.runs,
+        by_plan: asked.runs,
     })
 }
 
@@ -74,6 +74,6 @@ pub fn bind_explain(
     let asked = bind_asked(alloc, query, catalog, least)?;
     Ok(BoundStatement {
         bound: Bound::Explain(asked.query),
-        runs: false,
+        by_plan: false,
     })
 }

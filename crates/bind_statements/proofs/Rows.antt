@@ -67,7 +67,7 @@ use Rattle.bind_statements.specs.Examples.{drop, definition_returning, new_funct
 use Rattle.bind_statements.specs.Examples.{g_of, function_g, call_of}
 use Rattle.bind_statements.specs.Examples.{begin_end, block, procedure, explained}
 use Rattle.bind_rules.specs.Definitions.{Definition, ProcedureDefinition}
-use Rattle.bind_direct.specs.Direct.{run, not_run, run_over, with_runs, is_run, created}
+use Rattle.bind_direct.specs.Direct.{asking_nothing, not_planned, run_over, with_plans, is_planned, created}
 use Rattle.bind_direct.specs.Direct.{direct_call}
 use Rattle.bind_direct.specs.Returning.{in_function, returning_with}
 use Rattle.bind_statements.specs.Functions.{judged_function}
@@ -153,14 +153,14 @@ pub table-row : (n : List ℕ) (cs : List Column)
 table-row n cs = keyed-row n (map (λ c. element.Column c) cs)
 
 pub drop-row : (known : Catalog) (of : ObjectSort) (n : List ℕ) →
-    judged_statement (drop of n) known ≡ run (λ name. bound.Drop name)
+    judged_statement (drop of n) known ≡ asking_nothing (λ name. bound.Drop name)
     (judged_drop (removal of n) known)
 drop-row known of n = of_form (drop of n) (Stmt-F.Drop (removal of n)) known
     (outs-Drop (removal of n))
 
 -- a new function of the value that its body gives, if it is RETURN
 abbrev pub created_by : Definition → Option Tree → NewObject → BoundStatement
-created_by d value o = with_runs (is_some (if_bare d.characteristics value) && is_run o)
+created_by d value o = with_plans (is_some (if_bare d.characteristics value) && is_planned o)
     (bound.Create d.name.name o)
 
 -- a function whose body is of a form
@@ -216,7 +216,7 @@ call-row token = of_form (stmt.Call (call_of token)) (Stmt-F.Call (call_of token
     (outs-Call (call_of token))
 
 abbrev pub shown : Noted TypedQuery → Noted BoundStatement
-shown x = not_run (λ b. bound.Explain b) (as_value (λ (t : TypedQuery). t.tree)
+shown x = not_planned (λ b. bound.Explain b) (as_value (λ (t : TypedQuery). t.tree)
     (x >>= ordered_by []))
 
 pub explain-row : (n : List ℕ) → judged_statement (explained n) catalog ≡ shown
@@ -240,7 +240,7 @@ block-row label token statements =
     of_form (stmt.Labelled (roll-Labelled s)) (Stmt-F.Labelled (roll-Labelled s)) catalog
     (outs-Labelled (roll-Labelled s))
 
-pub procedure-row : (body : Stmt) → (judged_statement (procedure body) catalog).value.runs ≡ false
+pub procedure-row : (body : Stmt) → (judged_statement (procedure body) catalog).value.by_plan ≡ false
 procedure-row body =
     let s : ProcedureDefinition = record {
       anchor = at 0;
@@ -250,7 +250,7 @@ procedure-row body =
       characteristics = [];
       body = body;
     } in
-    ap (λ (x : Noted BoundStatement). x.value.runs)
+    ap (λ (x : Noted BoundStatement). x.value.by_plan)
     (of_form (stmt.CreateProcedure (roll-CreateProcedure s))
     (Stmt-F.CreateProcedure (roll-CreateProcedure s)) catalog
     (outs-CreateProcedure (roll-CreateProcedure s)))
@@ -270,8 +270,8 @@ body-block-row statements =
     (outs-Labelled (roll-Labelled s))
 
 pub characteristic-row : (c : Characteristic) (cs : List Characteristic) (body : Stmt) →
-    (judged_statement (function_g (c ∷ cs) body) catalog).value.runs ≡ false
-characteristic-row c cs body = ap (λ (x : Noted BoundStatement). x.value.runs)
+    (judged_statement (function_g (c ∷ cs) body) catalog).value.by_plan ≡ false
+characteristic-row c cs body = ap (λ (x : Noted BoundStatement). x.value.by_plan)
     (definition-row (g_of (c ∷ cs) body) (out-Stmt body) refl)
 
 -- ---- anchors

@@ -1,4 +1,4 @@
--- A statement without faults is run, if it is of a form that is run and all functions have plans.
+-- Plans answer a statement without faults, if it is of a planned form and all functions have plans.
 use Rattle.std.proofs.Common.{◌≡◌, refl, sym, ap, ◌∙◌, subst, ℕ, Bool, true, false, ◌||◌, List, []}
 use Rattle.std.proofs.Common.{◌∷◌, ◌++◌, Option, Some, None}
 use Rattle.std.specs.Prelude.{is_some, ◌&&◌, if◌then◌else◌}
@@ -60,7 +60,7 @@ use Rattle.bind_direct.specs.Returning.{in_function, judged_result, judged_retur
 use Rattle.bind_definitions.specs.Routines.{parameters_of, calls as calls_in}
 use Rattle.bind_statements.specs.Runs.{lacks_plan, FunctionsPlanned, has_run_form, calls_back}
 use Rattle.bind_statements.specs.Runs.{form_calls_itself, FaultlessRuns}
-use Rattle.bind_direct.specs.Direct.{is_run as is_made_to_run}
+use Rattle.bind_direct.specs.Direct.{is_planned}
 use Rattle.bind_statements.specs.Statements.{judged_object, judged_form}
 use Rattle.bind_rules.specs.Definitions.{Form, if_bare, value_returned}
 
@@ -266,7 +266,7 @@ module _ (known : Catalog) (all : AllPlanned known) (plans : FunctionsPlanned kn
   returning-runs : (s : Definition) (result : Expr) →
       calls_in s.name.name (judged_result s result (parameters_of s.parameters) known).uses ≡ false
       → (judged_returning s result known).faults ≡ [] →
-      is_made_to_run (judged_returning s result known).value ≡ true
+      is_planned (judged_returning s result known).value ≡ true
   returning-runs s result c p =
       let place = in_function s (parameters_of s.parameters) known in
       let seen = seen_from place in
@@ -277,14 +277,14 @@ module _ (known : Catalog) (all : AllPlanned known) (plans : FunctionsPlanned kn
       let inside = front_nil (x.faults ++ given) asked
       (back_nil heads ((x.faults ++ given) ++ asked) p) in
       let access = access_of_result s known x.uses in
-      ap (λ b. is_made_to_run (if b then planned_function s known access x.uses x.value.tree else
+      ap (λ b. is_planned (if b then planned_function s known access x.uses x.value.tree else
       interpreted s known access x.uses (Return x.value.tree)))
       (expr-runs result seen refl refl (outside (own_function s) x.uses c)
       (front_nil x.faults given inside))
 
   definition-runs : (s : Definition) (result : Option Expr) → is_some result ≡ true →
       calls_back s result known ≡ false → (judged_object s result known).faults ≡ []
-      → is_made_to_run (judged_object s result known).value ≡ true
+      → is_planned (judged_object s result known).value ≡ true
   definition-runs s None r c p = absurd cc
   definition-runs s (Some result) r c p = returning-runs s result c p
 
@@ -299,11 +299,11 @@ module _ (known : Catalog) (all : AllPlanned known) (plans : FunctionsPlanned kn
       → calls_back s (if_bare s.characteristics value) known ≡ false →
       (judged_object s value known).faults ≡ []
       → (is_some (if_bare s.characteristics value) &&
-      is_made_to_run (judged_object s value known).value) ≡ true
+      is_planned (judged_object s value known).value) ≡ true
   created-runs s value r c p =
       let same = bare s.characteristics value r in
       and_from (is_some (if_bare s.characteristics value))
-      (is_made_to_run (judged_object s value known).value) r
+      (is_planned (judged_object s value known).value) r
       (definition-runs s value (ap is_some (sym same) ∙ r)
       (ap (λ o. calls_back s o known) (sym same) ∙ c) p)
 
@@ -311,7 +311,7 @@ module _ (known : Catalog) (all : AllPlanned known) (plans : FunctionsPlanned kn
 
   form-runs : (y : Form) (whole : Stmt) → has_run_form y ≡ true →
       form_calls_itself y known ≡ false → (judged_form y whole known).faults ≡ [] →
-      (judged_form y whole known).value.runs ≡ true
+      (judged_form y whole known).value.by_plan ≡ true
   form-runs (Stmt-F.CreateTable s) whole r c p = refl
   form-runs (Stmt-F.CreateFunction s) whole r c p =
       created-runs (out-CreateFunction s) (value_returned (out-Stmt (out-CreateFunction s).body)) r c p

@@ -24,26 +24,25 @@ MeetsRows catalog name q = HasPlan catalog q ×
     Meets name (width_in catalog name) (query_of catalog q)
 
 -- What is made has a name that stands for nothing, and fits the catalog; what is dropped stands
--- there, and nothing else uses it. Where it is run, what a query or a change asks has a plan: so
+-- there, and nothing else uses it. Where plans answer it, what a query or a change asks has one: so
 -- have the functions that it calls, and the rows of VALUES are of one length. The query of EXPLAIN
--- has one where all that it uses may be run. Of CALL and of a compound statement nothing is said:
--- they are bound alone.
+-- has one where all that it uses may be run. Of CALL and of a compound statement nothing is said.
 abbrev pub BoundFits : Catalog → Bool → Bound → Type 0
-BoundFits catalog runs (bound.Create name object) = (object_named name catalog ≡ None) ×
+BoundFits catalog by_plan (bound.Create name object) = (object_named name catalog ≡ None) ×
     ObjectFits catalog object
-BoundFits catalog runs (bound.Drop name) = IsSome (object_named name catalog) ×
+BoundFits catalog by_plan (bound.Drop name) = IsSome (object_named name catalog) ×
     (users_of name catalog ≡ 0)
-BoundFits catalog runs (bound.Insert b listed) = runs ≡ true → HasPlan catalog b.source
-BoundFits catalog runs (bound.Update b) = runs ≡ true → MeetsRows catalog b.table b.rows
-BoundFits catalog runs (bound.Delete b) = runs ≡ true → MeetsRows catalog b.table b.rows
-BoundFits catalog runs (bound.Query q) = runs ≡ true → HasPlan catalog q
-BoundFits catalog runs (bound.Explain q) = Runs catalog (names_used (uses_in_query q)) →
+BoundFits catalog by_plan (bound.Insert b listed) = by_plan ≡ true → HasPlan catalog b.source
+BoundFits catalog by_plan (bound.Update b) = by_plan ≡ true → MeetsRows catalog b.table b.rows
+BoundFits catalog by_plan (bound.Delete b) = by_plan ≡ true → MeetsRows catalog b.table b.rows
+BoundFits catalog by_plan (bound.Query q) = by_plan ≡ true → HasPlan catalog q
+BoundFits catalog by_plan (bound.Explain q) = Runs catalog (names_used (uses_in_query q)) →
     HasPlan catalog q
-BoundFits catalog runs (bound.Routine s) = Unit {0}
+BoundFits catalog by_plan (bound.Routine s) = Unit {0}
 
--- a statement fits a catalog, by whether it is run there
+-- a statement fits a catalog, by whether plans answer it there
 abbrev pub StatementFits : Catalog → BoundStatement → Type 0
-StatementFits catalog s = BoundFits catalog s.runs s.bound
+StatementFits catalog s = BoundFits catalog s.by_plan s.bound
 
 -- a statement without faults fits a catalog whose functions that are kept with plans are planned
 abbrev pub FaultlessFits : Type 0

@@ -75,7 +75,7 @@ use Rattle.bind_queries.specs.Written.{expr_of, query_of}
 use Rattle.bind_direct.specs.declared.bound.Bound.{Bound}
 use Rattle.bind_direct.specs.declared.bound.Bound.TheVariants as bound_as
 use Rattle.bind_rules.specs.Definitions.{Definition}
-use Rattle.bind_direct.specs.Direct.{with_runs}
+use Rattle.bind_direct.specs.Direct.{with_plans}
 use Rattle.bind_statements.specs.Statements.{judged_statement, anchor_of}
 
 -- ---- statements
@@ -394,7 +394,7 @@ pub record DropsOfEntries : Type 0 where
   pub sort_before_use : LeastOver (drop sort.Function (codes "T")) with_user UnknownName 2
   pub unused : All (drop sort.Table (codes "T")) []
   pub user : (judged_statement (drop sort.Function (codes "G")) with_user).faults ≡ []
-  pub dropped : (judged_statement (drop sort.Function (codes "F")) catalog).value ≡ with_runs true
+  pub dropped : (judged_statement (drop sort.Function (codes "F")) catalog).value ≡ with_plans true
       (bound_as.Drop (codes "F"))
 
 -- ---- statements that are bound alone
@@ -451,29 +451,29 @@ procedure body = stmt.CreateProcedure (roll-CreateProcedure
 abbrev pub explained : List ℕ → Stmt
 explained n = stmt.Explain (at 0) (unordered (select_of n (null 2 ∷ []) None))
 
--- whether a statement is run
-abbrev pub IsRun : Stmt → Bool → Type 0
-IsRun s runs = (judged_statement s catalog).value.runs ≡ runs
+-- whether plans answer a statement
+abbrev pub IsPlanned : Stmt → Bool → Type 0
+IsPlanned s by_plan = (judged_statement s catalog).value.by_plan ≡ by_plan
 
--- which statements are run, and which are bound alone
+-- which statements plans answer, and which they don't
 pub record FormsBoundAlone : Type 0 where
-  pub form_that_is_run : IsRun (function (codes "G") (new_parameter (codes "X") 4 (integer 5) ∷ [])
+  pub planned_form : IsPlanned (function (codes "G") (new_parameter (codes "X") 4 (integer 5) ∷ [])
       (integer 8) (name (codes "X") 10)) true
-  pub form_that_is_run_is_valid : All (function (codes "G")
+  pub planned_form_is_valid : All (function (codes "G")
       (new_parameter (codes "X") 4 (integer 5) ∷ []) (integer 8) (name (codes "X") 10)) []
-  pub self_call : IsRun (function (codes "G") (new_parameter (codes "X") 4 (integer 5) ∷ [])
+  pub self_call : IsPlanned (function (codes "G") (new_parameter (codes "X") 4 (integer 5) ∷ [])
       (integer 8) (call (codes "G") 10 (name (codes "X") 12 ∷ []))) false
-  pub body_that_is_a_block : IsRun (function_g [] (block None 9 (returning (codes "X") ∷ []))) false
-  pub with_a_characteristic : IsRun (function_g (deterministic ∷ []) (returning (codes "X"))) false
-  pub of_a_procedure : IsRun (procedure (delete (codes "T") None)) false
-  pub of_call : IsRun (stmt.Call (call_of 0)) false
-  pub of_a_block : IsRun (block (Some (called (codes "L") 0)) 2 (delete (codes "T") None ∷ []))
+  pub body_that_is_a_block : IsPlanned (function_g [] (block None 9 (returning (codes "X") ∷ []))) false
+  pub with_a_characteristic : IsPlanned (function_g (deterministic ∷ []) (returning (codes "X"))) false
+  pub of_a_procedure : IsPlanned (procedure (delete (codes "T") None)) false
+  pub of_call : IsPlanned (stmt.Call (call_of 0)) false
+  pub of_a_block : IsPlanned (block (Some (called (codes "L") 0)) 2 (delete (codes "T") None ∷ []))
       false
-  pub of_explain : IsRun (explained (codes "T")) false
+  pub of_explain : IsPlanned (explained (codes "T")) false
   pub explain_without_faults : (judged_statement (explained (codes "T")) catalog).faults ≡ []
   pub unknown_table_in_explain : Only (explained (codes "U")) UnknownName 90
   pub unknown_procedure : Only (stmt.Call (call_of 0)) UnknownName 1
-  -- where it is said that one is not run: at its first token, after a label
+  -- the anchor of a statement: its first token, after a label
   pub at_create : anchor_of (function_g [] (block None 9 [])) ≡ at 0
   pub at_create_procedure : anchor_of (procedure (delete (codes "T") None)) ≡ at 0
   pub at_call : anchor_of (stmt.Call (call_of 0)) ≡ at 0
@@ -701,7 +701,7 @@ bound_query =
 
 -- a column is bound by its place, a call by its name
 pub record BindsByPlaceAndName : Type 0 where
-  pub whole : (judged_statement selected catalog).value ≡ with_runs true
+  pub whole : (judged_statement selected catalog).value ≡ with_plans true
       (bound_as.Query bound_query)
 
 -- ---- what is written, met and made
@@ -732,7 +732,7 @@ pub record BindsWriting : Type 0 where
   pub by_the_list :
       (judged_statement (insert_listed (codes "T")
       (called (codes "A") 4 ∷ called (codes "K") 6 ∷ []) (null 12 ∷ number 14 ∷ [])) catalog).value
-      ≡ with_runs true
+      ≡ with_plans true
       (bound_as.Insert (record {
         table = codes "T";
         source =
@@ -741,7 +741,7 @@ pub record BindsWriting : Type 0 where
       (Some (1 ∷ 0 ∷ [])))
   pub without_a_list : (judged_statement (insert (codes "T") ((null 5 ∷ null 7 ∷ []) ∷ []))
       catalog).value
-      ≡ with_runs true
+      ≡ with_plans true
       (bound_as.Insert (record {
         table = codes "T";
         source =
@@ -751,7 +751,7 @@ pub record BindsWriting : Type 0 where
   pub in_another_order :
       (judged_statement (update (codes "S") ((called (codes "B") 3, null 5) ∷
       (called (codes "A") 7, name (codes "A") 9) ∷ []) None) catalog).value
-      ≡ with_runs true (bound_as.Update (record {
+      ≡ with_plans true (bound_as.Update (record {
         table = codes "S";
         targets = 1 ∷ 0 ∷ [];
         rows =
@@ -762,20 +762,20 @@ pub record BindsWriting : Type 0 where
       (judged_statement
       (delete (codes "T") (Some (chain (equal (name (codes "K") 4) 5 (number 6)) And 7
       (word (Is test.Null) 9 (name (codes "A") 8 ∷ []))))) catalog).value
-      ≡ with_runs true
+      ≡ with_plans true
       (bound_as.Delete (record {
         table = codes "T";
         rows =
             met (codes "T") []
             (conjuncts_of (bound.Operation word_of.And (k_is_seven ∷ a_is_null ∷ [])));
       }))
-  pub without_a_test : (judged_statement (delete (codes "T") None) catalog).value ≡ with_runs true
+  pub without_a_test : (judged_statement (delete (codes "T") None) catalog).value ≡ with_plans true
       (bound_as.Delete (record { table = codes "T"; rows = met (codes "T") [] [] }))
   -- the columns of a key in the order in which it lists them
   pub key_of_two_columns :
       (judged_statement (table_of (codes "V")
       (a_column 4 ∷ key 7 (k_and_a 10 12) ∷ k_column 15 (NotNull ∷ []) ∷ [])) catalog).value
-      ≡ with_runs true (bound_as.Create (codes "V")
+      ≡ with_plans true (bound_as.Create (codes "V")
       (new.Table (record {
         columns = column (codes "A") type.Integer ∷
             record { name = codes "K"; data_type = type.Integer; not_null = true } ∷ [];
@@ -785,7 +785,7 @@ pub record BindsWriting : Type 0 where
   pub key_of_a_column :
       (judged_statement (table_of (codes "V")
       (a_column 4 ∷ k_column 7 (PrimaryKey (at 9) ∷ []) ∷ [])) catalog).value
-      ≡ with_runs true (bound_as.Create (codes "V")
+      ≡ with_plans true (bound_as.Create (codes "V")
       (new.Table (record {
         columns = column (codes "A") type.Integer ∷ column
             (codes "K") type.Integer ∷ [];

@@ -1,4 +1,4 @@
--- Which statements are run where all functions have plans.
+-- Which statements plans answer where all functions have plans.
 use Rattle.std.specs.Prelude.{ℕ, ◌≡◌, Bool, true, false, List, [], Option, Some, None, is_some}
 use Rattle.syntax_trees.specs.declared.expr.Expr.{Expr}
 use Rattle.statement_trees.specs.declared.statement.CreateFunction.{out-CreateFunction}
@@ -25,9 +25,9 @@ lacks_plan (Some (ProcedureObject p)) = false
 abbrev pub FunctionsPlanned : Catalog → Type 0
 FunctionsPlanned catalog = (name : List ℕ) → lacks_plan (object_named name catalog) ≡ false
 
--- ---- the forms that are run
+-- ---- the planned forms
 
--- whether a statement is of a form that is run, opened one layer
+-- whether a statement is of a planned form, opened one layer
 abbrev pub has_run_form : Form → Bool
 has_run_form (Stmt-F.CreateTable s) = true
 has_run_form (Stmt-F.CreateFunction s) = is_some (result_of (out-CreateFunction s))
@@ -57,15 +57,15 @@ form_calls_itself (Stmt-F.CreateFunction s) catalog =
     calls_back (out-CreateFunction s) (result_of (out-CreateFunction s)) catalog
 form_calls_itself _ catalog = false
 
--- a function of the form that is run, which calls itself
+-- a function that only returns a value, and calls itself
 abbrev pub calls_itself : Stmt → Catalog → Bool
 calls_itself s catalog = form_calls_itself (out-Stmt s) catalog
 
 -- ---- the law
 
--- A statement without faults that is of a form that is run is run, where all functions have plans.
+-- Plans answer a statement without faults that is of a planned form, where all functions have plans.
 -- A function that calls itself has no plan.
 abbrev pub FaultlessRuns : Type 0
 FaultlessRuns = (s : Stmt) (catalog : Catalog) → AllPlanned catalog → FunctionsPlanned catalog →
     is_run_form s ≡ true → calls_itself s catalog ≡ false
-    → (judged_statement s catalog).faults ≡ [] → (judged_statement s catalog).value.runs ≡ true
+    → (judged_statement s catalog).faults ≡ [] → (judged_statement s catalog).value.by_plan ≡ true

@@ -1,5 +1,5 @@
 -- Statements: the bound statement that each stands for, the name faults in it, one clause for each
--- rule that it can break, and whether it is of a form that is run. ISO/IEC 9075-2, 11.60
+-- rule that it can break, and whether plans answer it. ISO/IEC 9075-2, 11.60
 -- (SQL-invoked routine), 13.5 (SQL procedure statement) and 22.1 (direct SQL statement).
 use Rattle.std.specs.Prelude.{Option, Some, None}
 use Rattle.syntax_trees.specs.declared.anchor.Anchor.{Anchor}
@@ -20,7 +20,7 @@ use Rattle.bind_simple.specs.Anchors.{standing_of}
 use Rattle.bind_routines.specs.Statements.{judge_stmt}
 use Rattle.bind_direct.specs.declared.bound.BoundStatement.{BoundStatement}
 use Rattle.bind_direct.specs.declared.bound.Bound.TheVariants as bound
-use Rattle.bind_direct.specs.Direct.{not_run, created, created_function, explained, at_script}
+use Rattle.bind_direct.specs.Direct.{not_planned, created, created_function, explained, at_script}
 use Rattle.bind_direct.specs.Direct.{direct_table}
 use Rattle.bind_direct.specs.Direct.{direct_drop, direct_query, direct_insert, direct_update}
 use Rattle.bind_direct.specs.Direct.{direct_delete, direct_call}
@@ -48,9 +48,9 @@ judged_procedure_definition s catalog = as_value (created s.name) (judged_proced
 
 -- ---- what the script does as a routine would
 
--- a compound statement of the script's, which is bound alone
+-- a compound statement of the script's
 abbrev pub judged_routine : Stmt → Catalog → Noted BoundStatement
-judged_routine s catalog = not_run (λ b. bound.Routine b) (judge_stmt s (at_script catalog))
+judged_routine s catalog = not_planned (λ b. bound.Routine b) (judge_stmt s (at_script catalog))
 
 -- ---- statements
 

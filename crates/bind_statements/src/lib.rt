@@ -20,7 +20,7 @@ pub use statement::{anchor_of, bind_statement};
 
 /// A statement without faults makes what fits the catalog: a name that is free, a key of columns,
 /// calls of functions that stand there and are lower, with as many arguments as parameters; what is
-/// dropped stands there unused; and what is asked or met has a plan, where the statement is run.
+/// dropped stands there unused; and what is asked or met has a plan, where it is said so.
 pub fn faultless_fits()
     ensures { FaultlessFits }
 {}
@@ -32,8 +32,8 @@ pub fn faultless_typed()
     ensures { FaultlessTyped }
 {}
 
-/// Where all functions have plans, a statement without faults is run if it is of a form that is
-/// run: CREATE TABLE, CREATE FUNCTION without characteristics whose body is RETURN and does not
+/// Where all functions have plans, plans answer a statement without faults if it is of a planned
+/// form: CREATE TABLE, CREATE FUNCTION without characteristics whose body is RETURN and does not
 /// call the function itself, DROP, INSERT, UPDATE, DELETE or a query.
 pub fn faultless_runs()
     ensures { FaultlessRuns }
@@ -54,7 +54,7 @@ pub fn drops_of_entries()
     ensures { DropsOfEntries }
 {}
 
-/// Which statements are run, and which are bound alone.
+/// Which statements plans answer, and which they don't.
 pub fn forms_bound_alone()
     ensures { FormsBoundAlone }
 {}

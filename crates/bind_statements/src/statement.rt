@@ -52,7 +52,7 @@ fn bind_routine(
     *least = notes.least;
     Ok(BoundStatement {
         bound: Bound::Routine(bound),
-        runs: false,
+        by_plan: false,
     })
 }
 
@@ -178,8 +178,8 @@ pub fn anchor_of(stmt: &Stmt) -> Anchor
 
 /// A statement with its names resolved. Fault: exactly where it has a fault, and then the least, by
 /// place and then kind. What is made has a free name, and fits the catalog; what is dropped stands
-/// there unused; what is asked or met has a plan, where the statement is run. It is well typed,
-/// where in each compound statement the handlers stand after all other declarations.
+/// there unused; what is asked or met has a plan, where it is said so. It is well typed where in
+/// each compound statement the handlers stand after all other declarations.
 #[tactic(auto, using(bind_faults::proofs::Laws::is_free, crate::proofs::Typed::bound_typed))]
 pub fn bind_statement(
     alloc: Global,

@@ -1,3 +1,4 @@
+pub mod Apart
 pub mod Applying
 pub mod Collapsing
 pub mod Growing

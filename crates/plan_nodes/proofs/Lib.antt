@@ -1,7 +1,9 @@
 pub mod Grouped
 pub mod Laws
+pub mod MetPairs
 pub mod Nodes
 pub mod Paired
 pub mod Picks
 pub mod Read
 pub mod Receiving
+pub mod Skipped

@@ -173,7 +173,7 @@ fates_at (Node-F.Sort keys) = subst IsFates (sym (rolls-Sort keys)) (λ h. absur
 node_den : (n : Node) → IsFates n
 node_den = of_layer IsFates fates_at
 
-and_both : (a b : Bool) → (a && b) ≡ true → (a ≡ true) × (b ≡ true)
+pub and_both : (a b : Bool) → (a && b) ≡ true → (a ≡ true) × (b ≡ true)
 and_both true b h = (refl, h)
 and_both false b h = absurd (false≢true h)
 

@@ -4,6 +4,7 @@
 
 mod ends;
 mod groups;
+mod joined;
 mod last;
 mod leaves;
 mod lists;

@@ -4,7 +4,7 @@ pub mod Dropping
 pub mod Concluding
 pub mod Widths
 pub mod Answering
-pub mod Changing
 pub mod Lasting
 pub mod Preparing
+pub mod Seen
 pub mod Laws

@@ -1,6 +1,6 @@
 -- How a statement ends that runs in a world of its own. ISO/IEC 9075-2, 4.17 (SQL-statements and
 -- atomicity).
-use Rattle.std.specs.Prelude.{ℕ, ◌≡◌, List, Result, Ok, Err}
+use Rattle.std.specs.Prelude.{ℕ, ◌≡◌, List, Option, Some, None, Result, Ok, Err}
 use Rattle.sql_texts.specs.declared.memory.NoMemory.{NoMemory}
 use Rattle.table_store.specs.Memory.{Memory}
 use Rattle.catalog_store.specs.Catalog.{Catalog}
@@ -9,6 +9,8 @@ use Rattle.run_expressions.specs.Content.{Content, IsBackAt}
 use Rattle.run_choices.specs.declared.stop.Stop.{Stop}
 use Rattle.run_choices.specs.declared.stop.Stop.TheVariants.{Raised, Spent}
 use Rattle.run_choices.specs.declared.stop.Stop.TheVariants.{NoMemory as WantOfMemory}
+use Rattle.run_outcomes.specs.declared.outcome.Outcome.{Outcome}
+use Rattle.run_outcomes.specs.declared.outcome.Outcome.TheVariants as outcome
 use Rattle.psm_effects.specs.Database.{Plain}
 use Rattle.psm_effects.specs.Effects.{Effect}
 use Rattle.psm_effects.specs.Shapes.{shapes_of}
@@ -32,6 +34,13 @@ StopsWith WantOfMemory mark old new reply = ⊥
 abbrev pub IsStopped : Stop → ℕ → Content → Content → Result (List ℕ) NoMemory → Type 0
 IsStopped stop mark old new (Ok reply) = StopsWith stop mark old new reply
 IsStopped stop mark old new (Err e) = IsBackAt mark old new
+
+-- what a compound statement of a script stops with, by its outcome: what no handler takes, or that no
+-- turn is left
+abbrev pub stop_in : Outcome → Option Stop
+stop_in (outcome.Raising area) = Some (Raised area)
+stop_in outcome.Spent = Some Spent
+stop_in _ = None
 
 -- only rows may differ
 abbrev pub KeepsShapes : Memory → Memory → Type 0

@@ -1,25 +1,24 @@
 -- What is done in a world of tables, and how a change of rows is made of the rows that a query
 -- gives. ISO/IEC 9075-2, 14.9 (delete statement), 14.11 (insert statement) and 14.14 (update
 -- statement).
-use Rattle.std.specs.Prelude.{ℕ, ◌≡◌, true, List, []}
+use Rattle.std.specs.Prelude.{ℕ, ◌≡◌, Bool, true, List, []}
 use Rattle.row_types.specs.Rows.{Row}
-use Rattle.row_types.specs.Tables.{Tables}
 use Rattle.bound_trees.specs.declared.query.BoundQuery.{BoundQuery}
 use Rattle.rel_algebra.specs.World.{Eval, ◌>>=◌, unit, no_self, no_frame}
 use Rattle.rel_algebra.specs.Meaning.{answer}
 use Rattle.rel_algebra.specs.Plain.{planned}
 use Rattle.catalog_store.specs.Catalog.{Catalog}
 use Rattle.catalog_store.specs.View.{query_of}
-use Rattle.catalog_store.specs.Widths.{width_in}
-use Rattle.data_change.specs.Met.{Meets}
+use Rattle.routine_views.specs.Views.{query_in}
+use Rattle.run_places.specs.Places.{no_routine}
 use Rattle.data_change.specs.Writing.{stored_in, changed, removed}
-use Rattle.run_changes.specs.Met.{MetInOrder}
 use Rattle.psm_effects.specs.declared.change.Change.{Change}
 use Rattle.psm_effects.specs.declared.change.Change.TheVariants.{Insert, Update, Delete}
-use Rattle.psm_effects.specs.declared.world.Task.{Task}
-use Rattle.psm_effects.specs.declared.world.Task.TheVariants.{Make, Answer}
+use Rattle.psm_effects.specs.declared.task.Task.{Task}
+use Rattle.psm_effects.specs.declared.task.Task.TheVariants.{Make, Answer, Call, Run}
 use Rattle.psm_effects.specs.Database.{Plain}
 use Rattle.psm_effects.specs.Effects.{Effect, replied, changed_text, world_of, answered}
+use Rattle.psm_effects.specs.Effects.{called, ran}
 
 -- ---- changes
 
@@ -37,39 +36,32 @@ made (Delete delete) rows = removed delete.now.table rows
 
 -- All rows are evaluated first.
 abbrev pub change_of : Change → Catalog → Eval ℕ
-change_of change catalog = unit (answer (query_of catalog (rows_query change)) no_self [] no_frame
+change_of change catalog =
+    unit (answer (query_in (no_routine catalog) (rows_query change)) no_self [] no_frame
     >>= made change)
-
--- what it asks of the rows: those that it changes or removes stand in the table, in its order
-abbrev pub Takes : Change → Tables → List Row → Type 0
-Takes (Insert insert listed) tables rows = Unit {0}
-Takes (Update update) tables rows = MetInOrder tables update.now.table rows
-Takes (Delete delete) tables rows = MetInOrder tables delete.now.table rows
 
 -- a query of the catalog has a plan
 abbrev pub HasPlan : Catalog → BoundQuery → Type 0
 HasPlan catalog q = planned (query_of catalog q) ≡ true
 
--- a query of rows of the table of a name has a plan, and gives each with all of its columns
-abbrev pub MeetsRows : Catalog → List ℕ → BoundQuery → Type 0
-MeetsRows catalog name q = HasPlan catalog q ×
-    Meets name (width_in catalog name) (query_of catalog q)
-
--- what it asks of the catalog
-abbrev pub ChangeFits : Catalog → Change → Type 0
-ChangeFits catalog (Insert insert listed) = HasPlan catalog insert.now.source
-ChangeFits catalog (Update update) = MeetsRows catalog update.now.table update.now.rows
-ChangeFits catalog (Delete delete) = MeetsRows catalog delete.now.table delete.now.rows
+-- what is to be answered by a plan has one
+abbrev pub PlanFits : Bool → Catalog → BoundQuery → Type 0
+PlanFits by_plan catalog q = by_plan ≡ true → HasPlan catalog q
 
 -- ---- tasks
 
--- what a task asks of the catalog: the query that it answers, or that gives its rows, has a plan
-abbrev pub TaskFits : Catalog → Task → Type 0
-TaskFits catalog (Make change) = ChangeFits catalog change
-TaskFits catalog (Answer query) = HasPlan catalog query.now
+-- What a task asks of the catalog: the query that it answers, or that gives its rows, has a plan
+-- where it is answered by one.
+abbrev pub TaskFits : Bool → Catalog → Task → Type 0
+TaskFits by_plan catalog (Make change) = PlanFits by_plan catalog (rows_query change)
+TaskFits by_plan catalog (Answer query) = PlanFits by_plan catalog query.now
+TaskFits by_plan catalog (Call call) = Unit {0}
+TaskFits by_plan catalog (Run stmt) = Unit {0}
 
 -- the effect of the statement whose task it is, with so many turns
 abbrev pub task_effect : ℕ → Task → Plain → Effect
 task_effect budget (Make change) db = replied changed_text db
     (change_of change db.catalog (world_of budget db.tables))
 task_effect budget (Answer query) db = answered budget query.now db
+task_effect budget (Call call) db = called budget call.now db
+task_effect budget (Run stmt) db = ran budget stmt.now db

@@ -1,14 +1,16 @@
-//! Changes of rows in a world of the tables: the rows that they take are those that a plan gives.
+//! Changes of rows in a world of the tables: the rows that they take are those that a plan gives,
+//! or where none does, those of the query row by row.
 
 ghost use Rattle.std.specs.Prelude.{◌≡◌, IfOk, OnErr};
 ghost use Rattle.row_types.specs.Cells.{value_rows};
 ghost use Rattle.rel_algebra.specs.World.{unit};
 ghost use Rattle.run_expressions.specs.Content.{world_of as plain_world};
 ghost use Rattle.run_expressions.specs.Ending.{Ended};
+ghost use Rattle.viewing_laws.specs.Standing.{CallsStandBefore};
 ghost use Rattle.psm_effects.specs.Conclusions.{database, IsEffect, KeepsShapes};
 ghost use Rattle.psm_effects.specs.Effects.{replied, changed_text};
 ghost use Rattle.psm_effects.specs.Shapes.{IsWhole};
-ghost use Rattle.psm_effects.specs.Tasks.{rows_query, made, change_of, ChangeFits, Takes};
+ghost use Rattle.psm_effects.specs.Tasks.{rows_query, made, change_of, HasPlan, PlanFits};
 
 use crate::conclude::{conclude, stop_reply};
 use crate::planned::planned_answer;
@@ -19,6 +21,7 @@ use reply_text::{Reply, done_reply};
 use row_types::{RowList, Steps};
 use run_changes::{change_rows, remove_rows, store_rows};
 use run_expressions::{Raise, Stop, World};
+use run_routines::{delete_alone, insert_alone, update_alone};
 use sql_values::NoMemory;
 use sqlite_items::Items;
 use std::sync::ledger::Ledger;
@@ -54,7 +57,6 @@ fn make_of<L: Ledger>(
     world: &mut World,
     steps: &mut Steps<L>,
 ) -> Result<u64, Stop>
-    requires takes { Takes change world.old.memory.tables (value_rows rows) }
     ensures { Ended world.old world.new result
         (unit (made change.entry (value_rows rows)) (plain_world world.old)) }
 {
@@ -67,7 +69,7 @@ fn make_of<L: Ledger>(
     }
 }
 
-// Makes a change: all its rows are evaluated first.
+// Makes a change of the rows of a plan: all of them are evaluated first.
 fn make<L: Ledger>(
     change: Change<'_>,
     world: &mut World,
@@ -75,12 +77,10 @@ fn make<L: Ledger>(
     steps: &mut Steps<L>,
 ) -> Result<u64, Stop>
     requires whole { IsWhole (database catalog.now world.old.memory) }
-    requires fits { ChangeFits catalog.now change }
+    requires fits { HasPlan catalog.now (rows_query change) }
     ensures { Ended world.old world.new result
         (change_of change.entry catalog.now (plain_world world.old)) }
 {
-    let _entries = catalog.len();
-    let _tables = world.tables().len();
     let alloc = world.allocator();
     match planned_answer(alloc, change.query(), catalog, world.tables(), steps)? {
         Answer::Rows(rows) => make_of(change, rows, world, steps),
@@ -88,22 +88,59 @@ fn make<L: Ledger>(
     }
 }
 
-/// Makes a change in a world, and replies how many rows it stored, changed or removed.
+// Makes a change of the rows of its query, row by row.
+fn make_alone(change: Change<'_>, world: &mut World, catalog: &Catalog) -> Result<u64, Stop>
+    requires calls { CallsStandBefore catalog.now }
+    ensures { Ended world.old world.new result
+        (change_of change.entry catalog.now (plain_world world.old)) }
+{
+    match change {
+        Change::Insert(insert, listed) => insert_alone(insert, listed, world, catalog),
+        Change::Update(update) => update_alone(update, world, catalog),
+        Change::Delete(delete) => delete_alone(delete, world, catalog),
+    }
+}
+
+// Makes a change, by a plan where it is said that its query has one.
+fn made_by<L: Ledger>(
+    change: Change<'_>,
+    by_plan: bool,
+    world: &mut World,
+    catalog: &Catalog,
+    steps: &mut Steps<L>,
+) -> Result<u64, Stop>
+    requires whole { IsWhole (database catalog.now world.old.memory) }
+    requires calls { CallsStandBefore catalog.now }
+    requires fits { PlanFits by_plan catalog.now (rows_query change) }
+    ensures { Ended world.old world.new result
+        (change_of change.entry catalog.now (plain_world world.old)) }
+{
+    if by_plan {
+        make(change, world, catalog, steps)
+    } else {
+        make_alone(change, world, catalog)
+    }
+}
+
+/// Makes a change in a world, by a plan where it is said that its query has one, and replies how
+/// many rows it stored, changed or removed.
 pub(crate) fn change_in<L: Ledger>(
     change: Change<'_>,
+    by_plan: bool,
     world: &mut World,
     catalog: &Catalog,
     steps: &mut Steps<L>,
 ) -> Result<Reply, NoMemory>
     requires whole { IsWhole (database catalog.now world.old.memory) }
-    requires fits { ChangeFits catalog.now change }
+    requires calls { CallsStandBefore catalog.now }
+    requires fits { PlanFits by_plan catalog.now (rows_query change) }
     ensures ok { IfOk result (λ r. IsEffect (replied changed_text (database catalog.now world.old.memory)
         (change_of change.entry catalog.now (plain_world world.old))) r (database catalog.now world.new.memory)) }
     ensures err { OnErr result (world.new.memory.tables ≡ world.old.memory.tables) }
     ensures shapes { KeepsShapes world.old.memory world.new.memory }
 {
     let mark = world.mark();
-    match make(change, world, catalog, steps) {
+    match made_by(change, by_plan, world, catalog, steps) {
         Ok(count) => conclude(done_reply(world.allocator(), &[], Some(count)), mark, world),
         Err(stop) => stop_reply(stop, mark, world),
     }

@@ -2,6 +2,7 @@
 //! it replies. Each is a function of its parts; no statement is read or bound here.
 #![tactic(auto)]
 
+mod alone;
 mod change;
 mod conclude;
 mod creation;
@@ -10,10 +11,11 @@ mod law;
 mod planned;
 mod prepared;
 mod run;
+mod task;
 mod world;
 
 pub use creation::create;
 pub use drop::drop_object;
 pub use law::queries_without_plans;
 pub use prepared::{Prepared, prepare_query, run_plan};
-pub use run::{run_delete, run_insert, run_query, run_update};
+pub use run::{run_delete, run_insert, run_query, run_routine, run_update};

@@ -5,6 +5,8 @@ ghost use Rattle.rel_algebra.specs.World.{World, no_self, no_frame};
 ghost use Rattle.rel_algebra.specs.Meaning.{answer};
 ghost use Rattle.rel_algebra.specs.Plain.{planned as planned_by};
 ghost use Rattle.catalog_store.specs.View.{query_of};
+ghost use Rattle.routine_views.specs.Views.{query_in};
+ghost use Rattle.run_places.specs.Places.{no_routine};
 ghost use Rattle.psm_effects.specs.Answering.{ends_with, HasValues};
 ghost use Rattle.psm_effects.specs.Conclusions.{database};
 ghost use Rattle.psm_effects.specs.Shapes.{IsWhole};
@@ -31,7 +33,7 @@ pub(crate) fn planned_answer<L: Ledger>(
     requires whole { IsWhole (database catalog.now tables.now) }
     requires planned { planned_by (query_of catalog.now query.now) ≡ true }
     ensures ends { IfOk result (λ a. (w : World) → w.tables ≡ tables.now.tables →
-        answer (query_of catalog.now query.now) no_self [] no_frame w ≡ ends_with a w) }
+        answer (query_in (no_routine catalog.now) query.now) no_self [] no_frame w ≡ ends_with a w) }
     ensures values { IfOk result (λ a. HasValues a) }
 {
     let _entries = catalog.len();

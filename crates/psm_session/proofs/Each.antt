@@ -18,6 +18,7 @@ use Rattle.bind_statements.specs.Statements.{judged_statement, anchor_of}
 use Rattle.reply_text.specs.declared.fault.FaultText.{FaultText}
 use Rattle.reply_text.specs.declared.fault.FaultText.TheVariants as text
 use Rattle.psm_effects.specs.Database.{Plain}
+use Rattle.psm_session.specs.Effects.{is_run}
 use Rattle.psm_session.specs.Executing.{Executes, Checks}
 use Rattle.psm_session.specs.Statement.{Reads, Stops, Doing, StatementBy}
 
@@ -35,10 +36,10 @@ IsSome Does = (found : Noted BoundStatement) (at : Anchor) (before : Plain) → 
 
 -- a statement has an effect, is refused, or has a least fault
 pub some_execution : (budget : ℕ) → IsSome (Executes budget)
-some_execution budget found at before = by_faults found.faults refl found.value.runs refl
+some_execution budget found at before = by_faults found.faults refl (is_run found.value.bound) refl
   where
     by_faults : (faults : List Fault) → found.faults ≡ faults → (runs : Bool) →
-        found.value.runs ≡ runs → (reply : List ℕ) × (after : Plain) ×
+        is_run found.value.bound ≡ runs → (reply : List ℕ) × (after : Plain) ×
         Executes budget found at before reply after
     by_faults [] none true runs =
         (_, _, inl (record { valid = none; runs = runs; replies = refl; leaves = refl }))

@@ -5,3 +5,4 @@ pub mod Made
 pub mod Preparing
 pub mod Laws
 pub mod Unread
+pub mod Calls

@@ -31,7 +31,7 @@ use Rattle.grammar_order.specs.Ordered.{declaration_ordered, stmt_ordered, struc
 use Rattle.grammar_order.specs.Ordered.{block_ordered, branch_ordered, case_ordered}
 use Rattle.grammar_order.specs.Ordered.{function_ordered, procedure_ordered, handler_ordered}
 use Rattle.grammar_order.specs.Ordered.{if_ordered, labelled_ordered}
-use Rattle.rel_algebra.specs.World.{Ends, Gives, Raises, RunsOut}
+use Rattle.rel_algebra.specs.World.{World, Ends, Gives, Raises, RunsOut}
 use Rattle.catalog_store.specs.declared.entry.FunctionHead.{FunctionHead}
 use Rattle.catalog_store.specs.declared.entry.Object.TheVariants as new
 use Rattle.catalog_store.specs.declared.entry.RoutineRecord.{RoutineRecord}
@@ -54,12 +54,21 @@ use Rattle.typing_trees.specs.Queries.{kind_of}
 use Rattle.typing_trees.specs.Statements.{holds}
 use Rattle.typing_plans.specs.Bodies.{BodyTyped, FunctionTyped}
 use Rattle.data_change.specs.Writing.{insert, update, delete}
-use Rattle.rel_algebra.specs.Meaning.{ask}
-use Rattle.catalog_store.specs.View.{query_of}
+use Rattle.rel_algebra.specs.Doing.{Outcome, Raising, Spent}
+use Rattle.rel_algebra.specs.Meaning.{ask, run, run_call}
+use Rattle.bound_trees.specs.declared.statement.BoundBlock.{BoundBlock}
+use Rattle.bound_trees.specs.declared.statement.BoundBranch.{BoundBranch}
+use Rattle.bound_trees.specs.declared.statement.BoundHandler.{BoundHandler}
+use Rattle.bound_trees.specs.declared.statement.BoundStmt.{BoundStmt, out-BoundStmt}
+use Rattle.bound_trees.specs.declared.statement.BoundStmt.TheOpen.{BoundStmt-F}
+use Rattle.routine_views.specs.Routines.{routines_of}
+use Rattle.routine_views.specs.Views.{arguments, query_in, stmt_in}
+use Rattle.run_places.specs.Places.{no_routine}
 use Rattle.reply_text.specs.Texts.{rows_text}
 use Rattle.psm_effects.specs.Conclusions.{IsEffect}
 use Rattle.psm_effects.specs.Database.{Plain}
-use Rattle.psm_effects.specs.Effects.{Effect, changed_text, replied, world_of}
+use Rattle.psm_effects.specs.Effects.{Effect, changed_text, given_text, replied, world_of}
+use Rattle.psm_effects.specs.Effects.{ended_by, performed}
 use Rattle.psm_session.specs.Bodies.{HasTypedBodies}
 use Rattle.psm_session.specs.Effects.{checked, effect}
 use Rattle.psm_session.proofs.Bodies.{made-typed, dropped-typed}
@@ -206,19 +215,35 @@ made-by known runs (bound.Routine s) f t = tt
 
 -- what a statement without faults makes is well typed, in whatever order its declarations stand
 pub makes-typed : (s : Stmt) (known : Catalog) (b : BoundStatement) →
-    Binds (judged_statement s known) (Ok b) → BoundFits known b.runs b.bound →
+    Binds (judged_statement s known) (Ok b) → BoundFits known b.by_plan b.bound →
     (is_ordered s ≡ true → IsTyped known b.bound) → MakesTyped known b.bound
-makes-typed s known b binds f typed = made-by known b.runs b.bound f
+makes-typed s known b binds f typed = made-by known b.by_plan b.bound f
     (λ h. typed (form-order s ∙ form-planned (out-Stmt s) s known
     (sym (ap (λ (x : BoundStatement). makes_function x.bound) binds.1) ∙ h)))
 
 -- ---- what is left
 
-replied-catalog : {A : Type 0} (text : A → List ℕ) (db : Plain) (e : Ends A) →
+pub replied-catalog : {A : Type 0} (text : A → List ℕ) (db : Plain) (e : Ends A) →
     db.catalog ≡ (replied text db e).after.catalog
 replied-catalog text db (Gives a w) = refl
 replied-catalog text db (Raises area w) = refl
 replied-catalog text db (RunsOut w) = refl
+
+ended-catalog : (db : Plain) (o : Outcome) (w : World) →
+    db.catalog ≡ (ended_by db o w).after.catalog
+ended-catalog db (Raising area) w = refl
+ended-catalog db Spent w = refl
+ended-catalog db _ w = refl
+
+pub done-catalog : (budget : ℕ) (s : BoundStmt)
+    (y : BoundStmt-F BoundStmt BoundBlock BoundBranch BoundHandler) (db : Plain) →
+    db.catalog ≡ (performed budget s y db).after.catalog
+done-catalog budget s (BoundStmt-F.Call c) db =
+    replied-catalog given_text db (run_call (routines_of db.catalog c.procedure)
+    (arguments (no_routine db.catalog) c.arguments) (world_of budget db.tables))
+done-catalog budget s _ db =
+    let e = run (stmt_in (no_routine db.catalog) s []) (world_of budget db.tables) in
+    ended-catalog db e.outcome e.world
 
 -- a statement's effect leaves typed bodies
 pub effect-typed : (budget : ℕ) (b : Bound) (runs : Bool) (db : Plain) →
@@ -229,18 +254,19 @@ effect-typed budget (bound.Create name object) runs db f m t =
 effect-typed budget (bound.Drop name) runs db f m t = dropped-typed db.catalog name t f.1
 effect-typed budget (bound.Insert s listed) runs db f m t =
     subst HasTypedBodies (replied-catalog changed_text db
-    (insert s.table listed (query_of db.catalog s.source) (world_of budget db.tables))) t
+    (insert s.table listed (query_in (no_routine db.catalog) s.source) (world_of budget db.tables))) t
 effect-typed budget (bound.Update s) runs db f m t =
     subst HasTypedBodies (replied-catalog changed_text db
-    (update s.table s.targets (query_of db.catalog s.rows) (world_of budget db.tables))) t
+    (update s.table s.targets (query_in (no_routine db.catalog) s.rows) (world_of budget db.tables))) t
 effect-typed budget (bound.Delete s) runs db f m t =
     subst HasTypedBodies (replied-catalog changed_text db
-    (delete s.table (query_of db.catalog s.rows) (world_of budget db.tables))) t
+    (delete s.table (query_in (no_routine db.catalog) s.rows) (world_of budget db.tables))) t
 effect-typed budget (bound.Query q) runs db f m t =
     subst HasTypedBodies (replied-catalog rows_text db
-    (ask (query_of db.catalog q) (world_of budget db.tables))) t
+    (ask (query_in (no_routine db.catalog) q) (world_of budget db.tables))) t
 effect-typed budget (bound.Explain q) runs db f m t = t
-effect-typed budget (bound.Routine s) runs db f m t = t
+effect-typed budget (bound.Routine s) runs db f m t =
+    subst HasTypedBodies (done-catalog budget s (out-BoundStmt s) db) t
 
 -- and so does what is checked alone
 pub checked-typed : (b : Bound) (runs : Bool) (db : Plain) → BoundFits db.catalog runs b →

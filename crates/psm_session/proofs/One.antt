@@ -16,6 +16,7 @@ use Rattle.bind_statements.specs.Statements.{judged_statement, anchor_of}
 use Rattle.reply_text.specs.declared.fault.FaultText.{FaultText}
 use Rattle.reply_text.specs.Texts.{fault_text}
 use Rattle.psm_effects.specs.Database.{Plain}
+use Rattle.psm_session.specs.Effects.{is_run}
 use Rattle.psm_session.specs.Executing.{HasFault, Executes, Checks, reply_to}
 use Rattle.psm_session.specs.Statement.{Reads, Stops, Doing, IsRead, IsUnread, StatementBy}
 
@@ -27,7 +28,8 @@ no_least faults fault none some = let e : None ≡ Some fault = sym (ap least no
 some_same : {A : Type 0} (a b : A) → Some a ≡ Some b → a ≡ b
 some_same a b e = cc
 
-both_runs : (found : Noted BoundStatement) → found.value.runs ≡ true → found.value.runs ≡ false → ⊥
+both_runs : (found : Noted BoundStatement) → is_run found.value.bound ≡ true →
+    is_run found.value.bound ≡ false → ⊥
 both_runs found p q = let e : true ≡ false = sym p ∙ q in cc
 
 one_fault : (found : Noted BoundStatement) (before : Plain) (r r' : List ℕ) (after after' : Plain) →

@@ -1,15 +1,20 @@
 -- What a valid statement replies, and the database that it leaves, by its form. ISO/IEC 9075-2,
 -- 4.33 (SQL-statements).
-use Rattle.std.specs.Prelude.{ℕ}
+use Rattle.std.specs.Prelude.{ℕ, Bool, true, false}
 use Rattle.catalog_store.specs.Entries.{entry_of}
 use Rattle.bind_direct.specs.declared.bound.Bound.{Bound}
 use Rattle.bind_direct.specs.declared.bound.Bound.TheVariants.{Create, Drop, Insert, Update}
 use Rattle.bind_direct.specs.declared.bound.Bound.TheVariants.{Delete, Query, Explain, Routine}
 use Rattle.psm_effects.specs.Database.{Plain}
 use Rattle.psm_effects.specs.Effects.{Effect, created, dropped, inserted, updated, deleted}
-use Rattle.psm_effects.specs.Effects.{answered, bound_alone}
+use Rattle.psm_effects.specs.Effects.{answered, routine_done, bound_alone}
 
--- with so many turns; EXPLAIN, CALL and compound statements are not run yet
+-- whether a statement of this form is run; EXPLAIN is not yet
+abbrev pub is_run : Bound → Bool
+is_run (Explain query) = false
+is_run _ = true
+
+-- with so many turns
 abbrev pub effect : ℕ → Bound → Plain → Effect
 effect budget (Create name object) db = created (entry_of db.catalog name object) db
 effect budget (Drop name) db = dropped name db
@@ -18,7 +23,7 @@ effect budget (Update s) db = updated budget s db
 effect budget (Delete s) db = deleted budget s db
 effect budget (Query query) db = answered budget query db
 effect budget (Explain query) db = bound_alone db
-effect budget (Routine stmt) db = bound_alone db
+effect budget (Routine stmt) db = routine_done budget stmt db
 
 -- where statements are checked alone definitions are carried out, and all else is bound
 abbrev pub checked : Bound → Plain → Effect

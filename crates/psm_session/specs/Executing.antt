@@ -9,7 +9,7 @@ use Rattle.bind_direct.specs.declared.bound.BoundStatement.{BoundStatement}
 use Rattle.reply_text.specs.declared.fault.FaultText.TheVariants.{Name}
 use Rattle.reply_text.specs.Texts.{fault_text}
 use Rattle.psm_effects.specs.Database.{Plain}
-use Rattle.psm_session.specs.Effects.{effect, checked}
+use Rattle.psm_session.specs.Effects.{is_run, effect, checked}
 
 -- the reply to a fault, with its place
 abbrev pub reply_to : Fault → List ℕ
@@ -23,7 +23,7 @@ refusal at = reply_to (record { at = at; kind = NotPermitted })
 pub record HasEffect (budget : ℕ) (found : Noted BoundStatement) (before : Plain)
     (reply : List ℕ) (after : Plain) : Type 0 where
   pub valid : found.faults ≡ []
-  pub runs : found.value.runs ≡ true
+  pub runs : is_run found.value.bound ≡ true
   pub replies : reply ≡ (effect budget found.value.bound before).reply
   pub leaves : after ≡ (effect budget found.value.bound before).after
 
@@ -31,7 +31,7 @@ pub record HasEffect (budget : ℕ) (found : Noted BoundStatement) (before : Pla
 pub record IsRefused (found : Noted BoundStatement) (at : Anchor) (before : Plain) (reply : List ℕ)
     (after : Plain) : Type 0 where
   pub valid : found.faults ≡ []
-  pub not_run : found.value.runs ≡ false
+  pub not_run : is_run found.value.bound ≡ false
   pub replies : reply ≡ refusal at
   pub leaves : after ≡ before
 

@@ -16,7 +16,7 @@ ghost use Rattle.psm_effects.specs.Preparing.{IsPlanOf, IsPrepared, over, plan_i
 ghost use Rattle.psm_session.specs.Bodies.{IsTypedQuery};
 ghost use Rattle.psm_session.specs.Executing.{Executes, Checks, reply_to, refusal};
 
-use crate::effect::{check_bound, run_bound};
+use crate::effect::{check_bound, is_run, run_bound};
 use bind_faults::{Fault, FaultKind};
 use bind_statements::{NameFault, anchor_of, bind_statement};
 use bound_trees::BoundQuery;
@@ -35,8 +35,9 @@ use syntax_trees::Anchor;
 use table_store::Tables;
 
 /// A catalog, and the tables that it names, each with the columns and the key that it says, in its
-/// order; and the body of each function with a plan is well typed over the entries made before it.
-/// Contracts see both as plain data.
+/// order; the body of each function with a plan is well typed over the entries made before it; and
+/// the head of each routine lists what its body calls, which was made before it, but for the routine
+/// itself. Contracts see both as plain data.
 #[derive(Drop)]
 pub struct Database {
     alloc: Global,
@@ -54,11 +55,13 @@ impl Model for Database {
 
     ghost use Rattle.psm_effects.specs.Conclusions.{database};
     ghost use Rattle.psm_effects.specs.Shapes.{IsWhole};
+    ghost use Rattle.listed_calls.specs.Kept.{CallsListed};
     ghost use Rattle.psm_session.specs.Bodies.{HasTypedBodies};
 
     ghost view = { λ d. database d.catalog d.tables };
 
-    ghost invariant = { λ d. IsWhole (database d.catalog d.tables) × HasTypedBodies d.catalog };
+    ghost invariant = { λ d. IsWhole (database d.catalog d.tables) × (HasTypedBodies d.catalog ×
+        CallsListed d.catalog) };
 }
 
 // The reply to a fault.
@@ -151,12 +154,14 @@ impl Database {
             (anchor_of stmt.now) self.old reply self.new) }
         ensures err { OnErr result (self.new ≡ self.old) }
     {
+        let _entries = self.catalog.len();
         match bind_statement(self.alloc, stmt, &self.catalog) {
             Ok(found) => {
-                if found.runs {
+                if is_run(&found.bound) {
                     run_bound(
                         self.alloc,
                         found.bound,
+                        found.by_plan,
                         budget,
                         &mut self.catalog,
                         &mut self.tables,
@@ -179,6 +184,7 @@ impl Database {
             (anchor_of stmt.now) self.old reply self.new) }
         ensures err { OnErr result (self.new ≡ self.old) }
     {
+        let _entries = self.catalog.len();
         match bind_statement(self.alloc, stmt, &self.catalog) {
             Ok(found) => check_bound(self.alloc, found, &mut self.catalog, &mut self.tables),
             Err(NameFault::Fault(fault)) => name_fault(self.alloc, fault),

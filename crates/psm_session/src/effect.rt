@@ -2,29 +2,44 @@
 
 ghost use Rattle.std.specs.Prelude.{◌≡◌, true, IfOk, OnErr};
 ghost use Rattle.bind_statements.specs.Binds.{BoundFits, StatementFits};
+ghost use Rattle.viewing_laws.specs.Standing.{CallsStandBefore};
 ghost use Rattle.psm_effects.specs.Conclusions.{database, IsEffect};
 ghost use Rattle.psm_effects.specs.Shapes.{IsWhole};
-ghost use Rattle.psm_session.specs.Effects.{effect, checked};
+ghost use Rattle.psm_session.specs.Effects.{is_run as is_run_by, effect, checked};
 
 use bind_direct::{Bound, BoundStatement};
 use catalog_store::Catalog;
-use psm_effects::{create, drop_object, run_delete, run_insert, run_query, run_update};
+use psm_effects::{
+    create, drop_object, run_delete, run_insert, run_query, run_routine, run_update,
+};
 use reply_text::{Reply, done_reply};
 use sql_values::NoMemory;
 use std::alloc::Global;
 use std::mem::drop;
 use table_store::Tables;
 
-/// Does a bound statement of a form that is run, with so many turns, and answers its reply. Without
-/// memory nothing changes. The tables stay those of the catalog.
+/// Whether a statement of this form is run: EXPLAIN is not yet.
+pub(crate) fn is_run(stmt: &Bound) -> bool
+    ensures { result ≡ is_run_by stmt.now }
+{
+    match stmt {
+        Bound::Explain(_) => false,
+        _ => true,
+    }
+}
+
+/// Does a bound statement with so many turns, by plans where it is said that they answer it, and
+/// answers its reply. Without memory nothing changes. The tables stay those of the catalog.
 pub(crate) fn run_bound(
     alloc: Global,
     stmt: Bound,
+    by_plan: bool,
     budget: u64,
     catalog: &mut Catalog,
     tables: &mut Tables,
 ) -> Result<Reply, NoMemory>
-    requires fits { BoundFits catalog.old true stmt }
+    requires fits { BoundFits catalog.old by_plan stmt }
+    requires calls { CallsStandBefore catalog.old }
     requires whole { IsWhole (database catalog.old tables.old) }
     ensures ok { IfOk result (λ r. IsEffect (effect budget stmt (database catalog.old tables.old)) r
         (database catalog.new tables.new)) }
@@ -34,17 +49,35 @@ pub(crate) fn run_bound(
     match stmt {
         Bound::Create(name, object) => create(alloc, name, object, catalog, tables),
         Bound::Drop(name) => drop_object(alloc, &name, catalog, tables),
-        Bound::Insert(insert, listed) => run_insert(alloc, insert, listed, budget, catalog, tables),
-        Bound::Update(update) => run_update(alloc, update, budget, catalog, tables),
-        Bound::Delete(delete) => run_delete(alloc, delete, budget, catalog, tables),
-        Bound::Query(query) => run_query(alloc, query, budget, catalog, tables),
+        Bound::Insert(insert, listed) => {
+            let reply = run_insert(alloc, &insert, &listed, by_plan, budget, catalog, tables);
+            drop(insert);
+            drop(listed);
+            reply
+        }
+        Bound::Update(update) => {
+            let reply = run_update(alloc, &update, by_plan, budget, catalog, tables);
+            drop(update);
+            reply
+        }
+        Bound::Delete(delete) => {
+            let reply = run_delete(alloc, &delete, by_plan, budget, catalog, tables);
+            drop(delete);
+            reply
+        }
+        Bound::Query(query) => {
+            let reply = run_query(alloc, &query, by_plan, budget, catalog, tables);
+            drop(query);
+            reply
+        }
         Bound::Explain(query) => {
             drop(query);
             done_reply(alloc, &[], None)
         }
         Bound::Routine(body) => {
+            let reply = run_routine(alloc, &body, budget, catalog, tables);
             drop(body);
-            done_reply(alloc, &[], None)
+            reply
         }
     }
 }
@@ -64,7 +97,7 @@ pub(crate) fn check_bound(
     ensures err { OnErr result (database catalog.new tables.new ≡ database catalog.old tables.old) }
     ensures whole { IsWhole (database catalog.new tables.new) }
 {
-    let BoundStatement { bound, runs: _ } = stmt;
+    let BoundStatement { bound, by_plan: _ } = stmt;
     match bound {
         Bound::Create(name, object) => create(alloc, name, object, catalog, tables),
         Bound::Drop(name) => drop_object(alloc, &name, catalog, tables),

@@ -9,4 +9,4 @@ mod reply;
 
 pub use area::{area_reply, spent_reply};
 pub use fault::{FaultText, fault_reply};
-pub use reply::{Reply, done_reply, rows_reply};
+pub use reply::{Reply, done_reply, records_reply, rows_reply};

@@ -10,7 +10,7 @@ ghost use Rattle.reply_text.specs.Texts.{done_text};
 use crate::put::{put, put_count};
 use crate::record::{record_writer, write_record, written_text};
 use csv::Writer;
-use row_types::{PlanRow, RowEnd, RowList, Steps};
+use row_types::{PlanRow, Row, RowEnd, RowList, Steps};
 use sql_values::{NoMemory, Value};
 use std::alloc::Global;
 use std::marker::Model;
@@ -104,6 +104,27 @@ pub fn rows_reply<L: Ledger>(
     let total = rows.len() as u64;
     let mut text = records_text(alloc, rows, steps)?;
     put_total(&mut text, total)?;
+    Ok(Reply::of(text))
+}
+
+// The text of a record for each row of values.
+fn value_records(alloc: Global, rows: &[Row]) -> Result<Vec<u8>, NoMemory>
+    ensures { IfOk result (λ text. text.items ≡ flat_map record_text rows.now) }
+{
+    let mut writer = record_writer(alloc);
+    for row in rows {
+        write_record(&mut writer, alloc, row.as_slice())?;
+    }
+    written_text(writer)
+}
+
+/// The reply of a query whose rows are rows of values: a record for each of them, and how many
+/// there are.
+pub fn records_reply(alloc: Global, rows: &[Row]) -> Result<Reply, NoMemory>
+    ensures { IfOk result (λ r. r ≡ rows_text rows.now) }
+{
+    let mut text = value_records(alloc, rows)?;
+    put_total(&mut text, rows.len() as u64)?;
     Ok(Reply::of(text))
 }
 

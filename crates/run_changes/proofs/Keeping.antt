@@ -3,34 +3,29 @@ use Rattle.std.proofs.Common.{ℕ, ◌≡◌, ◌<◌, true, List, length, map, 
 use Rattle.std.proofs.Common.{Err, refl, sym, ap, ◌∙◌, subst}
 use Rattle.std.specs.declared.vec.Vec.{Vec}
 use Rattle.std.specs.declared.alloc.Global.{Global}
-use Rattle.row_types.specs.Ordered.{rises}
 use Rattle.std.specs.List.{list_all}
 use Rattle.std.proofs.lemmas.List.{length-map}
-use Rattle.row_types.specs.Rows.{Row, by_key, fits}
+use Rattle.row_types.specs.Rows.{Row, fits}
 use Rattle.row_types.specs.Tables.{Table, Tables, table_at, table_named, place_named}
-use Rattle.row_types.specs.Writing.{rows_where, inserted}
+use Rattle.row_types.specs.Writing.{inserted}
 use Rattle.row_types.proofs.Laws.{table_named-at, table_named-none, place_named-within}
-use Rattle.row_types.proofs.Laws.{with_rows_named-at, by_key_total, in_order-rises}
-use Rattle.row_types.proofs.Laws.{first_repeat-rises}
+use Rattle.row_types.proofs.Laws.{with_rows_named-at}
 use Rattle.table_store.specs.Kept.{Kept}
-use Rattle.table_store.specs.Memory.{Memory, kept_at, AllWellKept}
-use Rattle.table_store.proofs.Laws.{kept_rises, kept_rows_at}
-use Rattle.atomic_undo.specs.declared.changes.Changes.TheVariants.{Insert, Update, Delete}
-use Rattle.atomic_undo.specs.Changes.{Climb, removed_all}
-use Rattle.rel_algebra.specs.World.{World, Ends, Gives, Eval, each, after, unit, unit_of}
+use Rattle.table_store.specs.Memory.{Memory, kept_at}
+use Rattle.atomic_undo.specs.declared.changes.Changes.TheVariants.{Insert, Update}
+use Rattle.atomic_undo.specs.Changes.{removed_all}
+use Rattle.rel_algebra.specs.World.{World, Ends, Gives, Eval, each, after}
 use Rattle.rel_algebra.specs.World.{with_tables}
 use Rattle.rel_algebra.specs.Writing.{row_for, store_in, stored, keep_rows}
 use Rattle.data_change.specs.Writing.{spread, spread_rows, stored_in, changed_row, change_in}
 use Rattle.data_change.specs.Writing.{remove_in, place_in, places_in, replaced}
-use Rattle.data_change.specs.Met.{StandInOrder}
-use Rattle.data_change.proofs.Laws.{removed_all-rises, stored_in-all}
+use Rattle.data_change.proofs.Laws.{stored_in-all}
 use Rattle.run_choices.specs.declared.stop.Stop.{Stop}
 use Rattle.run_expressions.specs.Content.{Content, world_of}
 use Rattle.run_expressions.specs.Ending.{Ended}
 use Rattle.run_choices.specs.Ending.{TellsAnywhere}
 use Rattle.run_expressions.proofs.Laws.{stays_same, going, stops}
 use Rattle.run_changes.specs.Making.{keep_at, rows_after}
-use Rattle.run_changes.specs.Met.{InOrder, MetInOrder}
 
 abbrev pub Done : Type 0
 Done = Result (Unit {0}) Stop
@@ -46,12 +41,6 @@ kept_named name place (Some rows) w there = ap (λ (ts : Tables). Gives tt (with
 pub place_there : (name : List ℕ) (o : Option ℕ) (there m : Memory) →
     o ≡ place_named name there.tables → there ≡ m → place_named name m.tables ≡ o
 place_there name o there m h is = sym (h ∙ ap (λ (x : Memory). place_named name x.tables) is)
-
--- the rows that are met stand in the table at the place
-met_at : (name : List ℕ) (place : ℕ) (ts : Tables) (met : List Row) →
-    place_named name ts ≡ Some place → MetInOrder ts name met → StandInOrder (table_at ts place) met
-met_at name place ts met there h = subst (λ (o : Option Table). InOrder o met)
-    (table_named-at name ts place there) h
 
 pub there_within : (name : List ℕ) (place : ℕ) (ts : Tables) → place_named name ts ≡ Some place →
     place < length ts
@@ -86,15 +75,6 @@ pub fit_there : (place : ℕ) (k : Kept) (there m : Memory) (rows : List Row) �
 fit_there place k there m rows h is fit = subst
     (λ (x : Table). list_all (fits x.columns x.key) rows ≡ true) (table_there place k there m h is)
     fit
-
--- places of rows that are met climb
-pub climb_there : (name : List ℕ) (place : ℕ) (ts : Tables) (met : List Row) (places : List ℕ) →
-    place_named name ts ≡ Some place → MetInOrder ts name met →
-    places ≡ places_in (table_at ts place) met →
-    Climb 0 places (length (table_at ts place).rows)
-climb_there name place ts met places there h e =
-    subst (λ (ps : List ℕ). Climb 0 ps (length (table_at ts place).rows)) (sym e)
-    (met_at name place ts met there h)
 
 -- there are as many places as new rows
 pub places_many : (places : List ℕ) (met : List Row) (t : Table) (of : Row → Row) (rows : List Row)
@@ -172,13 +152,12 @@ module _ (old : Content) (name : List ℕ) (listed : List ℕ) (new : List Row) 
 -- where no columns are listed
 pub without_list : (old after_it : Content) (name : List ℕ) (listed : Option (List ℕ))
     (new : List Row) (r : Result ℕ Stop) → listed ≡ None →
-    Ended old after_it r (unit (stored name new) (world_of old)) →
-    Ended old after_it r (unit (stored_in name listed new) (world_of old))
+    Ended old after_it r (stored name new (world_of old)) →
+    Ended old after_it r (stored_in name listed new (world_of old))
 without_list old after_it name listed new r none ended =
-    subst (λ (o : Option (List ℕ)). Ended old after_it r
-    (unit (stored_in name o new) (world_of old))) (sym none)
-    (subst (λ (e : Ends ℕ). Ended old after_it r e)
-    (ap (unit_of (world_of old)) (sym (stored_in-all name new (world_of old)))) ended)
+    subst (λ (o : Option (List ℕ)). Ended old after_it r (stored_in name o new (world_of old)))
+    (sym none) (subst (λ (e : Ends ℕ). Ended old after_it r e)
+    (sym (stored_in-all name new (world_of old))) ended)
 
 -- ---- UPDATE
 
@@ -230,29 +209,17 @@ module _ (old : Content) (name : List ℕ) (met : List Row) where
       (ap (λ (o : Option Table). remove_in o name met (world_of old))
       (table_named-none name old.memory.tables none))
 
-  -- rows that are left stand in key order
-  left_in_order : (t : Table) (places : Vec ℕ Global) → rises (by_key t.key) t.rows ≡ true →
-      rows_after t (Delete places) ≡ Some (removed_all places.items t.rows)
-  left_in_order t places up =
-      let R = by_key t.key in
-      let o = by_key_total t.key in
-      let left = removed_all places.items t.rows in
-      let h = removed_all-rises t.key places.items t.rows up in
-      λ i. rows_where (first_repeat-rises R o left h i) (in_order-rises R o left h i)
-
-  pub removes : (after_it : Content) (place : ℕ) (places : Vec ℕ Global) (r : Done) →
-      place_named name old.memory.tables ≡ Some place → AllWellKept old.memory.tables →
-      places.items ≡ places_in (table_at old.memory.tables place) met →
-      Ended old after_it r (keep_at place (rows_after (table_at old.memory.tables place)
-      (Delete places)) (world_of old)) → Ended old after_it r Removes
-  removes after_it place places r there kept same ended =
+  pub removes : (after_it : Content) (place : ℕ) (places : List ℕ) (r : Done) →
+      place_named name old.memory.tables ≡ Some place →
+      places ≡ places_in (table_at old.memory.tables place) met →
+      Ended old after_it r (keep_at place (Some (removed_all places
+      (table_at old.memory.tables place).rows)) (world_of old)) → Ended old after_it r Removes
+  removes after_it place places r there same ended =
       let t = table_at old.memory.tables place in
       subst (λ (e : Ends (Unit {0})). Ended old after_it r e)
       (sym (ap (λ (o : Option Table). remove_in o name met (world_of old))
       (table_named-at name old.memory.tables place there)
       ∙ kept_named name place (Some (removed_all (places_in t met) t.rows)) (world_of old) there
-      ∙ ap (λ (ps : List ℕ). keep_at place (Some (removed_all ps t.rows)) (world_of old)) (sym same)
-      ∙ ap (λ p. keep_at place p (world_of old))
-      (sym (left_in_order t places (kept_rises t.columns t.key t.rows
-      (kept_rows_at old.memory.tables place kept))))))
+      ∙ ap (λ (ps : List ℕ). keep_at place (Some (removed_all ps t.rows)) (world_of old))
+      (sym same)))
       ended

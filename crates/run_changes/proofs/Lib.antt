@@ -1,2 +1,4 @@
 pub mod After
 pub mod Keeping
+pub mod Setting
+pub mod Removing

@@ -1,6 +1,6 @@
 -- One change of the table at a place. ISO/IEC 9075-2, 14.9, 14.11 and 14.14 (delete, insert and
 -- update statement).
-use Rattle.std.specs.Prelude.{ℕ, List, Option, Some, None}
+use Rattle.std.specs.Prelude.{ℕ, zero, suc, List, [], ◌∷◌, ◌++◌, Option, Some, None}
 use Rattle.sql_conditions.specs.declared.condition.EngineCondition.TheVariants.{ConstraintViolated}
 use Rattle.row_types.specs.Ordered.{in_order, first_repeat}
 use Rattle.row_types.specs.Rows.{Row, by_key}
@@ -20,3 +20,8 @@ rows_after t changes = rows_where (first_repeat (by_key t.key) (result_of change
 abbrev pub keep_at : ℕ → Option (List Row) → Eval (Unit {0})
 keep_at place None = raise ConstraintViolated
 keep_at place (Some rows) = λ w. Gives tt (with_tables w (with_rows_at place rows w.tables))
+
+-- the places below a number
+abbrev pub places_below : ℕ → List ℕ
+places_below zero = []
+places_below (suc n) = places_below n ++ n ∷ []

@@ -7,21 +7,19 @@ ghost use Rattle.rel_algebra.specs.World.{unit};
 ghost use Rattle.data_change.specs.Writing.{change_in, changed};
 ghost use Rattle.run_expressions.specs.Content.{world_of};
 ghost use Rattle.run_expressions.specs.Ending.{Ended};
-ghost use Rattle.run_changes.specs.Met.{MetInOrder};
 
-use crate::making::make;
+use crate::any_places::change_at;
 use crate::places::places_in;
 use crate::targets::changed_rows;
-use atomic_undo::Changes;
 use row_types::{Row, RowList, Steps};
 use run_expressions::{Stop, World, leave};
 use run_rows::{row_values, rows_for};
 use sql_values::Name;
 use std::sync::ledger::Ledger;
 
-/// Puts new values into rows of the table of the name, and gives how many rows they are. The rows
-/// are met in the table's order, each with all its columns, and the values for the targets after
-/// them. Where it raises, the tables are as before it. Each row is read in a step.
+/// Puts new values into rows of the table of the name, and gives how many they are. Each is met
+/// with all its columns, and the values for the targets after them. Where it raises, the tables are
+/// as before it. Each row is read in a step.
 pub fn change_rows<L: Ledger>(
     table: &Name,
     targets: &[usize],
@@ -29,7 +27,6 @@ pub fn change_rows<L: Ledger>(
     world: &mut World,
     steps: &mut Steps<L>,
 ) -> Result<u64, Stop>
-    requires { MetInOrder world.old.memory.tables table.now (value_rows met) }
     ensures ends { Ended world.old world.new result
         (unit (changed table.now targets.now (value_rows met)) (world_of world.old)) }
     ensures steps { steps.new ≤ steps.old + length met }
@@ -46,7 +43,6 @@ fn change_all(
     met: Vec<Row>,
     world: &mut World,
 ) -> Result<u64, Stop>
-    requires { MetInOrder world.old.memory.tables table.now met.items }
     ensures { Ended world.old world.new result
         (unit (changed table.now targets.now met.items) (world_of world.old)) }
 {
@@ -57,14 +53,14 @@ fn change_all(
     }
 }
 
-// Changes rows, and says how many they are.
-fn change_counted(
+/// Puts new values into rows of the table of the name, and gives how many they are. They are found
+/// by their keys, and may be met in any order.
+pub fn change_counted(
     table: &Name,
     targets: &[usize],
     met: Vec<Row>,
     world: &mut World,
 ) -> Result<u64, Stop>
-    requires { MetInOrder world.old.memory.tables table.now met.items }
     ensures { Ended world.old world.new result
         (changed table.now targets.now met.items (world_of world.old)) }
 {
@@ -75,7 +71,6 @@ fn change_counted(
 
 // Changes rows of the table of a name; where no table has it nothing is changed.
 fn change(table: &Name, targets: &[usize], met: Vec<Row>, world: &mut World) -> Result<(), Stop>
-    requires { MetInOrder world.old.memory.tables table.now met.items }
     ensures { Ended world.old world.new result
         (change_in (table_named table.now world.old.memory.tables) table.now targets.now met.items
         (world_of world.old)) }
@@ -87,5 +82,5 @@ fn change(table: &Name, targets: &[usize], met: Vec<Row>, world: &mut World) -> 
     let places = places_in(world.allocator(), stored, &met)?;
     let changed = changed_rows(world.allocator(), stored, targets, met)?;
     let rows = rows_for(world.allocator(), stored, changed)?;
-    make(place, Changes::Update(places, rows), world)
+    change_at(place, places, rows, world)
 }

@@ -1,7 +1,8 @@
 //! Changing the rows of a table, in a world: INSERT with a column list, UPDATE and DELETE, each for
-//! rows that a plan gave. No query is run here.
+//! any rows that a query or a plan gave. No query is run here.
 #![tactic(auto)]
 
+mod any_places;
 mod change;
 mod making;
 mod places;
@@ -9,6 +10,6 @@ mod remove;
 mod store;
 mod targets;
 
-pub use change::change_rows;
-pub use remove::remove_rows;
-pub use store::store_rows;
+pub use change::{change_counted, change_rows};
+pub use remove::{remove_counted, remove_rows};
+pub use store::{store_counted, store_rows};

@@ -1,6 +1,7 @@
 //! Where rows stand in their table.
 
-ghost use Rattle.std.specs.Prelude.{◌≡◌, IfOk};
+ghost use Rattle.std.specs.Prelude.{◌≡◌, ◌↔◌, IfOk, IsTrue};
+ghost use Rattle.atomic_undo.specs.Changes.{Climb};
 ghost use Rattle.data_change.specs.Writing.{found_at, place_in as place_by, places_in as places_by};
 
 use row_types::Row;
@@ -34,4 +35,18 @@ pub fn places_in(alloc: Global, table: &Table, met: &[Row]) -> Result<Vec<usize>
         places.push(place_in(table, row))?;
     }
     Ok(places)
+}
+
+/// Whether places increase and are below a number.
+pub fn climb(places: &[usize], most: usize) -> bool
+    ensures { IsTrue result ↔ Climb 0 places.now most }
+{
+    let mut low = 0;
+    for place in places {
+        if *place < low || *place >= most {
+            return false;
+        }
+        low = *place + 1;
+    }
+    true
 }

@@ -7,27 +7,23 @@ ghost use Rattle.rel_algebra.specs.World.{unit};
 ghost use Rattle.data_change.specs.Writing.{remove_in, removed};
 ghost use Rattle.run_expressions.specs.Content.{world_of};
 ghost use Rattle.run_expressions.specs.Ending.{Ended};
-ghost use Rattle.run_changes.specs.Met.{MetInOrder};
 
-use crate::making::make;
+use crate::any_places::remove_at;
 use crate::places::places_in;
-use atomic_undo::Changes;
 use row_types::{Row, RowList, Steps};
 use run_expressions::{Stop, World, leave};
 use run_rows::row_values;
 use sql_values::Name;
 use std::sync::ledger::Ledger;
 
-/// Takes rows out of the table of the name, and gives how many they are. The rows are met in the
-/// table's order, each with all its columns. Where it finds no memory, the tables are as before it.
-/// Each row is read in a step.
+/// Takes rows out of the table of the name, and gives how many they are. Each is met with all its
+/// columns. Where it finds no memory, the tables are as before it. Each row is read in a step.
 pub fn remove_rows<L: Ledger>(
     table: &Name,
     met: RowList,
     world: &mut World,
     steps: &mut Steps<L>,
 ) -> Result<u64, Stop>
-    requires { MetInOrder world.old.memory.tables table.now (value_rows met) }
     ensures ends { Ended world.old world.new result
         (unit (removed table.now (value_rows met)) (world_of world.old)) }
     ensures steps { steps.new ≤ steps.old + length met }
@@ -39,7 +35,6 @@ pub fn remove_rows<L: Ledger>(
 // Removes rows, all or none.
 #[tactic(auto, using(run_expressions::proofs::Laws::unit_stops))]
 fn remove_all(table: &Name, met: Vec<Row>, world: &mut World) -> Result<u64, Stop>
-    requires { MetInOrder world.old.memory.tables table.now met.items }
     ensures { Ended world.old world.new result
         (unit (removed table.now met.items) (world_of world.old)) }
 {
@@ -50,9 +45,10 @@ fn remove_all(table: &Name, met: Vec<Row>, world: &mut World) -> Result<u64, Sto
     }
 }
 
-// Removes rows, and says how many they are.
-fn remove_counted(table: &Name, met: Vec<Row>, world: &mut World) -> Result<u64, Stop>
-    requires { MetInOrder world.old.memory.tables table.now met.items }
+/// Takes rows out of the table of the name, and gives how many they are. They are found by their
+/// keys, and may be met in any order. Where it finds no memory some may be gone, and the caller
+/// takes that back.
+pub fn remove_counted(table: &Name, met: Vec<Row>, world: &mut World) -> Result<u64, Stop>
     ensures { Ended world.old world.new result (removed table.now met.items (world_of world.old)) }
 {
     let count = met.len() as u64;
@@ -62,15 +58,13 @@ fn remove_counted(table: &Name, met: Vec<Row>, world: &mut World) -> Result<u64,
 
 // Removes rows of the table of a name; where no table has it nothing is removed.
 fn remove(table: &Name, met: &[Row], world: &mut World) -> Result<(), Stop>
-    requires { MetInOrder world.old.memory.tables table.now met.now }
     ensures { Ended world.old world.new result
         (remove_in (table_named table.now world.old.memory.tables) table.now met.now
         (world_of world.old)) }
 {
-    let _rows = world.tables().len();
     let Some(place) = world.tables().place_of(table) else {
         return Ok(());
     };
     let places = places_in(world.allocator(), world.tables().table_at(place), met)?;
-    make(place, Changes::Delete(places), world)
+    remove_at(place, places, world)
 }

@@ -33,33 +33,20 @@ pub fn store_rows<L: Ledger>(
         (unit (stored_in table.now listed.now (value_rows new)) (world_of world.old)) }
     ensures steps { steps.new ≤ steps.old + length new }
 {
-    match listed {
-        Some(listed) => store_listed(table, listed.as_slice(), new, world, steps),
-        None => run_rows::store_rows(table, new, world, steps),
-    }
-}
-
-// Stores rows of values for the columns that are listed.
-fn store_listed<L: Ledger>(
-    table: &Name,
-    listed: &[usize],
-    new: RowList,
-    world: &mut World,
-    steps: &mut Steps<L>,
-) -> Result<u64, Stop>
-    ensures ends { Ended world.old world.new result
-        (unit (stored_in table.now (Some listed.now) (value_rows new)) (world_of world.old)) }
-    ensures steps { steps.new ≤ steps.old + length new }
-{
     let rows = row_values(world.allocator(), new, steps)?;
     store_all(table, listed, rows, world)
 }
 
 // Stores rows, all or none.
 #[tactic(auto, using(run_expressions::proofs::Laws::unit_stops))]
-fn store_all(table: &Name, listed: &[usize], new: Vec<Row>, world: &mut World) -> Result<u64, Stop>
+fn store_all(
+    table: &Name,
+    listed: &Option<Items<usize>>,
+    new: Vec<Row>,
+    world: &mut World,
+) -> Result<u64, Stop>
     ensures { Ended world.old world.new result
-        (unit (stored_in table.now (Some listed.now) new.items) (world_of world.old)) }
+        (unit (stored_in table.now listed.now new.items) (world_of world.old)) }
 {
     let mark = world.mark();
     match store_counted(table, listed, new, world) {
@@ -68,8 +55,25 @@ fn store_all(table: &Name, listed: &[usize], new: Vec<Row>, world: &mut World) -
     }
 }
 
-// Stores rows, and says how many they are.
-fn store_counted(
+/// Stores rows in the table of the name, each with NULL in the columns that are not listed, and
+/// gives how many they are.
+pub fn store_counted(
+    table: &Name,
+    listed: &Option<Items<usize>>,
+    new: Vec<Row>,
+    world: &mut World,
+) -> Result<u64, Stop>
+    ensures { Ended world.old world.new result
+        (stored_in table.now listed.now new.items (world_of world.old)) }
+{
+    match listed {
+        Some(listed) => store_listed(table, listed.as_slice(), new, world),
+        None => run_rows::store_counted(table, new, world),
+    }
+}
+
+// Stores rows of values for the columns that are listed.
+fn store_listed(
     table: &Name,
     listed: &[usize],
     new: Vec<Row>,

@@ -69,6 +69,7 @@ handler value = roll-BoundHandler
 abbrev around : ℕ → List BoundHandler → HeldScope
 around level hs = record {
   handlers = record { ref_ptr = (0, 0); now = hs };
+  queries = record { ref_ptr = (0, 0); now = [] };
   level = level;
   variables = 0;
   cursors = 0;

@@ -12,16 +12,19 @@ ghost use Rattle.routine_views.specs.Views.{condition_value};
 ghost use Rattle.run_outcomes.specs.Scopes.{Acts, handling_by, mapped, scopes_by, chosen_by};
 ghost use Rattle.run_outcomes.specs.Scopes.{StandsIn, AmongThem, met_by, taking};
 
-use bound_trees::{BoundConditionValue, BoundHandler};
+use bound_trees::{BoundConditionValue, BoundHandler, BoundQuery};
+use smallvec::SmallVec;
 use sql_conditions::{Class, SqlState};
 use sql_values::NoMemory;
 use std::alloc::Global;
 
-/// The handlers of a compound statement around a statement, how many compound statements and loops
-/// are around it, and how many variables and cursors its actions see.
-#[derive(Clone, Copy)]
+/// The handlers of a compound statement around a statement, the queries of the cursors that its
+/// actions see, how many compound statements and loops are around it, and how many variables and
+/// cursors its actions see.
+#[derive(Clone, Copy, Default)]
 pub struct Scope<'a> {
     pub handlers: &'a [BoundHandler],
+    pub queries: &'a [&'a BoundQuery],
     pub level: usize,
     pub variables: usize,
     pub cursors: usize,
@@ -35,15 +38,15 @@ pub struct Chosen<'a> {
     pub outer: usize,
 }
 
-/// Compound statements, and inside them one more.
+/// Compound statements, and inside them one more. Up to eight take no memory.
 pub fn with_scope<'a>(
     alloc: Global,
     outer: &[Scope<'a>],
     own: Scope<'a>,
-) -> Result<Vec<Scope<'a>>, NoMemory>
+) -> Result<SmallVec<Scope<'a>, 8>, NoMemory>
     ensures { IfOk result (λ v. v.items ≡ outer.now ++ own.entry ∷ []) }
 {
-    let mut scopes = Vec::new(alloc);
+    let mut scopes = SmallVec::new(alloc);
     for scope in outer {
         scopes.push(*scope)?;
     }

@@ -13,23 +13,23 @@ use Rattle.bind_statements.proofs.forms_bound_alone.Goals as goal
 
 pub returns : goal.returns
 returns c = record {
-  form_that_is_run = ap (λ (x : Noted BoundStatement). x.value.runs)
+  planned_form = ap (λ (x : Noted BoundStatement). x.value.by_plan)
       (function-row (codes "G") (new_parameter (codes "X") 4 (integer 5) ∷ []) (integer 8)
       (name (codes "X") 10));
-  form_that_is_run_is_valid = ap (λ (x : Noted BoundStatement). x.faults)
+  planned_form_is_valid = ap (λ (x : Noted BoundStatement). x.faults)
       (function-row (codes "G") (new_parameter (codes "X") 4 (integer 5) ∷ []) (integer 8)
       (name (codes "X") 10));
-  self_call = ap (λ (x : Noted BoundStatement). x.value.runs)
+  self_call = ap (λ (x : Noted BoundStatement). x.value.by_plan)
       (function-row (codes "G") (new_parameter (codes "X") 4 (integer 5) ∷ []) (integer 8)
       (call (codes "G") 10 (name (codes "X") 12 ∷ [])));
-  body_that_is_a_block = ap (λ (x : Noted BoundStatement). x.value.runs)
+  body_that_is_a_block = ap (λ (x : Noted BoundStatement). x.value.by_plan)
       (body-block-row (returning (codes "X") ∷ []));
   with_a_characteristic = characteristic-row deterministic [] (returning (codes "X"));
   of_a_procedure = procedure-row (delete (codes "T") None);
-  of_call = ap (λ (x : Noted BoundStatement). x.value.runs) (call-row 0);
-  of_a_block = ap (λ (x : Noted BoundStatement). x.value.runs)
+  of_call = ap (λ (x : Noted BoundStatement). x.value.by_plan) (call-row 0);
+  of_a_block = ap (λ (x : Noted BoundStatement). x.value.by_plan)
       (block-row (Some (called (codes "L") 0)) 2 (delete (codes "T") None ∷ []));
-  of_explain = ap (λ (x : Noted BoundStatement). x.value.runs) (explain-row (codes "T"));
+  of_explain = ap (λ (x : Noted BoundStatement). x.value.by_plan) (explain-row (codes "T"));
   explain_without_faults = ap (λ (x : Noted BoundStatement). x.faults) (explain-row (codes "T"));
   unknown_table_in_explain = ap (λ (x : Noted BoundStatement). x.faults) (explain-row (codes "U"));
   unknown_procedure = ap (λ (x : Noted BoundStatement). x.faults) (call-row 0);

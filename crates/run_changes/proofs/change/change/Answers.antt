@@ -5,7 +5,7 @@ use Rattle.row_types.specs.Rows.{Row}
 use Rattle.row_types.specs.Tables.{table_at}
 use Rattle.data_change.specs.Writing.{changed_row}
 use Rattle.run_changes.proofs.Keeping.{place_there, there_within, tells_there, places_there}
-use Rattle.run_changes.proofs.Keeping.{fit_there, climb_there, places_many, no_table_changes}
+use Rattle.run_changes.proofs.Keeping.{fit_there, places_many, no_table_changes}
 use Rattle.run_changes.proofs.Keeping.{change_stops, changes}
 use Rattle.run_changes.proofs.change.change.Goals as goal
 
@@ -37,32 +37,28 @@ returns-in_err-rows c =
     c.in_ok-changed.ensures c.in_err-rows.ensures.tells)
     (search rules)
 
-pub make-requires-clause-there : goal.make-requires-clause-there
-make-requires-clause-there c =
+pub change_at-requires-clause-there : goal.change_at-requires-clause-there
+change_at-requires-clause-there c =
     let m = c.args.world.now.memory in
     there_within c.args.table.now c.in-Some.place m.tables
     (place_there c.args.table.now (Some c.in-Some.place) c.tables.result.now m
     c.in-Some.ensures.place c.tables.ensures)
 
-pub make-requires-clause-changes : goal.make-requires-clause-changes
-make-requires-clause-changes c =
+pub change_at-requires-clause-both : goal.change_at-requires-clause-both
+change_at-requires-clause-both c =
     let m = c.args.world.now.memory in
-    let places = places_there c.in-Some.place c.table_at-stored.result.now c.tables-2.result.now m
-    c.deref.result.now c.args.met.items c.in_ok-places.places.items
-    c.table_at-stored.ensures c.tables-2.ensures c.deref.ensures.value c.in_ok-places.ensures in (
-      climb_there c.args.table.now c.in-Some.place m.tables c.args.met.items
-          c.in_ok-places.places.items
-          (place_there c.args.table.now (Some c.in-Some.place) c.tables.result.now m
-          c.in-Some.ensures.place c.tables.ensures) c.requires places,
-      places_many c.in_ok-places.places.items c.args.met.items (table_at m.tables c.in-Some.place)
-          (changed_row c.args.targets.now c.table_at-stored.result.now.table)
-          c.in_ok-rows.rows.items places
-          (c.in_ok-rows.ensures.many ∙ ap (λ (rows : List Row). length rows)
-          c.in_ok-changed.ensures),
-      fit_there c.in-Some.place c.table_at-stored.result.now c.tables-2.result.now m
-          c.in_ok-rows.rows.items c.table_at-stored.ensures c.tables-2.ensures
-          c.in_ok-rows.ensures.fit,
-    )
+    places_many c.in_ok-places.places.items c.args.met.items (table_at m.tables c.in-Some.place)
+    (changed_row c.args.targets.now c.table_at-stored.result.now.table) c.in_ok-rows.rows.items
+    (places_there c.in-Some.place c.table_at-stored.result.now c.tables-2.result.now m
+    c.deref.result.now c.args.met.items c.in_ok-places.places.items c.table_at-stored.ensures
+    c.tables-2.ensures c.deref.ensures.value c.in_ok-places.ensures)
+    (c.in_ok-rows.ensures.many ∙ ap (λ (rows : List Row). length rows) c.in_ok-changed.ensures)
+
+pub change_at-requires-clause-fit : goal.change_at-requires-clause-fit
+change_at-requires-clause-fit c =
+    fit_there c.in-Some.place c.table_at-stored.result.now c.tables-2.result.now
+    c.args.world.now.memory c.in_ok-rows.rows.items c.table_at-stored.ensures c.tables-2.ensures
+    c.in_ok-rows.ensures.fit
 
 pub returns : goal.returns
 returns c =
@@ -70,7 +66,7 @@ returns c =
     changes c.args.world.now c.args.table.now c.args.targets.now c.args.met.items c.in-Some.place
     (place_there c.args.table.now (Some c.in-Some.place) c.tables.result.now m
     c.in-Some.ensures.place c.tables.ensures)
-    c.make.new.world c.in_ok-places.places c.in_ok-rows.rows c.make.result
+    c.change_at.new.world c.in_ok-places.places c.in_ok-rows.rows c.change_at.result
     (places_there c.in-Some.place c.table_at-stored.result.now c.tables-2.result.now m
     c.deref.result.now c.args.met.items c.in_ok-places.places.items
     c.table_at-stored.ensures c.tables-2.ensures c.deref.ensures.value c.in_ok-places.ensures)
@@ -78,4 +74,4 @@ returns c =
     (λ t. map (changed_row c.args.targets.now t) c.args.met.items) (Ok c.in_ok-rows.rows.items)
     c.in_ok-changed.changed.items c.table_at-stored.ensures c.tables-2.ensures
     c.in_ok-changed.ensures c.in_ok-rows.ensures.tells)
-    c.make.ensures
+    c.change_at.ensures

@@ -1,6 +1,7 @@
--- The tables stay those of the catalog, and bodies stay well typed.
+-- The tables stay those of the catalog, bodies stay well typed, and calls listed.
 use Rattle.psm_effects.specs.Conclusions.{database}
 use Rattle.psm_session.specs.Effects.{effect}
+use Rattle.psm_session.proofs.Calls.{effect-listed, left-listed, makes-listed}
 use Rattle.psm_session.proofs.Made.{effect-typed, left-typed, makes-typed}
 use Rattle.psm_session.proofs.database.Database.exec_statement.Goals as goal
 
@@ -10,10 +11,18 @@ invariant_of-self c =
     let b = c.in-Ok.found in
     let found = c.in-Ok.ensures in
     let makes = makes-typed c.args.stmt.now c.self.inside.catalog b found.binds found.fits
-    found.typed in (
+    found.typed in
+    let listed = makes-listed c.args.stmt.now c.self.inside.catalog b c.len-entries.ensures.planned
+    found.binds in (
       c.run_bound.ensures.whole,
-      left-typed c.run_bound.result (effect c.args.budget b.bound old) old
-          (database c.run_bound.new.catalog c.run_bound.new.tables)
-          c.run_bound.ensures.ok c.run_bound.ensures.err c.self.invariant.1
-          (effect-typed c.args.budget b.bound b.runs old found.fits makes c.self.invariant.1),
+      (
+        left-typed c.run_bound.result (effect c.args.budget b.bound old) old
+            (database c.run_bound.new.catalog c.run_bound.new.tables)
+            c.run_bound.ensures.ok c.run_bound.ensures.err c.self.invariant.1.0
+            (effect-typed c.args.budget b.bound b.by_plan old found.fits makes c.self.invariant.1.0),
+        left-listed c.run_bound.result (effect c.args.budget b.bound old) old
+            (database c.run_bound.new.catalog c.run_bound.new.tables)
+            c.run_bound.ensures.ok c.run_bound.ensures.err c.self.invariant.1.1
+            (effect-listed c.args.budget b.bound b.by_plan old found.fits listed c.self.invariant.1.1),
+      ),
     )

@@ -20,7 +20,7 @@ returns c =
     (λ p. IsPrepared (query_of db.catalog q) (table_width db.tables) (kinds_in db.catalog)
     (plan_in p))) c.self.view_is
     (prepared-here here q c.prepare_query.result c.self.invariant.0 c.len-entries.ensures.names
-    c.self.invariant.1
+    c.self.invariant.1.0
     (subst (λ (db : Plain). IsTypedQuery db.catalog q) (sym c.self.view_is) c.requires.typed)
     (subst (λ (db : Plain). planned (query_of db.catalog q) ≡ true) (sym c.self.view_is)
     c.requires.planned)

@@ -1,0 +1,132 @@
+"""The work of routines, for the program in SQL/PSM and for PostgreSQL in PL/pgSQL: what is made first, and the statement that is
+timed, both by a number n. A statement may be run several times over what was made."""
+
+
+def rows(n):
+    values = ",".join(f"({i},{i % 97})" for i in range(n))
+    return f"CREATE TABLE t (k INTEGER PRIMARY KEY, a INTEGER);\nINSERT INTO t VALUES {values};\n"
+
+
+def nothing(n):
+    return ""
+
+
+def empty_table(n):
+    return "CREATE TABLE w (k INTEGER PRIMARY KEY, a INTEGER);\n"
+
+
+def with_rows(text):
+    return lambda n: rows(n) + text
+
+
+def fixed(text):
+    return lambda n: text
+
+
+def loop(body, declared=""):
+    """A loop of n rounds, each of which adds one to i."""
+    return lambda n: f"BEGIN DECLARE i INTEGER DEFAULT 0; {declared}WHILE i < {n} DO {body} END WHILE; END;\n"
+
+
+def pg_loop(body, declared="", first=""):
+    return lambda n: f"DO $$ DECLARE i BIGINT := 0; {declared}BEGIN {first}WHILE i < {n} LOOP {body} END LOOP; END $$;\n"
+
+
+def pg_routine(kind, head, body):
+    return f"CREATE {kind} pg_temp.{head} LANGUAGE plpgsql AS $$ BEGIN {body} END $$;\n"
+
+
+class Work:
+    """What is timed, how many rounds, calls or rows it has, and how it is written for each."""
+
+    def __init__(self, name, n, made, statement, pg_made, pg_statement):
+        self.name = name
+        self.n = n
+        self.made = made
+        self.statement = statement
+        self.pg_made = pg_made
+        self.pg_statement = pg_statement
+
+
+ROUTINES = [
+    Work("rounds of WHILE, with one SET", 1_000_000, nothing, loop("SET i = i + 1;"), nothing, pg_loop("i := i + 1;")),
+    Work(
+        "CALLs of a procedure with one SET",
+        100_000,
+        fixed("CREATE PROCEDURE p (IN x INTEGER, INOUT y INTEGER) SET y = x + 1;\n"),
+        loop("CALL p(i, i);"),
+        fixed(pg_routine("PROCEDURE", "p (x BIGINT, INOUT y BIGINT)", "y := x + 1;")),
+        pg_loop("CALL pg_temp.p(i, i);"),
+    ),
+    Work(
+        "INSERTs of one row, in a loop",
+        10_000,
+        empty_table,
+        loop("SET i = i + 1; INSERT INTO w VALUES (i, i);", "DELETE FROM w; "),
+        empty_table,
+        pg_loop("i := i + 1; INSERT INTO w VALUES (i, i);", first="DELETE FROM w; "),
+    ),
+    Work(
+        "recursions 24 deep",
+        10_000,
+        fixed("CREATE FUNCTION deep (n INTEGER) RETURNS INTEGER\nIF n <= 1 THEN RETURN 1; ELSE RETURN deep(n - 1) + 1; END IF;\n"),
+        loop("SET i = i + deep(24) - 23;"),
+        fixed(pg_routine("FUNCTION", "deep (n BIGINT) RETURNS BIGINT", "IF n <= 1 THEN RETURN 1; ELSE RETURN pg_temp.deep(n - 1) + 1; END IF;")),
+        pg_loop("i := i + pg_temp.deep(24) - 23;"),
+    ),
+    Work(
+        "rows of a function with IF",
+        100_000,
+        with_rows("CREATE FUNCTION g (x INTEGER) RETURNS INTEGER IF x < 50 THEN RETURN x; ELSE RETURN 100 - x; END IF;\n"),
+        fixed("SELECT k, g(a) FROM t;\n"),
+        with_rows(pg_routine("FUNCTION", "g (x BIGINT) RETURNS BIGINT IMMUTABLE", "IF x < 50 THEN RETURN x; ELSE RETURN 100 - x; END IF;")),
+        fixed("SELECT k, pg_temp.g(a) FROM t;\n"),
+    ),
+    Work(
+        "SIGNALs that a CONTINUE handler takes",
+        100_000,
+        nothing,
+        loop(
+            "SET i = i + 1; SIGNAL SQLSTATE '45000';",
+            "DECLARE s VARCHAR(5); DECLARE CONTINUE HANDLER FOR SQLSTATE '45000'\nGET STACKED DIAGNOSTICS CONDITION 1 s = RETURNED_SQLSTATE; ",
+        ),
+        nothing,
+        pg_loop(
+            "i := i + 1; BEGIN RAISE SQLSTATE '45000'; EXCEPTION WHEN SQLSTATE '45000' THEN GET STACKED DIAGNOSTICS s = RETURNED_SQLSTATE; END;",
+            "s TEXT; ",
+        ),
+    ),
+    Work(
+        "rows of a cursor",
+        100_000,
+        rows,
+        fixed(
+            "BEGIN DECLARE x, y, s INTEGER DEFAULT 0; DECLARE at_end BOOLEAN DEFAULT FALSE; DECLARE c CURSOR FOR SELECT k, a FROM t;\n"
+            "DECLARE CONTINUE HANDLER FOR NOT FOUND SET at_end = TRUE; OPEN c; FETCH c INTO x, y;\n"
+            "WHILE NOT at_end DO SET s = s + y; FETCH c INTO x, y; END WHILE; CLOSE c; END;\n"
+        ),
+        rows,
+        fixed(
+            "DO $$ DECLARE x BIGINT; y BIGINT; s BIGINT := 0; c CURSOR FOR SELECT k, a FROM t;\n"
+            "BEGIN OPEN c; LOOP FETCH c INTO x, y; EXIT WHEN NOT FOUND; s := s + y; END LOOP; CLOSE c; END $$;\n"
+        ),
+    ),
+    Work(
+        "rows of FOR",
+        100_000,
+        rows,
+        fixed("BEGIN DECLARE s INTEGER DEFAULT 0; FOR r AS SELECT k, a FROM t DO SET s = s + r.a; END FOR; END;\n"),
+        rows,
+        fixed("DO $$ DECLARE s BIGINT := 0; r RECORD; BEGIN FOR r IN SELECT k, a FROM t LOOP s := s + r.a; END LOOP; END $$;\n"),
+    ),
+    Work(
+        "changes of an ATOMIC block that is undone",
+        10_000,
+        empty_table,
+        lambda n: "BEGIN ATOMIC DECLARE i INTEGER DEFAULT 0; DECLARE UNDO HANDLER FOR SQLEXCEPTION BEGIN END;\n"
+        f"WHILE i < {n} DO SET i = i + 1; INSERT INTO w VALUES (i, i); END WHILE; SIGNAL SQLSTATE '45000'; END;\n",
+        empty_table,
+        lambda n: f"DO $$ DECLARE i BIGINT := 0; BEGIN WHILE i < {n} LOOP i := i + 1; INSERT INTO w VALUES (i, i); END LOOP;\n"
+        "RAISE SQLSTATE '45000'; EXCEPTION WHEN SQLSTATE '45000' THEN NULL; END $$;\n",
+    ),
+]

@@ -1,0 +1,11 @@
+pub mod Noted
+pub mod Values
+pub mod Writing
+pub mod Layers
+pub mod Simple
+pub mod Declarations
+pub mod Blocks
+pub mod Induction
+pub mod Made
+pub mod Kept
+pub mod Laws

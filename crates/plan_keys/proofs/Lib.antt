@@ -1,0 +1,5 @@
+pub mod Bounding
+pub mod Compared
+pub mod KeyOrder
+pub mod Missed
+pub mod SameRows

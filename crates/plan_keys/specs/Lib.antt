@@ -1,0 +1,4 @@
+pub mod Bounds
+pub mod LeftOut
+pub mod Reading
+pub mod Terms

@@ -1,0 +1,5 @@
+pub mod Otherwise
+pub mod Signalling
+pub mod Arms
+pub mod Storing
+pub mod Ends

@@ -1,0 +1,5 @@
+pub mod Otherwise
+pub mod Texts
+pub mod Selecting
+pub mod Writing
+pub mod Scripts
