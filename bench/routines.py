@@ -1,6 +1,8 @@
 """The work of routines, for the program in SQL/PSM and for PostgreSQL in PL/pgSQL: what is made first, and the statement that is
 timed, both by a number n. A statement may be run several times over what was made."""
 
+KEYED = 20_000  # rows of the table that is changed by its key
+
 
 def rows(n):
     values = ",".join(f"({i},{i % 97})" for i in range(n))
@@ -34,6 +36,32 @@ def pg_loop(body, declared="", first=""):
 
 def pg_routine(kind, head, body):
     return f"CREATE {kind} pg_temp.{head} LANGUAGE plpgsql AS $$ BEGIN {body} END $$;\n"
+
+
+def pg_handled(name, body):
+    """A function of x that gives 0 where its body raises."""
+    return pg_routine("FUNCTION", f"{name} (x BIGINT) RETURNS BIGINT", f"{body} EXCEPTION WHEN OTHERS THEN RETURN 0;")
+
+
+HANDLED = (
+    "CREATE FUNCTION inv (x INTEGER) RETURNS INTEGER BEGIN DECLARE EXIT HANDLER FOR SQLEXCEPTION RETURN 0;\n"
+    "RETURN 1 / x; END;\n"
+)
+
+
+def atomic_inserts(declared, last):
+    """An ATOMIC block of n INSERTs, with what it declares and what it does last."""
+    return lambda n: (
+        f"BEGIN ATOMIC DECLARE i INTEGER DEFAULT 0; {declared}\n"
+        f"WHILE i < {n} DO SET i = i + 1; INSERT INTO w VALUES (i, i); END WHILE; {last}END;\n"
+    )
+
+
+UNDONE = atomic_inserts("DECLARE UNDO HANDLER FOR SQLEXCEPTION BEGIN END;", "SIGNAL SQLSTATE '45000'; ")
+
+
+def updates_by_key(n):
+    return "".join(f"UPDATE t SET a = a + 1 WHERE k = {i * 7919 % KEYED};\n" for i in range(n))
 
 
 class Work:
@@ -123,10 +151,90 @@ ROUTINES = [
         "changes of an ATOMIC block that is undone",
         10_000,
         empty_table,
-        lambda n: "BEGIN ATOMIC DECLARE i INTEGER DEFAULT 0; DECLARE UNDO HANDLER FOR SQLEXCEPTION BEGIN END;\n"
-        f"WHILE i < {n} DO SET i = i + 1; INSERT INTO w VALUES (i, i); END WHILE; SIGNAL SQLSTATE '45000'; END;\n",
+        UNDONE,
         empty_table,
         lambda n: f"DO $$ DECLARE i BIGINT := 0; BEGIN WHILE i < {n} LOOP i := i + 1; INSERT INTO w VALUES (i, i); END LOOP;\n"
         "RAISE SQLSTATE '45000'; EXCEPTION WHEN SQLSTATE '45000' THEN NULL; END $$;\n",
+    ),
+    Work(
+        "calls of a function whose EXIT handler is taken each time",
+        10_000,
+        fixed(HANDLED),
+        loop("SET i = i + 1 + inv(0);"),
+        fixed(pg_handled("inv", "RETURN 1 / x;")),
+        pg_loop("i := i + 1 + pg_temp.inv(0);"),
+    ),
+    Work(
+        "calls of a function whose EXIT handler is never taken",
+        10_000,
+        fixed(HANDLED),
+        loop("SET i = i + inv(1);"),
+        fixed(pg_handled("inv", "RETURN 1 / x;")),
+        pg_loop("i := i + pg_temp.inv(1);"),
+    ),
+    Work(
+        "turns whose SET raises and whose CONTINUE handler counts",
+        100_000,
+        nothing,
+        loop(
+            "SET i = i + 1; SET x = 1 / (i - i);",
+            "DECLARE x, c INTEGER DEFAULT 0; DECLARE CONTINUE HANDLER FOR SQLEXCEPTION SET c = c + 1; ",
+        ),
+        nothing,
+        pg_loop(
+            "i := i + 1; BEGIN x := 1 / (i - i); EXCEPTION WHEN division_by_zero THEN c := c + 1; END;",
+            "x BIGINT; c BIGINT := 0; ",
+        ),
+    ),
+    Work(
+        "ATOMIC blocks in ATOMIC blocks, in a loop",
+        10_000,
+        lambda n: empty_table(n) + "INSERT INTO w VALUES (1, 0);\n",
+        loop("SET i = i + 1; BEGIN ATOMIC BEGIN ATOMIC UPDATE w SET a = i WHERE k = 1; END; END;"),
+        lambda n: empty_table(n) + "INSERT INTO w VALUES (1, 0);\n",
+        pg_loop(
+            "i := i + 1; BEGIN BEGIN UPDATE w SET a = i WHERE k = 1; EXCEPTION WHEN OTHERS THEN RAISE; END;\n"
+            "EXCEPTION WHEN OTHERS THEN RAISE; END;"
+        ),
+    ),
+    Work(
+        f"UPDATEs by key, over {KEYED} rows",
+        5_000,
+        fixed(rows(KEYED)),
+        updates_by_key,
+        fixed(rows(KEYED)),
+        updates_by_key,
+    ),
+]
+
+
+class Pair:
+    """What is timed, what it is timed against, how many rounds both have, and how many times the other's time it may take."""
+
+    def __init__(self, name, n, made, statement, other, most):
+        self.name = name
+        self.n = n
+        self.made = made
+        self.statement = statement
+        self.other = other
+        self.most = most
+
+
+PAIRS = [
+    Pair(
+        "a WHILE with a handler that is never taken, against one without",
+        1_000_000,
+        nothing,
+        loop("SET i = i + 1;", "DECLARE CONTINUE HANDLER FOR SQLEXCEPTION SET i = 0; "),
+        loop("SET i = i + 1;"),
+        1.10,
+    ),
+    Pair(
+        "an ATOMIC block of INSERTs that is undone, against one that isn't",
+        100_000,
+        empty_table,
+        UNDONE,
+        atomic_inserts("DECLARE UNDO HANDLER FOR SQLEXCEPTION BEGIN END;", ""),
+        2.0,
     ),
 ]
