@@ -17,8 +17,8 @@ use Rattle.rel_algebra.specs.Plain.{planned_expr}
 use Rattle.rel_algebra.specs.Meaning.{ev, ev_or, call}
 use Rattle.rel_algebra.specs.Returning.{assigned_to}
 use Rattle.rel_algebra.proofs.Laws.{returned_means}
-use Rattle.rel_algebra.proofs.Passing.{expr_is, ending_body}
-use Rattle.rel_algebra.proofs.Planned.{plans}
+use Rattle.rel_algebra.proofs.Laws.{expr_is, ending_body}
+use Rattle.rel_algebra.proofs.Laws.{plans}
 use Rattle.null_guards.specs.Guards.{null_test_trees, guarded_tree}
 use Rattle.null_guards.specs.Laws.{NullCallsMean}
 

@@ -3,3 +3,4 @@ pub mod Compared
 pub mod KeyOrder
 pub mod Missed
 pub mod SameRows
+pub mod Laws

@@ -44,8 +44,8 @@ pub fn places_met(
     places_by(alloc, table, terms.as_slice())
 }
 
-// The same, by the terms.
-fn places_by(alloc: Global, table: &Table, terms: &[Term]) -> Result<Places, NoMemory>
+/// The places of a table's rows outside of which a comparison among these is not true of any row.
+pub fn places_by(alloc: Global, table: &Table, terms: &[Term]) -> Result<Places, NoMemory>
     ensures order { IfOk result (λ p. p.from ≤ p.to) }
     ensures within { IfOk result (λ p. p.to ≤ length table.now.table.rows) }
     ensures before { IfOk result (λ p. list_all (misses terms.now)

@@ -15,7 +15,7 @@ ghost use Rattle.plan_keys.specs.LeftOut.{left_out, node_leaves_out};
 ghost use Rattle.plan_keys.specs.Terms.{holds, misses, said};
 
 use crate::reading::reads_row;
-use crate::turned::turned;
+use crate::sides::turned;
 use plan_scalars::eval_on;
 use rel_algebra::{Node, Scalar};
 use row_types::{Cell, Outer, RowInSight};

@@ -8,3 +8,4 @@ pub use Rattle.plan_nodes.proofs.Picks.{cell_more}
 pub use Rattle.plan_nodes.proofs.Receiving.{received_append, begins_folds, begins_list}
 pub use Rattle.plan_nodes.proofs.Receiving.{came_as_list, form_stays, given_whole, group_came}
 pub use Rattle.plan_nodes.proofs.Receiving.{list_of, list_received, rows_same}
+pub use Rattle.plan_nodes.proofs.Thinning.{all_pairs}

@@ -7,3 +7,4 @@ pub mod Picks
 pub mod Read
 pub mod Receiving
 pub mod Skipped
+pub mod Thinning

@@ -1,6 +1,7 @@
 pub mod Examples
 pub mod Fates
 pub mod Grouping
+pub mod Inner
 pub mod Joins
 pub mod Meeting
 pub mod Passing

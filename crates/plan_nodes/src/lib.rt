@@ -4,6 +4,7 @@
 
 mod ends;
 mod groups;
+mod inner;
 mod joined;
 mod last;
 mod leaves;
@@ -17,6 +18,7 @@ mod stretches;
 
 pub use ends::{sorted_passed, values_passed};
 pub use groups::grouped_passed;
+pub use inner::inner_pairs;
 pub use last::{Last, Way};
 pub use leaves::{add_passed, leaf_passed};
 pub use received::{Received, Wanted};

@@ -32,6 +32,30 @@ pub use Rattle.rel_algebra.proofs.KindTrees.{kinded_plans}
 pub use Rattle.rel_algebra.proofs.Bound.{work_bound}
 pub use Rattle.rel_algebra.proofs.Even.{rows_long}
 pub use Rattle.rel_algebra.proofs.Simple.{none_left}
+pub use Rattle.rel_algebra.proofs.Chains.{Given, InputRemovable, nested_folded, nested_removable}
+pub use Rattle.rel_algebra.proofs.Counts.{all_count}
+pub use Rattle.rel_algebra.proofs.Fitting.{FoldedFits, expr_fits, fold_fits, query_fits}
+pub use Rattle.rel_algebra.proofs.FittingNodes.{EnvFits, Fit, check_fits, if_values_fits, join_fits}
+pub use Rattle.rel_algebra.proofs.FittingNodes.{lt_less, on_each_fits, places_fit, scalar_more}
+pub use Rattle.rel_algebra.proofs.FittingNodes.{scalars_more}
+pub use Rattle.rel_algebra.proofs.Folding.{FoldsAs, FoldedRight, fold_cells, finished_long}
+pub use Rattle.rel_algebra.proofs.Folding.{first_cell}
+pub use Rattle.rel_algebra.proofs.Growing.{grows_same, grown_column, grown_columns, shown_long}
+pub use Rattle.rel_algebra.proofs.Growing.{Grows, grows_at, shown_at, grows_by, first_columns}
+pub use Rattle.rel_algebra.proofs.Growing.{grows_trans, only_at}
+pub use Rattle.rel_algebra.proofs.Induction.{expr_right, query_folds, query_means}
+pub use Rattle.rel_algebra.proofs.Moves.{NotGiven}
+pub use Rattle.rel_algebra.proofs.Nodes.{on_each_den, added_grows, Reads, Yields, added_join}
+pub use Rattle.rel_algebra.proofs.Nodes.{added_long, wider, cells_long}
+pub use Rattle.rel_algebra.proofs.Passing.{expr_is, ending_body}
+pub use Rattle.rel_algebra.proofs.Planned.{Plans, QueryPlans, plans, query_plans}
+pub use Rattle.rel_algebra.proofs.Removable.{PartsOk, expr_ok, query_ok, fold_ok}
+pub use Rattle.rel_algebra.proofs.Rows.{AreCells, are_cells, shown_append, WideEnd}
+pub use Rattle.rel_algebra.proofs.Truths.{and_true, left_true, right_true}
+pub use Rattle.rel_algebra.proofs.Wide.{LongEnd, answer_wide}
+pub use Rattle.rel_algebra.proofs.Widths.{Even, on_each_width, plan_width, width_join, width_more}
+pub use Rattle.rel_algebra.proofs.Words.{assigning_cell, checks_guard, guard, values_more}
+pub use Rattle.rel_algebra.proofs.Words.{if_values_cell}
 
 pub removed_means : RemovedMeans
 removed_means t S ws ps w h fits o = remove_same t S w fits (fits_even t S ws ps h) o

@@ -26,13 +26,27 @@ fn place_in(table: &Table, row: &Row) -> usize
     found(table.place_of(row))
 }
 
-/// The places of rows that are met, in turn. They are found by the keys; no row is copied.
+// The same place, which is looked at first at another one.
+fn place_near(table: &Table, at: usize, row: &Row) -> usize
+    ensures { result ≡ place_by table.now.table row.now }
+{
+    if at < table.len() && table.has_key_at(at, row) {
+        return at;
+    }
+    place_in(table, row)
+}
+
+/// The places of rows that are met, in turn. They are found by the keys; no row is copied. Where
+/// each row stands next after the one before, this is one walk; any other row is searched for.
 pub fn places_in(alloc: Global, table: &Table, met: &[Row]) -> Result<Vec<usize>, NoMemory>
     ensures { IfOk result (λ places. places.items ≡ places_by table.now.table met.now) }
 {
     let mut places = Vec::with_capacity(alloc, met.len())?;
+    let mut next: usize = 0;
     for row in met {
-        places.push(place_in(table, row))?;
+        let place = place_near(table, next, row);
+        places.push(place)?;
+        next = place.saturating_add(1);
     }
     Ok(places)
 }

@@ -14,3 +14,4 @@ pub use Rattle.run_expressions.proofs.Words.{IsCaseOf, is_strict, strict_ends, a
 pub use Rattle.run_expressions.proofs.Words.{case_of_stops, case_of_ends}
 pub use Rattle.run_expressions.proofs.Left.{unit_stops}
 pub use Rattle.run_expressions.proofs.Activations.{turn_ends, activation_ends}
+pub use Rattle.run_expressions.proofs.Stays.{stays_on}

@@ -14,9 +14,8 @@ use crate::copies::{close_more, extend, fill, split_after, tail_of};
 use crate::{Arguments, Aside, Cursor, Extent, Fetched};
 use bound_trees::BoundTarget;
 use row_types::Row;
-use run_choices::value_at;
+use run_choices::{Raise, value_at};
 use smallvec::SmallVec;
-use sql_conditions::{Area, Condition};
 use sql_values::{NoMemory, Value};
 use sqlite_items::Items;
 use std::alloc::Global;
@@ -31,7 +30,7 @@ use std::marker::Model;
 pub struct Frame {
     variables: SmallVec<Value, 4>,
     cursors: Vec<Cursor>,
-    current: Area,
+    current: Raise,
     row_count: u64,
 }
 
@@ -65,7 +64,7 @@ impl Frame {
         Frame {
             variables,
             cursors: Vec::new(alloc),
-            current: Area::of(Condition::success()),
+            current: Raise::success(),
             row_count: 0,
         }
     }
@@ -85,7 +84,7 @@ impl Frame {
     }
 
     /// The current area.
-    pub fn current(&self) -> &Area
+    pub fn current(&self) -> &Raise
         ensures { result.now ≡ self.now.current }
     {
         &self.current
@@ -208,7 +207,7 @@ impl Frame {
     pub fn complete(&mut self, rows: u64)
         ensures { self.new ≡ with_diagnostics success rows self.old }
     {
-        self.set_diagnostics(Area::of(Condition::success()), rows);
+        self.set_diagnostics(Raise::success(), rows);
     }
 
     /// An action of a handler leaves the area of success.
@@ -219,10 +218,10 @@ impl Frame {
     }
 
     /// The current area and ROW_COUNT.
-    pub fn set_diagnostics(&mut self, area: Area, rows: u64)
-        ensures { self.new ≡ with_diagnostics area rows self.old }
+    pub fn set_diagnostics(&mut self, raise: Raise, rows: u64)
+        ensures { self.new ≡ with_diagnostics raise rows self.old }
     {
-        self.current = area;
+        self.current = raise;
         self.row_count = rows;
     }
 

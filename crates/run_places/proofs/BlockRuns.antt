@@ -21,7 +21,7 @@ use Rattle.rel_algebra.specs.Tree as tree
 use Rattle.rel_algebra.specs.Tree.{Query}
 use Rattle.rel_algebra.specs.States.{state_in}
 use Rattle.rel_algebra.specs.World.{World, Frame, Ends, Gives, with_tables}
-use Rattle.rel_algebra.specs.Doing.{Doing, End, Outcome, Exiting, ends, first_of, left_by, settled}
+use Rattle.rel_algebra.specs.Doing.{Doing, End, Outcome, ends, first_of, left_by, settled}
 use Rattle.rel_algebra.specs.Handlers.{Handling, Scopes, acting, best_here, failing}
 use Rattle.rel_algebra.specs.Compounds.{declared_or, exit_by, exit_or, exited, exited_or, left}
 use Rattle.rel_algebra.specs.Compounds.{left_or, raising_whole, scope_in, scopes_in, sealed}
@@ -35,9 +35,10 @@ use Rattle.run_expressions.specs.Content.{Content, IsBackAt, Stays, world_of}
 use Rattle.run_expressions.specs.Units.{IsBackIf}
 use Rattle.run_outcomes.specs.declared.choice.Scope.{Scope as HeldScope}
 use Rattle.run_outcomes.specs.declared.outcome.Outcome.{Outcome as Held}
+use Rattle.run_outcomes.specs.declared.outcome.Outcome.TheVariants as held
 use Rattle.run_outcomes.specs.Outcomes.{outcome_of}
 use Rattle.run_outcomes.specs.Scopes.{handling_by, scopes_by}
-use Rattle.run_outcomes.proofs.Choices.{scopes_by-append}
+use Rattle.run_outcomes.proofs.Laws.{scopes_by-append}
 use Rattle.run_places.specs.declared.place.Place.{Place}
 use Rattle.run_places.specs.Acting.{acts_of, IsWithin, undoes_by}
 use Rattle.run_places.specs.Blocks.{IsSince, body_by, handlers_at, handlings_by, statements_by}
@@ -178,16 +179,14 @@ exit_taken place outer own area h mark start now mid new f g r since best_is bac
 
 -- and where none does
 pub exit_none : (place : Place) (outer : List HeldScope) (own : HeldScope) (area : Area)
-    (mark : ℕ) (start now : Content) (f : Frame) (r : Result Held NoMemory) →
-    IsSince mark start now → best_here (state_in area) (handlings_by place outer own) ≡ None →
-    IfOk r (λ o. outcome_of o ≡ Exiting own.level area) →
-    Ran start now f r (exit_or (best_here (state_in area) (handlings_by place outer own)) own.level
-    area start.memory.tables f (world_of now))
-exit_none place outer own area mark start now f (Err e) since best_is made_is =
-    record { tells = tt; stays = since.stays }
-exit_none place outer own area mark start now f (Ok o) since best_is made_is = record {
+    (mark : ℕ) (start now : Content) (f : Frame) → IsSince mark start now →
+    best_here (state_in area) (handlings_by place outer own) ≡ None →
+    Ran start now f (Ok (held.Exiting own.level area))
+    (exit_or (best_here (state_in area) (handlings_by place outer own)) own.level area
+    start.memory.tables f (world_of now))
+exit_none place outer own area mark start now f since best_is = record {
   tells = ap (λ (x : Option Handling). exit_or x own.level area start.memory.tables f
-      (world_of now)) best_is ∙ ap (λ (x : Outcome). ends x f (world_of now)) (sym made_is);
+      (world_of now)) best_is;
   stays = since.stays;
 }
 

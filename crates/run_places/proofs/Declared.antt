@@ -18,7 +18,7 @@ use Rattle.run_choices.specs.declared.stop.Stop.TheVariants.{Raised, Spent, NoMe
 use Rattle.run_expressions.specs.Content.{Content, world_of, Stays}
 use Rattle.run_expressions.specs.Ending.{Ended}
 use Rattle.run_expressions.proofs.Laws.{rest, stays_same}
-use Rattle.run_expressions.proofs.Stays.{stays_on}
+use Rattle.run_expressions.proofs.Laws.{stays_on}
 use Rattle.run_places.specs.Cost.{perhaps_cost, variables_cost}
 use Rattle.run_places.specs.Defaults.{default_in}
 use Rattle.routine_views.specs.Views.{perhaps}

@@ -26,8 +26,10 @@ pub mod Acting
 pub mod Taking
 pub mod AtLeast
 pub mod BlockRuns
+pub mod Onwards
 pub mod Declared
 pub mod Assigning
 pub mod CursorRuns
 pub mod RowRuns
 pub mod BranchRuns
+pub mod Laws

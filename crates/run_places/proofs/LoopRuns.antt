@@ -16,7 +16,7 @@ use Rattle.run_choices.specs.declared.stop.Stop.TheVariants.{Spent}
 use Rattle.run_expressions.specs.Content.{Content, world_of, Stays}
 use Rattle.run_expressions.specs.Ending.{Ended}
 use Rattle.run_expressions.proofs.Laws.{stays_same}
-use Rattle.run_expressions.proofs.Stays.{stays_on}
+use Rattle.run_expressions.proofs.Laws.{stays_on}
 use Rattle.run_outcomes.specs.declared.outcome.Outcome.{Outcome}
 use Rattle.run_outcomes.specs.declared.outcome.Outcome.TheVariants as held
 use Rattle.run_outcomes.specs.Outcomes.{outcome_of, follows}

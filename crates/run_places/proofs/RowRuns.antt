@@ -12,7 +12,7 @@ use Rattle.run_choices.specs.declared.stop.Stop.TheVariants.{Spent}
 use Rattle.run_expressions.specs.Content.{Content, world_of}
 use Rattle.run_expressions.specs.Ending.{Ended}
 use Rattle.run_expressions.proofs.Laws.{rest}
-use Rattle.run_expressions.proofs.Stays.{stays_on}
+use Rattle.run_expressions.proofs.Laws.{stays_on}
 use Rattle.run_outcomes.specs.declared.levels.AfterBody.TheVariants.{Again, Ends as IsEnd}
 use Rattle.run_outcomes.specs.declared.outcome.Outcome.{Outcome}
 use Rattle.run_outcomes.specs.declared.outcome.Outcome.TheVariants as held

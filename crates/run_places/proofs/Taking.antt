@@ -8,7 +8,7 @@ use Rattle.bound_trees.specs.declared.condition.BoundHandlerType.TheVariants.{Co
 use Rattle.bound_trees.specs.declared.statement.BoundHandler.{out-BoundHandler}
 use Rattle.rel_algebra.specs.States.{state_in, success}
 use Rattle.rel_algebra.specs.World.{World, Frame}
-use Rattle.rel_algebra.specs.Doing.{Doing, End, Outcome as Ending, Exiting, ends, outside, back_in, first_of, settled}
+use Rattle.rel_algebra.specs.Doing.{Doing, End, Exiting, ends, outside, back_in, first_of, settled}
 use Rattle.rel_algebra.specs.Doing.{with_diagnostics}
 use Rattle.rel_algebra.specs.Handlers.{Chosen, acting, act_by, act_or, best, taking}
 use Rattle.routine_views.specs.Views.{handler_type}
@@ -17,6 +17,7 @@ use Rattle.run_expressions.proofs.Laws.{stays_same}
 use Rattle.run_frames.specs.Frames.{Kept, kept_of, with_kept}
 use Rattle.run_outcomes.specs.declared.choice.Chosen.{Chosen as HeldChosen}
 use Rattle.run_outcomes.specs.declared.outcome.Outcome.{Outcome}
+use Rattle.run_outcomes.specs.declared.outcome.Outcome.TheVariants as held
 use Rattle.run_outcomes.specs.Outcomes.{outcome_of}
 use Rattle.run_outcomes.specs.Scopes.{chosen_by, scopes_by, chosen_in}
 use Rattle.run_places.specs.declared.place.Place.{Place}
@@ -156,10 +157,9 @@ module _ (place : Place) (raise area : Area) (raised : Bool) (f g : Frame) (m : 
       ∙ best_is ∙ ap (chosen_by (acts_of place) place.scopes.now) is
 
   -- no handler takes it
-  pub none_ends : (r : Result Outcome NoMemory) → o ≡ None →
-      IfOk r (λ x. ends (outcome_of x) ≡ untaken_by raised area) → Ran m m g r taken_end
-  none_ends (Err e) is made = record { tells = tt; stays = stays_same m }
-  none_ends (Ok x) is made = record {
+  pub none_ends : (x : Outcome) → o ≡ None → ends (outcome_of x) ≡ untaken_by raised area →
+      Ran m m g (Ok x) taken_end
+  none_ends x is made = record {
     tells =
         none_takes place raise (untaken_by raised raise) f g (world_of m) shown (best_by None is)
         ∙ ap (λ (a : Area). untaken_by raised a g (world_of m)) (sym same)
@@ -168,16 +168,14 @@ module _ (place : Place) (raise area : Area) (raised : Bool) (f g : Frame) (m : 
   }
 
   -- EXIT and UNDO
-  pub outwards_ends : (c : HeldChosen) (r : Result Outcome NoMemory) → o ≡ Some c →
+  pub outwards_ends : (c : HeldChosen) → o ≡ Some c →
       false ≡ stays_after (out-BoundHandler c.handler.now).handler_type →
-      IfOk r (λ x. outcome_of x ≡ Exiting c.scope.level area) → Ran m m g r taken_end
-  outwards_ends c (Err e) is goes made = record { tells = tt; stays = stays_same m }
-  outwards_ends c (Ok x) is goes made = record {
+      Ran m m g (Ok (held.Exiting c.scope.level area)) taken_end
+  outwards_ends c is goes = record {
     tells =
         taken_outwards place raise (untaken_by raised raise) f g (world_of m) shown c
         (best_by (Some c) is) (sym goes)
-        ∙ ap (λ (a : Area). ends (Exiting c.scope.level a) g (world_of m)) (sym same)
-        ∙ ap (λ (y : Ending). ends y g (world_of m)) (sym made);
+        ∙ ap (λ (a : Area). ends (Exiting c.scope.level a) g (world_of m)) (sym same);
     stays = stays_same m;
   }
 

@@ -20,7 +20,7 @@ use Rattle.run_places.specs.declared.getting.Reading.{Reading as HeldReading}
 
 -- what is read
 abbrev pub reading_in : HeldReading → Reading
-reading_in r = record { area = r.area.now; row_count = r.row_count }
+reading_in r = record { area = r.raise.now; row_count = r.row_count }
 
 -- ---- values
 

@@ -14,5 +14,6 @@ pub mod Activations
 pub mod Passing
 pub mod Acting
 pub mod Blocks
+pub mod Onward
 pub mod Defaults
 pub mod Getting

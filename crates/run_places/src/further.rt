@@ -8,8 +8,8 @@ ghost use Rattle.routine_views.specs.Views.{Known, query_in};
 
 use crate::place::Place;
 use bound_trees::BoundQuery;
+use run_choices::Raise;
 use run_outcomes::Scope;
-use sql_conditions::Area;
 use sql_values::NoMemory;
 use std::alloc::Global;
 
@@ -36,9 +36,9 @@ pub fn in_action<'a>(
     place: &Place<'a>,
     outer: &'a [Scope<'a>],
     scope: &Scope<'a>,
-    area: &'a Area,
+    handled: &'a Raise,
 ) -> Result<Place<'a>, NoMemory>
-    ensures { IfOk result (λ p. IsAction place.now outer.now scope.now area.now p) }
+    ensures { IfOk result (λ p. IsAction place.now outer.now scope.now handled.now p) }
 {
     match scope.level.checked_add(1) {
         Some(level) => Ok(Place {
@@ -47,7 +47,7 @@ pub fn in_action<'a>(
             cursors: scope.queries,
             scopes: outer,
             level,
-            stacked: Some(area),
+            stacked: Some(handled),
         }),
         None => Err(NoMemory),
     }

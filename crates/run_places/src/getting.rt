@@ -11,7 +11,8 @@ ghost use Rattle.routine_views.specs.Views.{statement_read, target as target_of,
 ghost use Rattle.run_choices.specs.Ending.{TellsAnywhere};
 ghost use Rattle.run_places.specs.Blocks.{made};
 ghost use Rattle.run_places.specs.Getting.{condition_targets, condition_values as values_by};
-ghost use Rattle.run_places.specs.Getting.{gets, number_in, numbered_in, reading_in, reads_into};
+ghost use Rattle.run_places.specs.Getting.{gets, number_in, numbered_in, of_condition, reading_in};
+ghost use Rattle.run_places.specs.Getting.{reads_into};
 ghost use Rattle.run_places.specs.Getting.{statement_targets, statement_values as all_by};
 ghost use Rattle.run_places.specs.Getting.{targets_read, values_read};
 
@@ -20,16 +21,17 @@ use bound_trees::{
     BoundArea, BoundConditionItem, BoundConditionRead, BoundDiagnostics, BoundExpr,
     BoundInformation, BoundStatementItem, BoundStatementRead, BoundTarget,
 };
+use run_choices::Raise;
 use run_expressions::{Frame, Stop};
-use sql_conditions::{Area, Condition, EngineCondition};
+use sql_conditions::{Condition, EngineCondition};
 use sql_values::{NoMemory, Value};
-use sqlite_items::{Items, at};
+use sqlite_items::Items;
 use std::alloc::Global;
 
 // The conditions that are read, and ROW_COUNT.
 #[derive(Clone, Copy)]
 struct Reading<'a> {
-    area: &'a Area,
+    raise: &'a Raise,
     row_count: u64,
 }
 
@@ -37,7 +39,7 @@ struct Reading<'a> {
 // stacked conditions.
 fn reading_of<'a>(
     which: BoundArea,
-    stacked: Option<&'a Area>,
+    stacked: Option<&'a Raise>,
     frame: &'a Frame,
 ) -> Option<Reading<'a>>
     ensures { option_map reading_in result
@@ -45,10 +47,13 @@ fn reading_of<'a>(
 {
     match (which, stacked) {
         (BoundArea::Current, _) => Some(Reading {
-            area: frame.current(),
+            raise: frame.current(),
             row_count: frame.row_count(),
         }),
-        (BoundArea::Stacked, Some(area)) => Some(Reading { area, row_count: 0 }),
+        (BoundArea::Stacked, Some(raise)) => Some(Reading {
+            raise,
+            row_count: 0,
+        }),
         (BoundArea::Stacked, None) => None,
     }
 }
@@ -61,7 +66,7 @@ fn statement_item(item: BoundStatementItem, reading: &Reading) -> Result<Value, 
         (λ v. v ≡ statement_item_by (reading_in reading.now) (statement_item_of item)) }
 {
     match item {
-        BoundStatementItem::Number => Ok(Value::Int(reading.area.len() as i64)),
+        BoundStatementItem::Number => Ok(Value::Int(reading.raise.len() as i64)),
         BoundStatementItem::RowCount => match i64::try_from(reading.row_count) {
             Ok(count) => Ok(Value::Int(count)),
             Err(_) => Err(NoMemory),
@@ -84,17 +89,17 @@ fn condition_item(
 }
 
 // The condition of a number, from one on.
-fn condition_of<'a>(number: &Option<Value>, area: &'a Area) -> Option<&'a Condition>
-    ensures { option_copied result ≡ numbered_in number.now area.now }
+fn condition_of(number: &Option<Value>, raise: &Raise) -> Result<Option<Condition>, NoMemory>
+    ensures { IfOk result (λ c. c ≡ numbered_in number.now raise.now) }
 {
     match number {
         Some(Value::Int(number)) => {
             if *number < 1 {
-                return None;
+                return Ok(None);
             }
-            at(area.as_slice(), (*number - 1) as usize)
+            raise.condition((*number - 1) as usize)
         }
-        _ => None,
+        _ => Ok(None),
     }
 }
 
@@ -129,13 +134,28 @@ fn condition_values(
     Ok(values)
 }
 
-// The values that are read. Without an area that is read it raises 0Z002, and with a number of no
-// condition 35000.
+// The values of items of the condition of a number; with a number of no condition it raises 35000.
+fn numbered_values(
+    alloc: Global,
+    number: &Option<Value>,
+    raise: &Raise,
+    reads: &[BoundConditionRead],
+) -> Result<Items<Value>, Stop>
+    ensures { TellsAnywhere result
+        (of_condition (numbered_in number.now raise.now) (map condition_read reads.now)) }
+{
+    match condition_of(number, raise)? {
+        Some(condition) => Ok(condition_values(alloc, &condition, reads)?),
+        None => Err(Stop::of(EngineCondition::InvalidConditionNumber)),
+    }
+}
+
+// The values that are read. Without an area that is read it raises 0Z002.
 fn values_of(
     alloc: Global,
     statement: &BoundDiagnostics,
     number: &Option<Value>,
-    stacked: Option<&Area>,
+    stacked: Option<&Raise>,
     frame: &Frame,
 ) -> Result<Items<Value>, Stop>
     ensures { TellsAnywhere result (values_read (option_copied stacked.entry) statement.now.area
@@ -146,10 +166,9 @@ fn values_of(
             BoundInformation::Statement(reads) => {
                 Ok(statement_values(alloc, &reading, reads.as_slice())?)
             }
-            BoundInformation::Condition(_, reads) => match condition_of(number, reading.area) {
-                Some(condition) => Ok(condition_values(alloc, condition, reads.as_slice())?),
-                None => Err(Stop::of(EngineCondition::InvalidConditionNumber)),
-            },
+            BoundInformation::Condition(_, reads) => {
+                numbered_values(alloc, number, reading.raise, reads.as_slice())
+            }
         },
         None => Err(Stop::of(EngineCondition::StackedWithoutHandler)),
     }
@@ -223,7 +242,7 @@ fn store_read(
 /// evaluates nothing for stacked conditions.
 pub fn number_of<'a>(
     statement: &'a BoundDiagnostics,
-    stacked: Option<&Area>,
+    stacked: Option<&Raise>,
 ) -> Option<&'a BoundExpr>
     ensures { option_copied result
         ≡ number_in (option_copied stacked.entry) statement.now.area statement.now.information }
@@ -244,7 +263,7 @@ pub fn get(
     alloc: Global,
     statement: &BoundDiagnostics,
     number: &Option<Value>,
-    stacked: Option<&Area>,
+    stacked: Option<&Raise>,
     frame: &mut Frame,
 ) -> Result<(), Stop>
     ensures ends { TellsAnywhere (made result frame.new) (gets (option_copied stacked.entry)

@@ -5,8 +5,8 @@ ghost use Rattle.viewing_laws.specs.Standing.{CallsStandBefore};
 
 use bound_trees::BoundQuery;
 use catalog_store::{Catalog, InterpretedFunction, Procedure};
+use run_choices::Raise;
 use run_outcomes::Scope;
-use sql_conditions::Area;
 use sql_values::Name;
 
 /// A routine whose body is a statement (ISO/IEC 9075-2, 11.60).
@@ -37,6 +37,6 @@ pub struct Place<'a> {
     pub cursors: &'a [&'a BoundQuery],
     pub scopes: &'a [Scope<'a>],
     pub level: usize,
-    pub stacked: Option<&'a Area>,
+    pub stacked: Option<&'a Raise>,
     ghost calls: { CallsStandBefore catalog.now } by { before-prop catalog.now },
 }

@@ -2,7 +2,7 @@
 //! nothing is run.
 
 ghost use Rattle.std.specs.Prelude.{◌≡◌, ◌≤◌, length, true, false, IfOk, OnOk, Ok, Err};
-ghost use Rattle.rel_algebra.specs.Doing.{ends, with_diagnostics, Exiting};
+ghost use Rattle.rel_algebra.specs.Doing.{ends, with_diagnostics};
 ghost use Rattle.rel_algebra.specs.World.{turn};
 ghost use Rattle.run_choices.specs.declared.stop.Stop.TheVariants.{Spent};
 ghost use Rattle.run_expressions.specs.Content.{Stays, world_of};
@@ -18,20 +18,18 @@ use run_choices::Raise;
 use run_expressions::{Stop, World};
 use run_frames::{Aside, Frame};
 use run_outcomes::Outcome;
-use sql_conditions::Area;
 use sql_values::NoMemory;
-use std::alloc::Global;
 
-/// A statement raises: the current area is that of its conditions, which are handed out.
-pub fn show(raise: Raise, frame: &mut Frame) -> Result<Area, NoMemory>
-    ensures area { IfOk result (λ a. a ≡ raise) }
+/// A statement raises: its conditions, which are handed out, are the current ones too. Both share
+/// their area.
+pub fn show(raise: Raise, frame: &mut Frame) -> Result<Raise, NoMemory>
+    ensures same { IfOk result (λ r. r ≡ raise) }
     ensures shown { OnOk result (frame.new ≡ with_diagnostics raise 0 frame.old) }
 {
-    let area = raise.into_area();
-    match area.copied() {
+    match raise.copied() {
         Ok(copy) => {
             frame.set_diagnostics(copy, 0);
-            Ok(area)
+            Ok(raise)
         }
         Err(NoMemory) => Err(NoMemory),
     }
@@ -60,20 +58,13 @@ pub fn takes_back(handler_type: BoundHandlerType) -> bool
 }
 
 /// What no handler takes is raised, or dropped.
-pub fn untaken(alloc: Global, raised: bool, area: Area) -> Result<Outcome, NoMemory>
-    ensures { IfOk result (λ o. ends (outcome_of o) ≡ untaken_by raised area) }
+pub fn untaken(raised: bool, raise: Raise) -> Outcome
+    ensures { ends (outcome_of result) ≡ untaken_by raised raise }
 {
     if raised {
-        return Ok(Outcome::Raising(Raise::held(alloc, area)?));
+        return Outcome::Raising(raise);
     }
-    Ok(Outcome::Next)
-}
-
-/// To the end of the compound statement at a level, of which a handler takes what is raised.
-pub fn exiting(alloc: Global, level: usize, area: Area) -> Result<Outcome, NoMemory>
-    ensures { IfOk result (λ o. outcome_of o ≡ Exiting level area) }
-{
-    Ok(Outcome::Exiting(level, Raise::held(alloc, area)?))
+    Outcome::Next
 }
 
 /// What was kept aside while an action ran comes back, where it has ended so.

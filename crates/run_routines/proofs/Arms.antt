@@ -12,8 +12,8 @@ use Rattle.rel_algebra.specs.Meaning.{Context, does, does_all, inside}
 use Rattle.routine_views.specs.Views.{Known, View, query_in, stmt_in, target}
 use Rattle.run_places.specs.Ran.{before_by, after_by}
 use Rattle.run_places.specs.Statements.{stmts_in}
-use Rattle.run_places.proofs.SeenStatements.{stmt_in-While, stmt_in-Repeat}
-use Rattle.run_places.proofs.SeenStatements.{stmt_in-SelectInto}
+use Rattle.run_places.proofs.Laws.{stmt_in-While, stmt_in-Repeat}
+use Rattle.run_places.proofs.Laws.{stmt_in-SelectInto}
 
 module _ (k : Known) (s : BoundStmt) (e : BoundExpr) (body run : List BoundStmt)
     (cursors : List Query) (c : Context) (f : Frame) (w : World) (as_is : run ≡ body) where

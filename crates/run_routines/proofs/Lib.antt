@@ -3,3 +3,4 @@ pub mod Signalling
 pub mod Arms
 pub mod Storing
 pub mod Ends
+pub mod Selected

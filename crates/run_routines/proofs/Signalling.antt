@@ -20,8 +20,8 @@ use Rattle.run_expressions.specs.Ending.{Ended}
 use Rattle.run_expressions.proofs.Laws.{stops_too}
 use Rattle.run_outcomes.specs.declared.outcome.Outcome.{Outcome}
 use Rattle.run_places.specs.Ran.{Ran}
-use Rattle.run_places.proofs.DiagnosticsRuns.{some_unit}
-use Rattle.run_places.proofs.Underway.{ends_with, underway, value_gives}
+use Rattle.run_places.proofs.Laws.{some_unit}
+use Rattle.run_places.proofs.Laws.{ends_with, underway, value_gives}
 use Rattle.run_routines.specs.Texts.{text_in}
 
 -- ---- the text

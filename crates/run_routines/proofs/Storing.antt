@@ -6,7 +6,7 @@ use Rattle.run_choices.specs.Ending.{Tells}
 use Rattle.run_expressions.specs.Content.{Content, world_of}
 use Rattle.run_expressions.specs.Ending.{Ended}
 use Rattle.run_expressions.proofs.Laws.{stops_too}
-use Rattle.run_expressions.proofs.Stays.{stays_on}
+use Rattle.run_expressions.proofs.Laws.{stays_on}
 use Rattle.run_routines.specs.Writing.{GoesOnWith}
 
 -- what goes on from an answer, after it

@@ -29,7 +29,7 @@ use run_choices::Raise;
 use run_expressions::{Stop, World};
 use run_frames::Frame;
 use run_outcomes::{Outcome, Scope, choose_here, left, with_scope};
-use run_places::{Place, back_if, exiting, seen_outside, takes_back, with_cursors, within};
+use run_places::{Onward, Place, back_if, sealed, seen_outside, takes_back, with_cursors, within};
 use sql_values::NoMemory;
 
 /// A compound statement. What was declared leaves as it ends, in whatever way.
@@ -240,13 +240,13 @@ fn exit(
         (handlings_by place.now outer.now own.now)) own.now.level raise start.memory.tables
         frame.old (world_of world.old)) }
 {
-    let area = raise.into_area();
-    match choose_here(area.state(), own.handlers) {
+    let state = raise.state();
+    match choose_here(&state, own.handlers) {
         Some(handler) => {
             back_if(takes_back(handler.handler_type), mark, world);
-            act(handler, own, outer, &area, frame, world, place)
+            act(handler, own, outer, &raise, frame, world, place)
         }
-        None => exiting(world.allocator(), own.level, area),
+        None => Ok(Outcome::Exiting(own.level, raise)),
     }
 }
 
@@ -265,14 +265,9 @@ fn seal(
         Ran start world.new frame.new result (sealed_or atomic (scopes_of place.now)
         start.memory.tables (outcome_of outcome) frame.old (world_of world.old)) }
 {
-    match outcome {
-        Outcome::Raising(raise) => {
-            if atomic {
-                return raise_whole(true, mark, raise, frame, world, place);
-            }
-            Ok(Outcome::Raising(raise))
-        }
-        other => Ok(other),
+    match sealed(atomic, mark, outcome, world) {
+        Onward::Fails(raise) => fail(raise, frame, world, place),
+        Onward::Ends(outcome) => Ok(outcome),
     }
 }
 

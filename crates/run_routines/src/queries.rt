@@ -1,6 +1,8 @@
 //! Queries.
 
 ghost use Rattle.std.specs.Prelude.{map};
+ghost use Rattle.std.specs.Option.{option_map};
+ghost use Rattle.bound_trees.specs.declared.query.BoundSelect.{out-BoundSelect};
 ghost use Rattle.rel_algebra.specs.Meaning.{answer, from_rows as from_by};
 ghost use Rattle.catalog_store.specs.View.{from_of};
 ghost use Rattle.run_expressions.specs.Content.{world_of};
@@ -8,7 +10,8 @@ ghost use Rattle.run_expressions.specs.Ending.{Ended};
 ghost use Rattle.run_choices.specs.Sight.{seen};
 ghost use Rattle.routine_views.specs.Views.{query_in};
 ghost use Rattle.run_places.specs.Places.{known_of, self_of};
-ghost use Rattle.run_places.specs.Views.{select_in, item_in, source_in};
+ghost use Rattle.run_places.specs.Views.{exprs_in, grouping_in, select_in, item_in, source_in};
+ghost use Rattle.run_keys.specs.Made.{made_of as made_by};
 
 use crate::from::join;
 use crate::groups::grouped;
@@ -17,6 +20,7 @@ use crate::records::records_of;
 use bound_trees::{BoundFromItem, BoundQuery, BoundSelect, BoundSource};
 use row_types::Row;
 use run_expressions::{Frame, RowsInSight, Stop, World};
+use run_keys::met_rows;
 use run_places::{Place, item_source};
 use run_rows::{closed, ordered, table_rows};
 use sqlite_items::Items;
@@ -46,8 +50,8 @@ pub fn answer_query(
     }
 }
 
-// The rows of a SELECT: records of the rows of FROM one by one, or of their groups. FROM is
-// complete before its first row goes on.
+// The rows of a SELECT. Of one table only those rows are read that its first conjuncts can let through
+// by the table's key.
 #[cycle(run)]
 fn select(
     query: &BoundSelect,
@@ -60,23 +64,50 @@ fn select(
         (answer (select_in (known_of place.now) query.now) (self_of place.now) (seen outer.now) frame.now
         (world_of world.old)) }
 {
+    match met_rows(query, outer, frame, &*world)? {
+        Some(rows) => made_of(query, rows.as_slice(), outer, frame, world, place),
+        None => select_all(query, outer, frame, world, place),
+    }
+}
+
+// The same by all rows of FROM, which is complete before its first row goes on.
+#[cycle(run)]
+fn select_all(
+    query: &BoundSelect,
+    outer: &RowsInSight,
+    frame: &Frame,
+    world: &mut World,
+    place: &Place,
+) -> Result<Items<Row>, Stop>
+    ensures { Ended world.old world.new result
+        (answer (select_in (known_of place.now) query.now) (self_of place.now) (seen outer.now) frame.now
+        (world_of world.old)) }
+{
     let rows = from_rows(query.from.as_slice(), outer, frame, world, place)?;
+    made_of(query, rows.as_slice(), outer, frame, world, place)
+}
+
+// What a SELECT makes of rows of its FROM: records of the rows one by one, or of their groups.
+#[cycle(run)]
+fn made_of(
+    query: &BoundSelect,
+    rows: &[Row],
+    outer: &RowsInSight,
+    frame: &Frame,
+    world: &mut World,
+    place: &Place,
+) -> Result<Items<Row>, Stop>
+    ensures { Ended world.old world.new result
+        (made_by (option_map (grouping_in (known_of place.now)) (out-BoundSelect query.now).grouping)
+        (self_of place.now) (exprs_in (known_of place.now) (out-BoundSelect query.now).items)
+        (exprs_in (known_of place.now) (out-BoundSelect query.now).conjuncts) (seen outer.now)
+        frame.now rows.now (world_of world.old)) }
+{
     let list = query.items.as_slice();
     let tests = query.conjuncts.as_slice();
     match &query.grouping {
-        Some(grouping) => {
-            grouped(
-                grouping,
-                tests,
-                list,
-                rows.as_slice(),
-                outer,
-                frame,
-                world,
-                place,
-            )
-        }
-        None => records_of(list, tests, rows.as_slice(), outer, frame, world, place),
+        Some(grouping) => { grouped(grouping, tests, list, rows, outer, frame, world, place) }
+        None => records_of(list, tests, rows, outer, frame, world, place),
     }
 }
 

@@ -15,8 +15,9 @@ use run_choices::Raise;
 use run_expressions::{Stop, World};
 use run_frames::{Extent, Frame};
 use run_outcomes::{Chosen, Outcome, Scope, choose};
-use run_places::{Place, come_back, exiting, goes_on_after, in_action, outermost, show, untaken};
-use sql_conditions::Area;
+use run_places::{
+    Onward, Place, after_stop, come_back, goes_on_after, in_action, outermost, show, untaken,
+};
 use sql_values::NoMemory;
 
 /// A statement goes on from where an evaluation in it stopped: it raises what is raised.
@@ -29,10 +30,12 @@ pub fn stopped(
 ) -> Result<Outcome, NoMemory>
     ensures { GoesOnFrom stop (scopes_of place.now) world.old world.new frame.old frame.new result }
 {
-    match stop {
-        Stop::Raised(raise) => fail(raise, frame, world, place),
-        Stop::Spent => Ok(Outcome::Spent),
-        Stop::NoMemory => Err(NoMemory),
+    match after_stop(stop) {
+        Ok(next) => match next {
+            Onward::Fails(raise) => fail(raise, frame, world, place),
+            Onward::Ends(outcome) => Ok(outcome),
+        },
+        Err(NoMemory) => Err(NoMemory),
     }
 }
 
@@ -80,15 +83,16 @@ fn take(
         (taking (scopes_of place.now) raise (untaken_by raised raise) frame.old
         (world_of world.old)) }
 {
-    let area = show(raise, frame)?;
-    match choose(area.state(), place.scopes) {
+    let shown = show(raise, frame)?;
+    let state = shown.state();
+    match choose(&state, place.scopes) {
         Some(chosen) => {
             if goes_on_after(chosen.handler.handler_type) {
-                return act_aside(&chosen, &area, frame, world, place);
+                return act_aside(&chosen, &shown, frame, world, place);
             }
-            exiting(world.allocator(), chosen.scope.level, area)
+            Ok(Outcome::Exiting(chosen.scope.level, shown))
         }
-        None => untaken(world.allocator(), raised, area),
+        None => Ok(untaken(raised, shown)),
     }
 }
 
@@ -97,7 +101,7 @@ fn take(
 #[cycle(run)]
 fn act_aside(
     chosen: &Chosen,
-    area: &Area,
+    handled: &Raise,
     frame: &mut Frame,
     world: &mut World,
     place: &Place,
@@ -106,7 +110,7 @@ fn act_aside(
     ensures { Ran world.old world.new frame.new result
         (outside chosen.now.scope.variables chosen.now.scope.cursors (λ f w. settled
         (acts_of place.now (scopes_by (acts_of place.now) (first chosen.now.outer
-        place.now.scopes.now)) chosen.now.scope chosen.now.handler.now area.now f w))
+        place.now.scopes.now)) chosen.now.scope chosen.now.handler.now handled.now f w))
         frame.old (world_of world.old)) }
 {
     let extent = Extent {
@@ -119,7 +123,7 @@ fn act_aside(
         chosen.handler,
         &chosen.scope,
         outer,
-        area,
+        handled,
         frame,
         world,
         place,
@@ -129,23 +133,23 @@ fn act_aside(
     }
 }
 
-/// The action of a handler of a compound statement, by those outside of that one. It leaves the
-/// area of success, in whatever way it ends.
+/// The action of a handler of a compound statement, by those outside of that one, which handles
+/// what is raised. It leaves the area of success, in whatever way it ends.
 #[cycle(run)]
 pub fn act(
     handler: &BoundHandler,
     scope: &Scope,
     outer: &[Scope],
-    area: &Area,
+    handled: &Raise,
     frame: &mut Frame,
     world: &mut World,
     place: &Place,
 ) -> Result<Outcome, NoMemory>
     ensures { Ran world.old world.new frame.new result
         (settled (acts_of place.now (scopes_by (acts_of place.now) outer.now) scope.now handler.now
-        area.now frame.old (world_of world.old))) }
+        handled.now frame.old (world_of world.old))) }
 {
-    let inner = in_action(&*place, &*outer, &*scope, &*area)?;
+    let inner = in_action(&*place, &*outer, &*scope, &*handled)?;
     match run_stmt(handler.action.get(), frame, world, &inner) {
         Ok(outcome) => {
             frame.settle();

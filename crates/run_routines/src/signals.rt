@@ -21,6 +21,7 @@ use run_places::Place;
 use sql_conditions::{Area, Condition, EngineCondition, Message, SqlState};
 use sql_texts::Text;
 use sql_values::{NoMemory, Value};
+use std::alloc::Global;
 
 // The text that a value stands for: none where none is written. NULL, and what is no text, stand
 // for none at all.
@@ -44,20 +45,35 @@ fn message_of(text: Option<Text>) -> Message
     }
 }
 
-// The handled conditions again, with another text, or with a new condition first.
-fn again(state: &Option<SqlState>, text: Option<Text>, area: &Area) -> Result<Area, NoMemory>
-    ensures { IfOk result (λ a. a ≡ again_as state.now text area.now) }
+// The handled conditions with a new condition first, or with another text.
+fn renewed(state: &Option<SqlState>, text: Option<Text>, handled: &Raise) -> Result<Area, NoMemory>
+    ensures { IfOk result (λ a. a ≡ again_as state.now text handled.now) }
 {
-    let mut copy = area.copied()?;
+    let mut area = handled.area()?;
     match (state, text) {
-        (Some(state), text) => copy.push_front(Condition {
+        (Some(state), text) => area.push_front(Condition {
             state: *state,
             message: message_of(text),
         }),
-        (None, Some(text)) => copy.retext(Message::written(text)),
+        (None, Some(text)) => area.retext(Message::written(text)),
         (None, None) => {}
     }
-    Ok(copy)
+    Ok(area)
+}
+
+// The handled conditions again, which share their area where nothing about them is new.
+fn again(
+    alloc: Global,
+    state: &Option<SqlState>,
+    text: Option<Text>,
+    handled: &Raise,
+) -> Result<Raise, NoMemory>
+    ensures { IfOk result (λ r. r ≡ again_as state.now text handled.now) }
+{
+    match (state, text) {
+        (None, None) => handled.copied(),
+        (state, text) => Raise::held(alloc, renewed(state, text, handled)?),
+    }
 }
 
 /// SIGNAL: one condition of a state, with its text. A text that is NULL raises.
@@ -117,9 +133,9 @@ pub fn run_resignal(
             world,
             place,
         ),
-        Some(area) => match evaluate_perhaps(statement.message.as_ref(), frame, world, place) {
+        Some(handled) => match evaluate_perhaps(statement.message.as_ref(), frame, world, place) {
             Ok(value) => match text_of(value) {
-                Some(text) => raise_again(&statement.state, text, area, frame, world, place),
+                Some(text) => raise_again(&statement.state, text, handled, frame, world, place),
                 None => fail(
                     Raise::of(EngineCondition::NullNotAllowed),
                     frame,
@@ -137,20 +153,17 @@ pub fn run_resignal(
 fn raise_again(
     state: &Option<SqlState>,
     text: Option<Text>,
-    area: &Area,
+    handled: &Raise,
     frame: &mut Frame,
     world: &mut World,
     place: &Place,
 ) -> Result<Outcome, NoMemory>
     ensures { Ran world.old world.new frame.new result
-        (raising (scopes_of place.now) (again_as state.now text area.now) frame.old
+        (raising (scopes_of place.now) (again_as state.now text handled.now) frame.old
         (world_of world.old)) }
 {
-    match again(state, text, area) {
-        Ok(area) => match Raise::held(world.allocator(), area) {
-            Ok(raise) => signal(raise, frame, world, place),
-            Err(NoMemory) => Err(NoMemory),
-        },
+    match again(world.allocator(), state, text, handled) {
+        Ok(raise) => signal(raise, frame, world, place),
         Err(NoMemory) => Err(NoMemory),
     }
 }

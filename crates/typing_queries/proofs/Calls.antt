@@ -2,7 +2,7 @@
 use Rattle.std.proofs.Common.{◌≡◌, inl, refl, ap, subst, ◌∙◌, arith, ℕ, suc, ◌==◌, Bool, true, List}
 use Rattle.std.proofs.Common.{[], ◌∷◌, map, length, Option, Some, None}
 use Rattle.std.proofs.lemmas.Bool.Decides.{nat_tests}
-use Rattle.rel_algebra.proofs.Truths.{and_true}
+use Rattle.rel_algebra.proofs.Laws.{and_true}
 use Rattle.sql_values.specs.declared.fold.FoldKind.{FoldKind}
 use Rattle.sql_values.specs.declared.fold.FoldKind.TheVariants.{Count, Sum, Avg, Min, Max}
 use Rattle.sql_values.specs.declared.value.SqlType.{SqlType}

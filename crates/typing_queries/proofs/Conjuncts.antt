@@ -21,7 +21,7 @@ use Rattle.bound_trees.specs.declared.query.BoundRow.{BoundRow}
 use Rattle.bound_trees.specs.declared.query.BoundSource.{BoundSource}
 use Rattle.bound_trees.specs.declared.query.BoundGrouping.{BoundGrouping}
 use Rattle.bound_trees.specs.declared.query.BoundSelect.{BoundSelect}
-use Rattle.rel_algebra.proofs.Truths.{and_true, left_true, right_true}
+use Rattle.rel_algebra.proofs.Laws.{and_true, left_true, right_true}
 use Rattle.bind_kinds.specs.declared.kind.Kind.{Kind}
 use Rattle.bind_kinds.specs.declared.kind.Kind.TheVariants.{Boolean}
 use Rattle.bind_kinds.specs.Kinds.{fits}

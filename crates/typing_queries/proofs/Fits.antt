@@ -1,7 +1,7 @@
 -- What fits a kind fits a lower one, and words over lower kinds give lower ones.
 use Rattle.std.proofs.Common.{◌≡◌, inl, inr, refl, sym, ap, subst, ◌∙◌, Bool, true, false, not}
 use Rattle.std.proofs.Common.{List, [], ◌∷◌, ◌++◌, map, Option, Some, None}
-use Rattle.rel_algebra.proofs.Truths.{and_true}
+use Rattle.rel_algebra.proofs.Laws.{and_true}
 use Rattle.syntax_trees.specs.declared.anchor.Anchor.{Anchor}
 use Rattle.bind_faults.specs.declared.fault.FaultKind.{FaultKind}
 use Rattle.bind_faults.specs.declared.fault.FaultKind.TheVariants.{TypeMismatch}

@@ -6,7 +6,7 @@ use Rattle.std.proofs.lemmas.Bool.Decides.{nat_tests}
 use Rattle.std.proofs.lemmas.List.Folds.{list_all-append}
 use Rattle.syntax_trees.specs.declared.query.SortSpecification.{SortSpecification}
 use Rattle.row_types.specs.declared.sort_key.SortKey.{SortKey}
-use Rattle.rel_algebra.proofs.Truths.{and_true}
+use Rattle.rel_algebra.proofs.Laws.{and_true}
 use Rattle.bound_trees.specs.declared.query.BoundQuery.{BoundQuery}
 use Rattle.bind_faults.specs.Faults.{Noted}
 use Rattle.bind_kinds.specs.declared.kind.Kind.{Kind}

@@ -1,7 +1,7 @@
 -- Rows of VALUES that are well typed.
 use Rattle.std.proofs.Common.{◌≡◌, refl, sym, ap, subst, ℕ, zero, suc, true, ◌==◌, not, List, []}
 use Rattle.std.proofs.Common.{◌∷◌, ◌++◌, length, replicate, Option, Some}
-use Rattle.rel_algebra.proofs.Truths.{and_true, left_true, right_true}
+use Rattle.rel_algebra.proofs.Laws.{and_true, left_true, right_true}
 use Rattle.syntax_trees.specs.declared.anchor.Anchor.{Anchor}
 use Rattle.bind_faults.specs.declared.fault.FaultKind.TheVariants.{WrongCount}
 use Rattle.bind_faults.specs.Faults.{fault_if}

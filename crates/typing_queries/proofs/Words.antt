@@ -2,7 +2,7 @@
 use Rattle.std.proofs.Common.{◌≡◌, inl, inr, refl, sym, ap, subst, ◌∙◌, arith, true, not, ◌&&◌}
 use Rattle.std.proofs.Common.{List, [], ◌∷◌, ◌++◌, map, length, Some, None}
 use Rattle.std.specs.List.{list_all}
-use Rattle.rel_algebra.proofs.Truths.{and_true, left_true, right_true}
+use Rattle.rel_algebra.proofs.Laws.{and_true, left_true, right_true}
 use Rattle.sql_values.specs.declared.operators.Operator.{Operator}
 use Rattle.sql_values.specs.declared.operators.Operator.TheVariants.{Add, Subtract, Multiply}
 use Rattle.sql_values.specs.declared.operators.Operator.TheVariants.{Divide, Concatenate}

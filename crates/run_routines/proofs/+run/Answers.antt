@@ -14,36 +14,38 @@ use Rattle.run_choices.specs.Words.{passes_by}
 use Rattle.row_types.specs.Rows.{Row}
 use Rattle.run_places.specs.Groups.{end_record}
 use Rattle.run_places.specs.Joins.{match_of, matches_of, all_joined}
-use Rattle.run_places.proofs.Trees.{rows_cost-rest, costs-rest}
+use Rattle.run_places.proofs.Laws.{rows_cost-rest, costs-rest}
 use Rattle.run_expressions.proofs.Laws.{follows, going, none_yet, stays_same, unit_stops}
-use Rattle.run_places.proofs.Steps.{all_go, all_stop, args_go, args_stop, rows_go, rows_stop}
-use Rattle.run_places.proofs.Words.{arms_cost, case_of_ends, case_of_stops, is_strict, strict_ends}
-use Rattle.run_places.proofs.Words.{IsCaseOf}
-use Rattle.run_places.proofs.Cases.{costs-arm, last_result, test_fails, test_passes, test_stops}
-use Rattle.run_places.proofs.Costs.{source_small, join_small, left_small, from_less, list_less}
-use Rattle.run_places.proofs.Costs.{groups_less, inner_less, left_less}
+use Rattle.run_places.proofs.Laws.{all_go, all_stop, args_go, args_stop, rows_go, rows_stop}
+use Rattle.run_places.proofs.Laws.{arms_cost, case_of_ends, case_of_stops, is_strict, strict_ends}
+use Rattle.run_places.proofs.Laws.{IsCaseOf}
+use Rattle.run_places.proofs.Laws.{costs-arm, last_result, test_fails, test_passes, test_stops}
+use Rattle.run_places.proofs.Laws.{source_small, join_small, left_small, from_less, list_less}
+use Rattle.run_places.proofs.Laws.{groups_less, inner_less, left_less}
 use Rattle.bound_trees.specs.declared.query.BoundSelect.{out-BoundSelect}
 use Rattle.bound_trees.specs.declared.query.BoundGrouping.{out-BoundGrouping}
 use Rattle.bound_trees.specs.declared.expr.BoundExpr.{BoundExpr}
 use Rattle.run_places.specs.Cost.{costs, from_cost, arguments_cost, stmt_cost}
-use Rattle.run_places.proofs.LeftToRight.{from_left, item_stops, join_stops, item_joined, rows_end}
-use Rattle.run_places.proofs.LeftToRight.{grouping_ends, from_stops, comma_ends, cross_ends}
-use Rattle.run_places.proofs.LeftToRight.{inner_ends, left_ends, on_ends}
-use Rattle.run_places.proofs.RowByRow.{listed_stop, listed_go, kept_stop, kept_go, match_ends}
-use Rattle.run_places.proofs.Grouping.{groups_stop, groups_end, part_stops, part_taken}
-use Rattle.run_places.proofs.Subqueries.{single_ends, exists_ends, ordered_ends}
+use Rattle.run_places.proofs.Laws.{from_left, item_stops, join_stops, item_joined, from_stops}
+use Rattle.run_places.proofs.Laws.{comma_ends, cross_ends}
+use Rattle.run_keys.proofs.Laws.{grouped_made, listed_made}
+use Rattle.run_routines.proofs.Selected.{all_ends, met_ends}
+use Rattle.run_places.proofs.Laws.{inner_ends, left_ends, on_ends}
+use Rattle.run_places.proofs.Laws.{listed_stop, listed_go, kept_stop, kept_go, match_ends}
+use Rattle.run_places.proofs.Laws.{groups_stop, groups_end, part_stops, part_taken}
+use Rattle.run_places.proofs.Laws.{single_ends, exists_ends, ordered_ends}
 use Rattle.run_places.specs.Places.{known_of, no_routine, self_of, call_cost, context_of}
 use Rattle.run_places.specs.Places.{queries_of, scopes_of, handlers_costs, queries_in}
-use Rattle.run_places.proofs.Calling.{returned_ends, another_ends, within_ends}
+use Rattle.run_places.proofs.Laws.{returned_ends, another_ends, within_ends}
 use Rattle.rel_algebra.specs.Tree.{parameters_of, Query}
 use Rattle.catalog_store.specs.Entries.{interpreted_of, procedure_of}
 use Rattle.routine_views.specs.Routines.{function_view, procedure_view, routines_of, with_modes}
 use Rattle.run_places.specs.declared.own.SelfCall.{SelfCall}
 use Rattle.run_places.specs.Calls.{CostsAsSelf}
-use Rattle.run_places.proofs.Activating.{function_activated, function_ends, procedure_activated}
-use Rattle.run_places.proofs.Activating.{procedure_ends}
-use Rattle.run_places.proofs.Performing.{arguments_cost-rest, comes_by, passing_goes, passing_stops}
-use Rattle.run_places.proofs.SelfCosts.{falls_to_again, falls_to_self}
+use Rattle.run_places.proofs.Laws.{function_activated, function_ends, procedure_activated}
+use Rattle.run_places.proofs.Laws.{procedure_ends}
+use Rattle.run_places.proofs.Laws.{arguments_cost-rest, comes_by, passing_goes, passing_stops}
+use Rattle.run_places.proofs.Laws.{falls_to_again, falls_to_self}
 use Rattle.rel_algebra.specs.Calls.{given_or}
 use Rattle.rel_algebra.specs.Doing.{storing}
 use Rattle.rel_algebra.specs.Tree.{Parameter}
@@ -51,50 +53,53 @@ use Rattle.routine_views.specs.Views.{performed, target}
 use Rattle.run_choices.specs.Ending.{TellsAnywhere}
 use Rattle.run_outcomes.specs.Outcomes.{outcome_of}
 use Rattle.run_places.specs.Passing.{comes_into}
-use Rattle.run_places.proofs.Performing.{call_stops, call_stores, other_ends, performed_does}
-use Rattle.run_places.proofs.Performing.{performed_ends}
-use Rattle.run_places.proofs.SelfCosts.{modes_known}
+use Rattle.run_places.proofs.Laws.{call_stops, call_stores, other_ends, performed_does}
+use Rattle.run_places.proofs.Laws.{performed_ends}
+use Rattle.run_places.proofs.Laws.{modes_known}
 use Rattle.sql_texts.specs.declared.memory.NoMemory.{NoMemory}
 use Rattle.bound_trees.specs.declared.statement.BoundStmt.{BoundStmt}
 use Rattle.rel_algebra.specs.World.{Ends, Frame, Gives, unit}
 use Rattle.rel_algebra.specs.Doing.{Doing, settled, first_of, with_more}
 use Rattle.rel_algebra.specs.Loops.{for_each, looping}
 use Rattle.run_expressions.specs.Ending.{Ended}
-use Rattle.run_expressions.proofs.Stays.{stays_on}
+use Rattle.run_expressions.proofs.Laws.{stays_on}
 use Rattle.run_outcomes.specs.declared.outcome.Outcome.{Outcome}
 use Rattle.run_places.specs.declared.place.Place.{Place}
 use Rattle.run_places.specs.Insides.{one_inside}
 use Rattle.run_places.specs.Ran.{Ran, GoesOnFrom, before_by, after_by, does_choice}
 use Rattle.run_places.specs.Statements.{stmts_in, branches_in}
-use Rattle.run_places.proofs.Lists.{list_next, stmts_cost-rest, choice_none}
-use Rattle.run_places.proofs.LoopRuns.{before_ends, before_stops, no_turn, in_body, body_ends}
-use Rattle.run_places.proofs.LoopRuns.{at_end, after_stops, after_ends, next_run}
-use Rattle.run_places.proofs.LoopRuns.{inside_cost}
+use Rattle.run_places.proofs.Laws.{list_next, stmts_cost-rest, choice_none}
+use Rattle.run_places.proofs.Laws.{before_ends, before_stops, no_turn, in_body, body_ends}
+use Rattle.run_places.proofs.Laws.{at_end, after_stops, after_ends, next_run}
+use Rattle.run_places.proofs.Laws.{inside_cost}
 use Rattle.run_outcomes.specs.declared.choice.Scope.{Scope}
 use Rattle.run_outcomes.specs.Scopes.{scopes_by}
 use Rattle.run_places.specs.Acting.{acts_of}
-use Rattle.run_places.proofs.Acting.{action_cost, action_does, action_less, outer_less}
-use Rattle.run_places.proofs.Taking.{none_ends, outwards_ends, here_ends, comes_back, settles}
-use Rattle.run_places.proofs.Taking.{same_end}
+use Rattle.run_places.proofs.Laws.{action_cost, action_does, action_less, outer_less}
+use Rattle.run_places.proofs.Laws.{none_ends, outwards_ends, here_ends, comes_back, settles}
+use Rattle.run_places.proofs.Laws.{stop_fails, stop_ends, stop_wants, seal_fails, seal_ends}
+use Rattle.run_places.specs.declared.onward.Onward.{Onward}
+use Rattle.run_places.specs.Onward.{IsAfterStop}
+use Rattle.run_places.proofs.Laws.{same_end}
 use Rattle.run_frames.specs.declared.extent.Extent.{Extent}
 use Rattle.run_places.specs.Blocks.{handlings_by, body_by}
-use Rattle.run_places.proofs.Assigning.{set_stops}
-use Rattle.run_places.proofs.AtLeast.{stmts_some}
-use Rattle.run_places.proofs.BlockRuns.{closed_end, costs_append, within_does, scoped_cost}
-use Rattle.run_places.proofs.BlockRuns.{scoped_does}
-use Rattle.run_places.proofs.BranchRuns.{branch_passed, branch_stops, branch_taken}
-use Rattle.run_places.proofs.BranchRuns.{branches_cost-rest}
-use Rattle.run_places.proofs.Declared.{declared_next, declared_stops, variables_cost-rest}
-use Rattle.run_places.proofs.RowRuns.{rows_again, rows_over, rows_spent}
+use Rattle.run_places.proofs.Laws.{set_stops}
+use Rattle.run_places.proofs.Laws.{stmts_some}
+use Rattle.run_places.proofs.Laws.{closed_end, costs_append, within_does, scoped_cost}
+use Rattle.run_places.proofs.Laws.{scoped_does}
+use Rattle.run_places.proofs.Laws.{branch_passed, branch_stops, branch_taken}
+use Rattle.run_places.proofs.Laws.{branches_cost-rest}
+use Rattle.run_places.proofs.Laws.{declared_next, declared_stops, variables_cost-rest}
+use Rattle.run_places.proofs.Laws.{rows_again, rows_over, rows_spent}
 use Rattle.sql_conditions.specs.Conditions.{Area, one_condition}
 use Rattle.rel_algebra.specs.Handlers.{failing}
-use Rattle.run_places.proofs.DiagnosticsRuns.{get_stores, get_stops, get_number_stops}
+use Rattle.run_places.proofs.Laws.{get_stores, get_stops, get_number_stops}
 use Rattle.run_choices.specs.declared.stop.Stop.{Stop}
 use Rattle.rel_algebra.specs.World.{Called}
 use Rattle.routine_views.specs.Views.{Known}
 use Rattle.run_routines.proofs.Otherwise.{else_fails, else_runs}
 use Rattle.sql_values.specs.declared.value.Value.{Value}
-use Rattle.run_places.proofs.CursorRuns.{no_query_at}
+use Rattle.run_places.proofs.Laws.{no_query_at}
 use Rattle.run_routines.proofs.Arms.{while_does, repeat_does, select_into_does}
 use Rattle.run_routines.proofs.Signalling.{perhaps_stops, signal_ends}
 use Rattle.run_routines.proofs.Storing.{goes_on_with, unit_gives}
@@ -222,8 +227,8 @@ expr::operate-returns-in_ok-value-in-len1-up t c =
 
 -- queries
 
-pub queries::select-from_rows-requires : goal.queries::select-from_rows-requires
-queries::select-from_rows-requires t c = (
+pub queries::select_all-from_rows-requires : goal.queries::select_all-from_rows-requires
+queries::select_all-from_rows-requires t c = (
   omega (
     arith,
     from_less (known_of c.args.place.now) c.args.query.now c.as_slice.result.now
@@ -234,59 +239,69 @@ queries::select-from_rows-requires t c = (
   tt,
 )
 
-pub queries::select-grouped-requires : goal.queries::select-grouped-requires
-queries::select-grouped-requires t c = (
-  omega (
-    arith,
-    groups_less (known_of c.args.place.now) c.args.query.now c.as_slice.result.now c.as_slice-list.result.now
-        c.as_slice-tests.result.now c.as_slice.ensures c.as_slice-list.ensures
-        c.as_slice-tests.ensures
-        c.in-Some.grouping (sym c.in-Some.is),
-    c.decreases,
-  ),
-  tt,
-)
-
-pub queries::select-records_of-requires : goal.queries::select-records_of-requires
-queries::select-records_of-requires t c = (
-  omega (
-    arith,
-    list_less (known_of c.args.place.now) c.args.query.now c.as_slice.result.now c.as_slice-list.result.now
-        c.as_slice-tests.result.now c.as_slice.ensures c.as_slice-list.ensures
-        c.as_slice-tests.ensures
-        (sym c.in-None.is),
-    c.decreases,
-  ),
-  tt,
-)
-
-pub queries::select-returns-in_err-rows : goal.queries::select-returns-in_err-rows
-queries::select-returns-in_err-rows t c =
+pub queries::select_all-returns-in_err-rows : goal.queries::select_all-returns-in_err-rows
+queries::select_all-returns-in_err-rows t c =
     from_stops (self_of c.args.place.now) (known_of c.args.place.now) c.args.query.now c.as_slice.result.now
     (out-BoundSelect c.args.query.now).items (out-BoundSelect c.args.query.now).conjuncts
     (seen c.args.outer.now) c.args.frame.now c.as_slice.ensures refl refl
     c.args.world.now c.from_rows.new.world c.in_err-rows.field-0.0 _ c.in_err-rows.ensures
     (search rules)
 
+pub queries::select_all-returns : goal.queries::select_all-returns
+queries::select_all-returns t c =
+    all_ends (self_of c.args.place.now) (known_of c.args.place.now) c.args.query.now
+    (seen c.args.outer.now) c.args.frame.now c.as_slice.result.now c.args.world.now
+    c.from_rows.new.world c.made_of.new.world c.in_ok-rows.rows c.as_slice-2.result.now
+    c.made_of.result c.as_slice.ensures c.as_slice-2.ensures c.in_ok-rows.ensures c.made_of.ensures
+
 pub queries::select-returns-in-Some : goal.queries::select-returns-in-Some
 queries::select-returns-in-Some t c =
-    grouping_ends (self_of c.args.place.now) (known_of c.args.place.now) c.args.query.now c.as_slice.result.now
-    c.as_slice-list.result.now c.as_slice-tests.result.now (seen c.args.outer.now)
-    c.args.frame.now c.as_slice.ensures c.as_slice-list.ensures
-    c.as_slice-tests.ensures c.in-Some.grouping c.args.world.now c.from_rows.new.world
-    c.grouped.new.world c.in_ok-rows.rows c.as_slice-in-Some.result.now c.grouped.result
-    (sym c.in-Some.is) c.as_slice-in-Some.ensures
-    c.in_ok-rows.ensures c.grouped.ensures
+    met_ends (self_of c.args.place.now) (known_of c.args.place.now) c.args.query.now
+    (seen c.args.outer.now) c.args.frame.now c.args.world.now c.made_of.new.world
+    c.in_ok-rows.field-0 c.in-Some.rows c.as_slice.result.now c.made_of.result c.in-Some.is
+    c.in_ok-rows.ensures c.as_slice.ensures c.made_of.ensures
 
-pub queries::select-returns : goal.queries::select-returns
-queries::select-returns t c =
-    rows_end (self_of c.args.place.now) (known_of c.args.place.now) c.args.query.now c.as_slice.result.now c.as_slice-list.result.now
-    c.as_slice-tests.result.now (seen c.args.outer.now) c.args.frame.now c.as_slice.ensures
-    c.as_slice-list.ensures
-    c.as_slice-tests.ensures c.args.world.now c.from_rows.new.world c.records_of.new.world
-    c.in_ok-rows.rows c.as_slice-in-None.result.now c.records_of.result (sym c.in-None.is)
-    c.as_slice-in-None.ensures
-    c.in_ok-rows.ensures c.records_of.ensures
+pub queries::made_of-grouped-requires : goal.queries::made_of-grouped-requires
+queries::made_of-grouped-requires t c = (
+  omega (
+    arith,
+    groups_less (known_of c.args.place.now) c.args.query.now
+        (out-BoundSelect c.args.query.now).from c.as_slice-list.result.now
+        c.as_slice-tests.result.now refl c.as_slice-list.ensures c.as_slice-tests.ensures
+        c.in-Some.grouping (sym c.in-Some.is),
+    c.decreases,
+  ),
+  tt,
+)
+
+pub queries::made_of-records_of-requires : goal.queries::made_of-records_of-requires
+queries::made_of-records_of-requires t c = (
+  omega (
+    arith,
+    list_less (known_of c.args.place.now) c.args.query.now
+        (out-BoundSelect c.args.query.now).from c.as_slice-list.result.now
+        c.as_slice-tests.result.now refl c.as_slice-list.ensures c.as_slice-tests.ensures
+        (sym c.in-None.is),
+    c.decreases,
+  ),
+  tt,
+)
+
+pub queries::made_of-returns-in-Some : goal.queries::made_of-returns-in-Some
+queries::made_of-returns-in-Some t c =
+    grouped_made (self_of c.args.place.now) (known_of c.args.place.now) c.args.query.now
+    c.as_slice-list.result.now c.as_slice-tests.result.now (seen c.args.outer.now)
+    c.args.frame.now c.args.rows.now c.as_slice-list.ensures c.as_slice-tests.ensures
+    c.in-Some.grouping c.args.world.now c.grouped.new.world c.grouped.result (sym c.in-Some.is)
+    c.grouped.ensures
+
+pub queries::made_of-returns-in-None : goal.queries::made_of-returns-in-None
+queries::made_of-returns-in-None t c =
+    listed_made (self_of c.args.place.now) (known_of c.args.place.now) c.args.query.now
+    c.as_slice-list.result.now c.as_slice-tests.result.now (seen c.args.outer.now)
+    c.args.frame.now c.args.rows.now c.as_slice-list.ensures c.as_slice-tests.ensures
+    c.args.world.now c.records_of.new.world c.records_of.result (sym c.in-None.is)
+    c.records_of.ensures
 
 -- groups
 
@@ -1074,27 +1089,45 @@ loops::run_loop-loop-stop-preserved t c =
 
 -- ---- raising
 
+pub raising::stopped-returns-in-Fails : goal.raising::stopped-returns-in-Fails
+raising::stopped-returns-in-Fails t c =
+    stop_fails (scopes_of c.args.place.now) c.args.frame.now c.args.world.now c.args.stop
+    c.in-Fails.raise c.fail.new.world c.fail.new.frame c.fail.result
+    (subst (λ (n : Onward). IsAfterStop c.args.stop (Ok n)) c.in-Fails.is c.in-Ok.ensures)
+    c.fail.ensures
+
+pub raising::stopped-returns-in-Ends : goal.raising::stopped-returns-in-Ends
+raising::stopped-returns-in-Ends t c =
+    stop_ends (scopes_of c.args.place.now) c.args.frame.now c.args.world.now c.args.stop
+    c.in-Ends.outcome
+    (subst (λ (n : Onward). IsAfterStop c.args.stop (Ok n)) c.in-Ends.is c.in-Ok.ensures)
+
+pub raising::stopped-returns-in-Err : goal.raising::stopped-returns-in-Err
+raising::stopped-returns-in-Err t c =
+    stop_wants (scopes_of c.args.place.now) c.args.frame.now c.args.world.now c.args.stop _
+    c.in-Err.ensures
+
 pub raising::take-returns-in-None : goal.raising::take-returns-in-None
 raising::take-returns-in-None t c =
-    none_ends c.args.place.now c.args.raise c.in_ok-area.area c.args.raised c.args.frame.now
-    c.show.new.frame c.args.world.now c.state.result.now c.choose.result
-    c.in_ok-area.ensures.area c.in_ok-area.ensures.shown c.state.ensures
+    none_ends c.args.place.now c.args.raise c.in_ok-shown.shown c.args.raised c.args.frame.now
+    c.show.new.frame c.args.world.now c.state-state.result c.choose.result
+    c.in_ok-shown.ensures.same c.in_ok-shown.ensures.shown c.state-state.ensures
     (c.choose.ensures.best (acts_of c.args.place.now)) c.untaken.result c.in-None.is
     c.untaken.ensures
 
 pub raising::take-returns-else-goes_on_after : goal.raising::take-returns-else-goes_on_after
 raising::take-returns-else-goes_on_after t c =
-    outwards_ends c.args.place.now c.args.raise c.in_ok-area.area c.args.raised c.args.frame.now
-    c.show.new.frame c.args.world.now c.state.result.now c.choose.result
-    c.in_ok-area.ensures.area c.in_ok-area.ensures.shown c.state.ensures
-    (c.choose.ensures.best (acts_of c.args.place.now)) c.in-Some.chosen c.exiting.result
-    c.in-Some.is (sym c.if-goes_on_after.false ∙ c.goes_on_after.ensures) c.exiting.ensures
+    outwards_ends c.args.place.now c.args.raise c.in_ok-shown.shown c.args.raised c.args.frame.now
+    c.show.new.frame c.args.world.now c.state-state.result c.choose.result
+    c.in_ok-shown.ensures.same c.in_ok-shown.ensures.shown c.state-state.ensures
+    (c.choose.ensures.best (acts_of c.args.place.now)) c.in-Some.chosen c.in-Some.is
+    (sym c.if-goes_on_after.false ∙ c.goes_on_after.ensures)
 
 pub raising::take-returns-then-goes_on_after : goal.raising::take-returns-then-goes_on_after
 raising::take-returns-then-goes_on_after t c =
-    here_ends c.args.place.now c.args.raise c.in_ok-area.area c.args.raised c.args.frame.now
-    c.show.new.frame c.args.world.now c.state.result.now c.choose.result
-    c.in_ok-area.ensures.area c.in_ok-area.ensures.shown c.state.ensures
+    here_ends c.args.place.now c.args.raise c.in_ok-shown.shown c.args.raised c.args.frame.now
+    c.show.new.frame c.args.world.now c.state-state.result c.choose.result
+    c.in_ok-shown.ensures.same c.in_ok-shown.ensures.shown c.state-state.ensures
     (c.choose.ensures.best (acts_of c.args.place.now)) c.in-Some.chosen c.act_aside.new.frame
     c.act_aside.new.world c.act_aside.result
     c.in-Some.is (sym c.if-goes_on_after.true ∙ c.goes_on_after.ensures) c.act_aside.ensures
@@ -1106,11 +1139,11 @@ raising::act_aside-returns-in-Ok t c =
     comes_back s.scope.variables s.scope.cursors c.args.frame.now c.set_aside.new.self
     c.act.new.frame c.come_back.new.frame c.args.world.now c.act.new.world
     (λ f w. settled (acts_of p (scopes_by (acts_of p) (take s.outer p.scopes.now)) s.scope
-    s.handler.now c.args.area.now f w)) c.in-Ok.outcome c.in_ok-kept.kept c.come_back.result
+    s.handler.now c.args.handled.now f w)) c.in-Ok.outcome c.in_ok-kept.kept c.come_back.result
     c.in_ok-kept.ensures.ok c.in_ok-kept.ensures.kept
     (subst (λ (ss : List Scope). Ran c.args.world.now c.act.new.world c.act.new.frame
     (Ok c.in-Ok.outcome) (settled (acts_of p (scopes_by (acts_of p) ss) s.scope
-    s.handler.now c.args.area.now c.set_aside.new.self (world_of c.args.world.now))))
+    s.handler.now c.args.handled.now c.set_aside.new.self (world_of c.args.world.now))))
     c.outermost-outer.ensures c.in-Ok.ensures)
     c.come_back.ensures.same c.come_back.ensures.kept
 
@@ -1123,13 +1156,13 @@ raising::act-returns-in-Ok t c =
     (queries_of c.in_ok-inner.inner)) (context_of c.in_ok-inner.inner) c.args.frame.now
     (world_of c.args.world.now))
     (acts_of p (scopes_by (acts_of p) c.args.outer.now) c.args.scope.now c.args.handler.now
-    c.args.area.now c.args.frame.now (world_of c.args.world.now))
+    c.args.handled.now c.args.frame.now (world_of c.args.world.now))
     c.in-Ok.ensures c.settle.ensures
     (ap (λ (s : BoundStmt). does (stmt_in (known_of c.in_ok-inner.inner) s
     (queries_of c.in_ok-inner.inner)) (context_of c.in_ok-inner.inner) c.args.frame.now
     (world_of c.args.world.now)) c.get.ensures
     ∙ ap (λ (d : Doing). d c.args.frame.now (world_of c.args.world.now))
-    (action_does p c.in_ok-inner.inner c.args.outer.now c.args.scope.now c.args.area.now
+    (action_does p c.in_ok-inner.inner c.args.outer.now c.args.scope.now c.args.handled.now
     c.args.handler.now c.in_ok-inner.ensures)) refl
 
 pub raising::act_aside-act-requires : goal.raising::act_aside-act-requires
@@ -1152,7 +1185,7 @@ raising::act-run_stmt-requires t c = (
   omega (
     arith,
     action_cost c.args.place.now c.in_ok-inner.inner c.args.outer.now c.args.scope.now
-        c.args.area.now c.args.handler.now c.in_ok-inner.ensures,
+        c.args.handled.now c.args.handler.now c.in_ok-inner.ensures,
     ap (λ (s : BoundStmt). stmt_cost (stmt_in (known_of c.in_ok-inner.inner) s
         (queries_of c.in_ok-inner.inner))) c.get.ensures,
     c.decreases,
@@ -1306,6 +1339,19 @@ blocks::exit-act-requires t c =
       ),
       tt,
     )
+
+pub blocks::seal-returns-in-Fails : goal.blocks::seal-returns-in-Fails
+blocks::seal-returns-in-Fails t c start since =
+    seal_fails c.args.atomic (outcome_of c.args.outcome) start c.args.world.now
+    c.sealed.new.world c.sealed.result (scopes_of c.args.place.now) c.args.frame.now
+    (c.sealed.ensures start since) c.in-Fails.raise c.fail.new.world c.fail.new.frame
+    c.fail.result c.in-Fails.is c.fail.ensures
+
+pub blocks::seal-returns-in-Ends : goal.blocks::seal-returns-in-Ends
+blocks::seal-returns-in-Ends t c start since =
+    seal_ends c.args.atomic (outcome_of c.args.outcome) start c.args.world.now
+    c.sealed.new.world c.sealed.result (scopes_of c.args.place.now) c.args.frame.now
+    (c.sealed.ensures start since) c.in-Ends.outcome c.in-Ends.is
 
 pub blocks::run_inside-close-requires : goal.blocks::run_inside-close-requires
 blocks::run_inside-close-requires t c =

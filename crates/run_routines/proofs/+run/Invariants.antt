@@ -17,8 +17,8 @@ use Rattle.run_places.specs.Places.{scopes_cost, no_routine, call_cost, run_cost
 use Rattle.run_places.specs.Places.{handlers_of, handler_in, queries_in}
 use Rattle.run_places.specs.Ran.{does_choice, before_by, after_by, test_cost}
 use Rattle.run_places.specs.Statements.{stmts_in, branches_in}
-use Rattle.run_places.proofs.LoopRuns.{LoopUnderway}
-use Rattle.run_places.proofs.Underway.{Underway}
+use Rattle.run_places.proofs.Laws.{LoopUnderway}
+use Rattle.run_places.proofs.Laws.{Underway}
 use Rattle.run_routines.specs.Otherwise.{does_otherwise}
 use Rattle.row_types.specs.Rows.{Row}
 use Rattle.bound_trees.specs.declared.query.BoundGrouping.{out-BoundGrouping}
@@ -31,13 +31,13 @@ use Rattle.run_choices.specs.Words.{passes_by}
 use Rattle.group_index.specs.Folded.{with_row}
 use Rattle.run_places.specs.Groups.{parts_folded, end_record}
 use Rattle.run_places.specs.Joins.{match_of, matches_of, matched, all_joined}
-use Rattle.run_places.proofs.Costs.{step_cost, left_cost}
+use Rattle.run_places.proofs.Laws.{step_cost, left_cost}
 use Rattle.run_expressions.proofs.Laws.{Going}
 use Rattle.catalog_store.specs.Entries.{interpreted_of, procedure_of}
 use Rattle.run_places.specs.Passing.{argument_cost}
 use Rattle.bound_trees.specs.declared.statement.BoundBlock.{out-BoundBlock}
 use Rattle.run_places.specs.Blocks.{handlers_at}
-use Rattle.run_places.proofs.Declared.{Declared}
+use Rattle.run_places.proofs.Laws.{Declared}
 use Rattle.run_routines.proofs.+run.Given as goal
 
 abbrev pub decreases-expr::eval : goal.decreases-expr::eval
@@ -79,10 +79,16 @@ decreases-lists::holds l = 8 * (costs (exprs_in (known_of l.place.now) l.conjunc
 -- queries
 
 abbrev pub decreases-queries::answer_query : goal.decreases-queries::answer_query
-decreases-queries::answer_query l = 8 * (query_cost (query_in (known_of l.place.now) l.query.now) + self_cost l.place.now) + 2
+decreases-queries::answer_query l = 8 * (query_cost (query_in (known_of l.place.now) l.query.now) + self_cost l.place.now) + 3
 
 abbrev pub decreases-queries::select : goal.decreases-queries::select
-decreases-queries::select l = 8 * (query_cost (select_in (known_of l.place.now) l.query.now) + self_cost l.place.now) + 1
+decreases-queries::select l = 8 * (query_cost (select_in (known_of l.place.now) l.query.now) + self_cost l.place.now) + 2
+
+abbrev pub decreases-queries::select_all : goal.decreases-queries::select_all
+decreases-queries::select_all l = 8 * (query_cost (select_in (known_of l.place.now) l.query.now) + self_cost l.place.now) + 1
+
+abbrev pub decreases-queries::made_of : goal.decreases-queries::made_of
+decreases-queries::made_of l = 8 * (query_cost (select_in (known_of l.place.now) l.query.now) + self_cost l.place.now)
 
 abbrev pub decreases-queries::from_rows : goal.decreases-queries::from_rows
 decreases-queries::from_rows l = 8 * (from_cost (from_of (map (item_in (known_of l.place.now)) l.items.now)) + self_cost l.place.now) +
@@ -574,7 +580,7 @@ decreases-units::evaluate l =
 
 abbrev pub decreases-units::assess : goal.decreases-units::assess
 decreases-units::assess l =
-    8 * (query_cost (query_in (known_of l.place.now) l.query.now) + self_cost l.place.now) + 3
+    8 * (query_cost (query_in (known_of l.place.now) l.query.now) + self_cost l.place.now) + 4
 
 abbrev pub decreases-units::goes_on : goal.decreases-units::goes_on
 decreases-units::goes_on l =
@@ -614,7 +620,7 @@ decreases-cursors::run_close l = 8 * (scopes_cost l.place.now + self_cost l.plac
 
 abbrev pub decreases-cursors::cursor_rows : goal.decreases-cursors::cursor_rows
 decreases-cursors::cursor_rows l =
-    8 * (query_cost (cursor_in (queries_of l.place.now) l.slot) + self_cost l.place.now) + 4
+    8 * (query_cost (cursor_in (queries_of l.place.now) l.slot) + self_cost l.place.now) + 5
 
 -- SIGNAL and RESIGNAL
 
@@ -640,7 +646,7 @@ decreases-writing::run_change l =
 
 abbrev pub decreases-writing::changed : goal.decreases-writing::changed
 decreases-writing::changed l =
-    8 * (query_cost (query_in (known_of l.place.now) l.query.now) + self_cost l.place.now) + 3
+    8 * (query_cost (query_in (known_of l.place.now) l.query.now) + self_cost l.place.now) + 4
 
 -- SELECT INTO
 

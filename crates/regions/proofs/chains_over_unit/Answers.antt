@@ -1,0 +1,5 @@
+use Rattle.regions.proofs.Removals.{regions}
+use Rattle.regions.proofs.chains_over_unit.Goals as goal
+
+pub returns : goal.returns
+returns c = regions

@@ -1,0 +1,5 @@
+use Rattle.regions.proofs.Chain.{inlines_with}
+use Rattle.regions.proofs.inlines_with.Goals as goal
+
+pub returns : goal.returns
+returns c = inlines_with

@@ -1,0 +1,12 @@
+pub mod Tree
+pub mod Doing
+pub mod Handlers
+pub mod Compounds
+pub mod Meaning
+pub mod Steps
+pub mod Dispatch
+pub mod Inline
+pub mod Theorem
+pub mod Worlds
+pub mod Examples
+pub mod Sizes

@@ -1,0 +1,3 @@
+pub mod Saying
+pub mod Meeting
+pub mod Laws
