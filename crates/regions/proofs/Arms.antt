@@ -10,15 +10,16 @@ use Rattle.rel_algebra.specs.Plan.{Scalars, none, more, Sight, cell_of, cells_of
 use Rattle.rel_algebra.specs.Plan.{or_cell, column}
 use Rattle.rel_algebra.specs.Tree.{ConditionValue, State, SqlException, SqlWarning, NotFound}
 use Rattle.rel_algebra.specs.States.{names, covers, state_in, is_exception}
-use Rattle.regions.specs.Tree.{HandlerType, Continue, Exit, Undo, Handlers, NoHandler, MoreHandlers}
+use Rattle.regions.specs.Bodies.{HandlerType, Continue, Exit, Undo, Handlers, NoHandler}
+use Rattle.regions.specs.Bodies.{MoreHandlers}
 use Rattle.regions.specs.Doing.{Frame, Outcome, Next, Leaving, Returning, Exiting, Raising, End}
 use Rattle.regions.specs.Doing.{Doing, ends, outside}
 use Rattle.regions.specs.Handlers.{Handling, or_else, first_with, names_it, covers_it, best_here}
 use Rattle.regions.specs.Handlers.{with_best, act_by, raising}
-use Rattle.regions.specs.Meaning.{does, in_action, handlings}
+use Rattle.regions.specs.BodyMeaning.{does, in_action, handlings}
 use Rattle.regions.specs.Dispatch.{Env, Coded, named_tests, general_tests, arm, named_arms}
 use Rattle.regions.specs.Dispatch.{general_arms, scope_arms, aimed, dispatch, matching}
-use Rattle.regions.specs.Inline.{coded}
+use Rattle.regions.specs.BodyChain.{coded}
 use Rattle.regions.proofs.Base.{at}
 use Rattle.regions.proofs.Lands.{place_of, Seen, nowhere, within, scopes_of, codes_of}
 use Rattle.rel_algebra.specs.OnConditions.{matches_cell}

@@ -10,7 +10,7 @@ use Rattle.row_types.specs.declared.cell.Cell.{Cell}
 use Rattle.row_types.specs.declared.cell.Cell.TheVariants.{Val}
 use Rattle.rel_algebra.specs.Joins.{places}
 use Rattle.rel_algebra.specs.Plan.{cell_at, cells_at, shown}
-use Rattle.regions.specs.Inline.{column_at}
+use Rattle.regions.specs.BodyChain.{column_at}
 
 pub both : {A B C : Type 0} (f : A → B → C) (a a' : A) (b b' : B) → a ≡ a' → b ≡ b' → f a b
     ≡ f a' b'

@@ -15,8 +15,12 @@ use Rattle.rel_algebra.specs.Plan.{collapse_as, collected, den, sight, single, v
 use Rattle.rel_algebra.specs.Theorem.{one_cell}
 use Rattle.rel_algebra.proofs.Laws.{grows_same, grown_column, grown_columns, shown_long, wider}
 use Rattle.rel_algebra.proofs.Laws.{AreCells, are_cells, checks_guard, guard, Grows}
-use Rattle.regions.specs.Meaning.{call}
-use Rattle.regions.specs.Theorem.{CallsByRegion, called_with, outer_columns, parameters_of, region}
+use Rattle.regions.specs.BodyMeaning.{call, called_with}
+use Rattle.rel_algebra.specs.Emit.{called_region}
+use Rattle.rel_algebra.specs.Plan.{added}
+use Rattle.regions.proofs.Held.{RoutineRight}
+use Rattle.regions.specs.Bodies.{Routine, parameters_of}
+use Rattle.regions.specs.BodyChain.{outer_columns, region}
 use Rattle.regions.proofs.Chain.{inlines_with}
 use Rattle.sql_conditions.specs.Conditions.{Area}
 
@@ -26,13 +30,18 @@ outer_cells w o q m zero = refl
 outer_cells w o q m (suc k) = ap (λ (cs : List Cell). cell_at q m ∷ cs)
     (outer_cells w o q (suc m) k)
 
-one_collapsed : (E : Ending Value) → collapse single (Val Null) (one_cell (cell_end E)) ≡ cell_end E
-    ∷ []
+pub one_collapsed : (E : Ending Value) → collapse single (Val Null) (one_cell (cell_end E))
+    ≡ cell_end E ∷ []
 one_collapsed (Ok v) = refl
 one_collapsed (Err a) = refl
 
-pub calls_by_region : CallsByRegion
-calls_by_region r w o z cs m k fits formed kp lz lc =
+-- A call, whose arguments stand in the columns from m on: the column that the region adds is the
+-- value of the call, or the area of the first argument that has one, or that of the call.
+pub calls_by_region : (r : Routine) (w : Inputs) (o : List (List Cell)) (z cs : List Cell)
+    (m k : ℕ) → RoutineRight w r → k ≡ length (parameters_of r) → length z ≡ m → length cs ≡ k →
+    let a = called_region (region r (columns_in w)) m k in
+    cell_of a.scalar (sight w o (added a.nodes w o (z ++ cs))) ≡ cell_end (called_with r w cs)
+calls_by_region r w o z cs m k right kp lz lc =
     let q = z ++ cs in let inner = region r (columns_in w) m k in
     let here : cells_at q (places m k) ≡ cs = grown_columns z cs q m k lz lc (grows_same q) in
     let when : cell_of (all_values (places m k)) (sight w o q) ≡ guard (values_of cs) = checks_guard
@@ -72,7 +81,7 @@ calls_by_region r w o z cs m k fits formed kp lz lc =
         ∙ (ap (λ (xs : List Cell). length xs) (sym h) ∙ (lc ∙ kp)) in
         let means : den (region r (columns_in w) m k) w (q ∷ o) ≡ one_cell
         (cell_end (call r vs w)) =
-        inlines_with r w (q ∷ o) (outer_columns m k) vs fits formed long
+        inlines_with r w (q ∷ o) (outer_columns m k) vs right long
         (outer_cells w o q m k ∙ (grown_columns z cs q m k lz lc (grows_same q) ∙ h)) in
         ap (λ rows. map (applied (Val (Truth true))) (collapse single (Val Null) rows)) means
         ∙ ap (map (applied (Val (Truth true)))) (one_collapsed (call r vs w))

@@ -1,4 +1,4 @@
--- The chain of a function, and what it gives.
+-- The chain of a function whose leaves are right, and what it gives.
 use Rattle.std.proofs.Common.{false, ◌≡◌, ℕ, zero, suc, ◌+◌, List, [], ◌∷◌, ◌++◌, length, None, Ok}
 use Rattle.std.proofs.Common.{refl, sym, ap, ◌∙◌, arith}
 use Rattle.sql_values.specs.declared.value.Value.{Value}
@@ -13,17 +13,19 @@ use Rattle.rel_algebra.specs.Tree.{Comparing, NullTest}
 use Rattle.rel_algebra.specs.Endings.{cell_end, value_at, op_value}
 use Rattle.rel_algebra.specs.Emit.{assigning}
 use Rattle.rel_algebra.specs.Plain.{Inputs, columns_in}
-use Rattle.rel_algebra.specs.Plan.{PlanTree, extend, unit_row, sight, added, cell_at, cells_at}
+use Rattle.rel_algebra.specs.Plan.{PlanTree, Scalars, extend, unit_row, sight, added, cell_at}
+use Rattle.rel_algebra.specs.Plan.{cells_at}
 use Rattle.rel_algebra.specs.Plan.{cell_of, cells_of, case_cell, strictly, den, each, shown}
 use Rattle.rel_algebra.proofs.Laws.{grows_same, grown_column, grown_columns, shown_long}
 use Rattle.rel_algebra.proofs.Laws.{on_each_den, assigning_cell}
-use Rattle.regions.specs.Tree.{Body}
+use Rattle.rel_algebra.specs.Theorem.{one_cell}
+use Rattle.regions.proofs.Held.{RoutineRight}
+use Rattle.regions.specs.Bodies.{Body, Routine, parameters_of}
 use Rattle.regions.specs.Doing.{Outcome, Next, Leaving, Returning, Exiting, Raising}
-use Rattle.regions.specs.Meaning.{does, no_context, returned_or}
+use Rattle.regions.specs.BodyMeaning.{call, does, no_context, returned_or}
 use Rattle.regions.specs.Steps.{Step, grow, fat, stepped, run, step_tree, steps_tree, col}
-use Rattle.regions.specs.Inline.{emit, top, last_cell, first_cells, arguments, raised_area}
-use Rattle.regions.specs.Inline.{without_return_cell}
-use Rattle.regions.specs.Theorem.{Inlines, InlinesWith}
+use Rattle.regions.specs.BodyChain.{emit, top, last_cell, first_cells, arguments, raised_area}
+use Rattle.regions.specs.BodyChain.{without_return_cell, inline, inline_with}
 use Rattle.regions.proofs.Base.{at, rising_append}
 use Rattle.regions.proofs.Lands.{Lands, Ready, nowhere}
 use Rattle.regions.proofs.Statements.{stmt_sim}
@@ -83,8 +85,13 @@ top_ready k = record {
   rising = rising_append 3 [] 3 k (omega arith);
 }
 
-pub inlines_with : InlinesWith
-inlines_with (Body types returns body) w o params values fits formed l h =
+-- For all tables, rows outside and values of the parameters, which the given scalars read: the plan
+-- has one row, without poison, of one cell, which is the value or the area of the call.
+pub inlines_with : (r : Routine) (w : Inputs) (o : List (List Cell)) (params : Scalars)
+    (values : List Value) → RoutineRight w r → length values ≡ length (parameters_of r) →
+    cells_of params (sight w o []) ≡ shown values →
+    den (inline_with r (columns_in w) params) w o ≡ one_cell (cell_end (call r values w))
+inlines_with (Body types returns body) w o params values right l h =
     let S = columns_in w in let k = length types in let n = 3 + k in
     let q = at 3 ∷ Val Null ∷ Val (Truth false) ∷ shown values in
     let three : List Cell = at 3 ∷ Val Null ∷ Val (Truth false) ∷ [] in
@@ -97,7 +104,7 @@ inlines_with (Body types returns body) w o params values fits formed l h =
     let steps = emit body S [] (top k) 3 4 n in
     let z = run w o steps q in
     let e = does body w no_context values in
-    let L : Lands (top k) 3 n q e z = (stmt_sim body w o fits formed nowhere tt 0).lands (top k) 3 4
+    let L : Lands (top k) 3 n q e z = (stmt_sim body w o right nowhere tt 0).lands (top k) 3 4
     n (top_ready k) refl None values q
     (record {
       long = long;
@@ -127,8 +134,10 @@ argument_cells rows [] = refl
 argument_cells rows (v ∷ vs) = ap (λ (cs : List Cell). Val v ∷ cs)
     (later_arguments rows v vs 0 (length vs) ∙ argument_cells rows vs)
 
-pub inlines : Inlines
-inlines (Body types returns body) w o fits formed l =
-    inlines_with (Body types returns body) w o (arguments 0 (length types)) w.args fits formed l
+pub inlines : (r : Routine) (w : Inputs) (o : List (List Cell)) → RoutineRight w r →
+    length w.args ≡ length (parameters_of r) →
+    den (inline r (columns_in w)) w o ≡ one_cell (cell_end (call r w.args w))
+inlines (Body types returns body) w o right l =
+    inlines_with (Body types returns body) w o (arguments 0 (length types)) w.args right l
     (ap (λ (k : ℕ). cells_of (arguments 0 k) (sight w o [])) (sym l) ∙ argument_cells ([] ∷ o)
     w.args)

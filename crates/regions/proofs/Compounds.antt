@@ -10,19 +10,19 @@ use Rattle.rel_algebra.specs.Endings.{Ending}
 use Rattle.rel_algebra.specs.Joins.{places}
 use Rattle.rel_algebra.specs.Plain.{Inputs, columns_in}
 use Rattle.rel_algebra.specs.Plan.{no_node, word, case_word, sight, cell_at, cells_at, shown}
-use Rattle.rel_algebra.specs.Theorem.{Fits}
 use Rattle.rel_algebra.proofs.Laws.{shown_long}
-use Rattle.regions.specs.Tree.{Stmts, Variables, Handlers}
+use Rattle.regions.specs.Bodies.{Stmts, Variables, Handlers}
 use Rattle.regions.specs.Doing.{Frame, Outcome, Next, Leaving, Returning, Exiting, Raising, End}
 use Rattle.regions.specs.Doing.{Doing, left_by}
 use Rattle.regions.specs.Handlers.{raising}
 use Rattle.regions.specs.Compounds.{exited, left, left_or, sealed, sealed_or, declared_or, listed}
-use Rattle.regions.specs.Meaning.{inside_scopes, does_all, declare, handlings}
+use Rattle.regions.specs.BodyMeaning.{inside_scopes, does_all, declare, handlings}
 use Rattle.regions.specs.Steps.{stepped, run, store, acts, jump}
 use Rattle.regions.specs.Dispatch.{Env, Emit, count, dispatch, joins, handled, Coded}
-use Rattle.regions.specs.Inline.{emit_all, emit_declares, coded, with_variables, variable_count}
-use Rattle.regions.specs.Inline.{has_default, set_at, out_in, inside, ending_env, ending}
-use Rattle.regions.specs.Inline.{ending_width, whole_raise, exits_in}
+use Rattle.regions.specs.BodyChain.{emit_all, emit_declares, coded, with_variables, variable_count}
+use Rattle.regions.specs.BodyChain.{has_default, set_at, out_in, inside, ending_env, ending}
+use Rattle.regions.specs.BodyChain.{ending_width, whole_raise, exits_in}
+use Rattle.regions.proofs.Held.{ValueRight, VariablesHold}
 use Rattle.regions.proofs.Base.{at, both, lower_differs, set_same, set_other, take_cells}
 use Rattle.regions.proofs.Base.{take_shown, Rising, rising_below, rising_append, apart_append}
 use Rattle.regions.proofs.Base.{apart_places, Keeps, kept_rest, cells_set_low, cells_at_long}
@@ -35,7 +35,7 @@ use Rattle.regions.proofs.Arms.{dispatch_sends}
 use Rattle.regions.proofs.Handled.{in_tags, below_tags, inside_tags, joins_row, joins_off}
 use Rattle.regions.proofs.Handled.{handler_count, handled_passes, handled_lands, Sent, Rests}
 use Rattle.regions.proofs.Handled.{carries_joined, sends_bound}
-use Rattle.regions.proofs.Declares.{VariablesPlan, DeclaredEnd, declares_off, declares_run}
+use Rattle.regions.proofs.Declares.{DeclaredEnd, declares_off, declares_run}
 use Rattle.regions.proofs.Declares.{no_default}
 use Rattle.regions.proofs.Endings.{Numbers, EndedAt, ending_off, ending_lands, ending_under}
 
@@ -453,15 +453,15 @@ or_false true b h = absurd (clash h)
     clash x = cc
 or_false false b h = (refl, h)
 
-pub compound_general : (w : Inputs) (o : List (List Cell)) → Fits w → (seen : Seen) →
+pub compound_general : (w : Inputs) (o : List (List Cell)) → (seen : Seen) →
     Good w o seen → (outer : Seen) (atomic : Bool) (vs : Variables) (hs : Handlers) (body : Stmts) →
-    VariablesPlan vs → ((level : ℕ) → AllGood w o hs level outer) →
+    VariablesHold vs (ValueRight w) → ((level : ℕ) → AllGood w o hs level outer) →
     ((level v : ℕ) → Sim w o (suc level) (emit_all body (columns_in w)
     (codes_of w (within hs level v outer))) (λ st. does_all body w
     (context w (within hs level v outer) (suc level) st))) → (level : ℕ) →
     Sim w o level (compound_steps atomic (atomic || has_default vs) w seen outer vs hs body)
     (compound_does atomic w seen outer vs hs body level)
-compound_general w o fits seen good outer atomic vs hs body pvs hh hb level = record {
+compound_general w o seen good outer atomic vs hs body pvs hh hb level = record {
   passes = λ env here next n r c cn ch q l e.
       let S = columns_in w in let own = coded hs S (codes_of w outer) in let whole =
       atomic || has_default vs in
@@ -521,7 +521,7 @@ compound_general w o fits seen good outer atomic vs hs body pvs hh hb level = re
         let z = run w o (emit_declares vs S (codes_of w seen) env runs here next free n) q0 in
         let k0 : Keeps [] n q q0 = λ i lo hi p. set_other q 0 i (at runs)
         (lower_differs 0 i (omega arith)) in
-        let D = declares_run w o fits seen vs pvs env runs here next free n r.under (omega arith)
+        let D = declares_run w o seen vs pvs env runs here next free n r.under (omega arith)
         (omega arith) r.rising f f q0 (length-set q 0 (at runs) ∙ s.long)
         (cells_set_low 3 env.columns n 0 q (at runs) r.rising (omega arith) ∙ s.shows)
         (set_same q 0 (at runs) (let l = s.long in omega (arith, l))) in

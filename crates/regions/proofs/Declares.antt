@@ -10,24 +10,26 @@ use Rattle.sql_values.specs.Casts.{assigned}
 use Rattle.sql_conditions.specs.Conditions.{Area}
 use Rattle.row_types.specs.declared.cell.Cell.{Cell}
 use Rattle.row_types.specs.declared.cell.Cell.TheVariants.{Val, Cond}
-use Rattle.rel_algebra.specs.Tree.{Expr, Assign}
+use Rattle.rel_algebra.specs.Tree.{Assign}
 use Rattle.rel_algebra.specs.Endings.{Ending, cell_end, after, ending_of, op_value}
 use Rattle.rel_algebra.specs.Emit.{width}
 use Rattle.rel_algebra.specs.Joins.{places}
 use Rattle.rel_algebra.specs.Plain.{Inputs, columns_in}
 use Rattle.rel_algebra.specs.Plan.{Scalar, Sight, sight, added, cell_at, cells_at, cell_of}
 use Rattle.rel_algebra.specs.Plan.{cells_of, shown, strictly}
-use Rattle.rel_algebra.specs.Theorem.{Fits}
-use Rattle.rel_algebra.proofs.Laws.{Grows, grows_same, grown_columns, added_grows, Plans}
+use Rattle.rel_algebra.proofs.Laws.{Grows, grows_same, grown_columns, added_grows}
 use Rattle.rel_algebra.proofs.Laws.{shown_append}
-use Rattle.regions.specs.Tree.{Perhaps, Without, With, Variables, NoVariable, MoreVariables}
+use Rattle.regions.specs.Leaves.{ValueLeaf}
+use Rattle.regions.proofs.Held.{ValueRight, VariablesHold}
+use Rattle.regions.specs.Bodies.{Perhaps, Without, With, Variables, NoVariable, MoreVariables}
 use Rattle.regions.specs.Doing.{Frame, End, Returning, Exiting, Outcome, Raising, Leaving, Next}
 use Rattle.regions.specs.Handlers.{raising}
-use Rattle.regions.specs.Meaning.{value_in, declare}
+use Rattle.regions.specs.BodyMeaning.{value_in, declare}
 use Rattle.regions.specs.Steps.{grow, stepped, run, guarded, tag}
 use Rattle.regions.specs.Dispatch.{Env, Codes, count, judging, area_in}
-use Rattle.regions.specs.Inline.{emitted, with_column, with_variables, variable_count, has_default}
-use Rattle.regions.specs.Inline.{null_of, assigned_as, null_scalars, declared, emit_declares}
+use Rattle.regions.specs.BodyChain.{emitted, with_column, with_variables, variable_count}
+use Rattle.regions.specs.BodyChain.{has_default}
+use Rattle.regions.specs.BodyChain.{null_of, assigned_as, null_scalars, declared, emit_declares}
 use Rattle.regions.proofs.Base.{at, both, lower_differs, Rising, rising_below, rising_append, Keeps}
 use Rattle.regions.proofs.Base.{cells_at_append, front_at, grown_cells}
 use Rattle.regions.proofs.Rows.{puts, Wider, acts_off_wide, acts_on_wide}
@@ -37,16 +39,6 @@ use Rattle.regions.proofs.Handled.{sends_bound}
 use Rattle.regions.proofs.Judged.{expr_yields, column_wide, column_cell, marked, marks, judged_area}
 use Rattle.regions.proofs.Judged.{judged_value}
 use Rattle.sql_values.specs.declared.value.SqlType.TheVariants.{Integer, Boolean, Varchar}
-
--- expressions of defaults have plans
-abbrev pub DefaultPlans : Perhaps → Type 0
-DefaultPlans Without = Unit {0}
-DefaultPlans (With e) = Plans e
-
--- those of declarations
-abbrev pub VariablesPlan : Variables → Type 0
-VariablesPlan NoVariable = Unit {0}
-VariablesPlan (MoreVariables k t default others) = DefaultPlans default × VariablesPlan others
 
 -- ---- lists
 
@@ -234,14 +226,14 @@ one_given w o seen env from here base n k p f f0 q z (Err a) r l s g h =
           ∙ m.others i lo;
     })
 
-one_default : (w : Inputs) (o : List (List Cell)) → Fits w → (seen : Seen) (e : Expr) → Plans e →
+one_default : (w : Inputs) (o : List (List Cell)) → (seen : Seen) (e : ValueLeaf) → ValueRight w e →
     (k : ℕ) (t : SqlType) (env : Env) (from here base n : ℕ) (f f0 : Frame) (q : List Cell) →
     Rising 3 env.columns n → length q ≡ n →
     cells_at q env.columns ≡ shown f → cell_at q 0 ≡ at from →
     OneEnd w env from here seen base n k f f0 q
     (stepped w o (declared (With e) k t (columns_in w) (codes_of w seen) env from here base n) q)
     (after (value_in w e f) (λ v. ending_of (assigned t v)))
-one_default w o fits seen e pe k t env from here base n f f0 q r l s c =
+one_default w o seen e pe k t env from here base n f f0 q r l s c =
     let a = emitted e (columns_in w) env n in let p = width a.nodes n in let pre =
     with_column a.nodes (assigned_as t a.scalar) in let z = added pre w o q in
     let stores = judging (tag from) (codes_of w seen) env base here p [] in let gs =
@@ -251,7 +243,7 @@ one_default w o fits seen e pe k t env from here base n f f0 q r l s c =
     let cell : cell_at z p ≡ cell_end E =
     column_cell a.nodes (assigned_as t a.scalar) w o q n l
     ∙ assigned_cell t a.scalar (sight w o (added a.nodes w o q)) (value_in w e f)
-    (expr_yields w o e pe fits env n f q r l s (added a.nodes w o q)
+    (expr_yields w o e pe env n f q r l s (added a.nodes w o q)
     (grows_same (added a.nodes w o q))) in
     subst (λ (x : List Cell). OneEnd w env from here seen base n k f f0 q x E)
     (sym (acts_on_wide from pre (suc p) stores n (replicate k p) w o q l
@@ -341,30 +333,31 @@ under_variables env n k here u = record {
       u.some;
 }
 
-pub declares_run : (w : Inputs) (o : List (List Cell)) → Fits w → (seen : Seen) (vs : Variables) →
-    VariablesPlan vs → (env : Env) (from here base free n : ℕ) → Under env here → here < from →
+pub declares_run : (w : Inputs) (o : List (List Cell)) → (seen : Seen) (vs : Variables) →
+    VariablesHold vs (ValueRight w) → (env : Env) (from here base free n : ℕ) → Under env here →
+    here < from →
     base + count (codes_of w seen) ≤ from →
     Rising 3 env.columns n → (f f0 : Frame) (q : List Cell) → length q ≡ n → cells_at q env.columns
     ≡ shown f → cell_at q 0 ≡ at from →
     DeclaredEnd w env from here seen base n (variable_count vs) f0 q
     (run w o (emit_declares vs (columns_in w) (codes_of w seen) env from here base free n) q)
     (declare vs w f)
-declares_run w o fits seen NoVariable p env from here base free n u hf bf r f f0 q l s c = record {
+declares_run w o seen NoVariable p env from here base free n u hf bf r f f0 q l s c = record {
   long = l ∙ (let e : n ≡ n + 0 = omega arith in e);
   code = c;
   shows = ap (cells_at q) (append-nil env.columns) ∙ s;
   keeps = λ i lo hi x. refl;
 }
-declares_run w o fits seen (MoreVariables k t Without others) p env from here base free n u hf bf r
+declares_run w o seen (MoreVariables k t Without others) p env from here base free n u hf bf r
     f f0 q l s c =
     let y = stepped w o (grow (null_scalars t k)) q in
     let a = one_nulls t w o env from n k f q r l s c in
     later w env from here seen base n k (variable_count others) f0 q y _
     (declare others w (f ++ replicate k Null)) a.keeps
-    (declares_run w o fits seen others p.1 (with_variables env n k) from here base free (n + k)
+    (declares_run w o seen others p.1 (with_variables env n k) from here base free (n + k)
     (under_variables env n k here u) hf bf (rising_append 3 env.columns n k r)
     (f ++ replicate k Null) f0 y a.long a.shows a.code)
-declares_run w o fits seen (MoreVariables k t (With e) others) p env from here base free n u hf bf r
+declares_run w o seen (MoreVariables k t (With e) others) p env from here base free n u hf bf r
     f f0 q l s c =
     let y = stepped w o (declared (With e) k t (columns_in w) (codes_of w seen) env from here base
     n) q in
@@ -375,10 +368,10 @@ declares_run w o fits seen (MoreVariables k t (With e) others) p env from here b
     (go_on (after (value_in w e f) (λ v. ending_of (assigned t v))) y
     (λ v a. later w env from here seen base n k (variable_count others) f0 q y _
     (declare others w (f ++ replicate k v)) a.keeps
-    (declares_run w o fits seen others p.1 (with_variables env n k) from here base free (n + k)
+    (declares_run w o seen others p.1 (with_variables env n k) from here base free (n + k)
     (under_variables env n k here u) hf bf (rising_append 3 env.columns n k r) (f ++ replicate k v)
     f0 y a.long a.shows a.code))
-    (one_default w o fits seen e p.0 k t env from here base n f f0 q r l s c))
+    (one_default w o seen e p.0 k t env from here base n f f0 q r l s c))
   where
     flat : (E : Ending Value) → after (after E (λ v. ending_of (assigned t v)))
         (λ v. declare others w (f ++ replicate k v)) ≡ after E

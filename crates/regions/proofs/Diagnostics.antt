@@ -8,7 +8,6 @@ use Rattle.sql_conditions.specs.declared.condition.Condition.{Condition}
 use Rattle.sql_conditions.specs.Conditions.{Area, pushed, retexted}
 use Rattle.row_types.specs.declared.cell.Cell.{Cell}
 use Rattle.row_types.specs.declared.cell.Cell.TheVariants.{Val, Cond}
-use Rattle.rel_algebra.specs.Tree.{Expr}
 use Rattle.rel_algebra.specs.Endings.{Ending, cell_end, after, ending_of}
 use Rattle.rel_algebra.specs.Emit.{width, scalar_count}
 use Rattle.rel_algebra.specs.Joins.{places}
@@ -20,24 +19,30 @@ use Rattle.rel_algebra.specs.States.{one_condition}
 use Rattle.rel_algebra.specs.OnConditions.{ItemWord, state_item, push_cell, retext_cell}
 use Rattle.rel_algebra.specs.OnConditions.{item_cell as item_gives, item_or, item_of}
 use Rattle.rel_algebra.specs.OnConditions.{condition_numbered, number_cell}
-use Rattle.rel_algebra.specs.Theorem.{Fits}
 use Rattle.rel_algebra.proofs.Laws.{grows_at, grows_same, added_grows, assigning_cell, guard}
-use Rattle.rel_algebra.proofs.Laws.{values_more, Plans}
-use Rattle.regions.specs.Tree.{word_of, Target, Perhaps, Without, With, StatementItem, Number}
-use Rattle.regions.specs.Tree.{RowCount, StatementRead, ConditionRead}
+use Rattle.rel_algebra.proofs.Laws.{values_more}
+use Rattle.regions.specs.Leaves.{ValueLeaf}
+use Rattle.regions.proofs.Held.{PerhapsHolds, ValueRight}
+use Rattle.regions.specs.Bodies.{word_of, Target, Perhaps, Without, With, StatementItem, Number}
+use Rattle.regions.specs.Bodies.{RowCount, StatementRead, ConditionRead}
 use Rattle.regions.specs.Doing.{Frame, End, Doing, take_values, storing}
 use Rattle.regions.specs.Handlers.{Scopes, raising, with_end}
-use Rattle.regions.specs.Meaning.{value_in, perhaps_in, with_text, or_empty, again_as, signalling}
-use Rattle.regions.specs.Meaning.{resignalling, statement_item, statement_targets, statement_values}
-use Rattle.regions.specs.Meaning.{condition_targets, condition_values, getting_area, of_condition}
-use Rattle.regions.specs.Meaning.{getting_condition}
+use Rattle.regions.specs.BodyMeaning.{value_in, perhaps_in, with_text, or_empty, again_as}
+use Rattle.regions.specs.BodyMeaning.{signalling}
+use Rattle.regions.specs.BodyMeaning.{resignalling, statement_item, statement_targets}
+use Rattle.regions.specs.BodyMeaning.{statement_values}
+use Rattle.regions.specs.BodyMeaning.{condition_targets, condition_values, getting_area}
+use Rattle.regions.specs.BodyMeaning.{of_condition}
+use Rattle.regions.specs.BodyMeaning.{getting_condition}
 use Rattle.regions.specs.Steps.{Step, run, col, tag}
 use Rattle.regions.specs.Dispatch.{Env, Emit, Codes}
-use Rattle.regions.specs.Inline.{emitted, with_column, with_columns, target_stores, one_raise, push}
-use Rattle.regions.specs.Inline.{perhaps_emitted, emit_signal, again, emit_again, not_active_cell}
-use Rattle.regions.specs.Inline.{not_stacked_cell, statement_cell, statement_cells}
-use Rattle.regions.specs.Inline.{emit_statement_items, item_cell, condition_cells}
-use Rattle.regions.specs.Inline.{emit_condition_items}
+use Rattle.regions.specs.BodyChain.{emitted, with_column, with_columns, target_stores, one_raise}
+use Rattle.regions.specs.BodyChain.{push}
+use Rattle.regions.specs.BodyChain.{perhaps_emitted, emit_signal, again, emit_again}
+use Rattle.regions.specs.BodyChain.{not_active_cell}
+use Rattle.regions.specs.BodyChain.{not_stacked_cell, statement_cell, statement_cells}
+use Rattle.regions.specs.BodyChain.{emit_statement_items, item_cell, condition_cells}
+use Rattle.regions.specs.BodyChain.{emit_condition_items}
 use Rattle.regions.proofs.Base.{at, both, Rising}
 use Rattle.regions.proofs.Lands.{Lands, Ready, Holds, Sim, Seen, scopes_of, codes_of, Good}
 use Rattle.regions.proofs.Judged.{expr_yields, column_wide, column_cell, Judged, one_passes}
@@ -61,23 +66,19 @@ sim_same w o level a b d h s = record {
 
 -- ---- texts
 
--- a text has a plan, where one is written
-abbrev pub PerhapsPlans : Perhaps → Type 0
-PerhapsPlans Without = Unit {0}
-PerhapsPlans (With e) = Plans e
-
 -- the text as a value; the empty one where none is written
 abbrev text_in : Inputs → Perhaps → Frame → Ending Value
 text_in w Without f = Ok (Str [])
 text_in w (With e) f = value_in w e f
 
-text_yields : (w : Inputs) (o : List (List Cell)) (text : Perhaps) → PerhapsPlans text → Fits w →
+text_yields : (w : Inputs) (o : List (List Cell)) (text : Perhaps) → PerhapsHolds text
+    (ValueRight w) →
     (env : Env) (n : ℕ) (f : Frame) (q : List Cell) → Rising 3 env.columns n → length q ≡ n →
     cells_at q env.columns ≡ shown f → let a = perhaps_emitted text (columns_in w) env n in
     cell_of a.scalar (sight w o (added a.nodes w o q)) ≡ cell_end (text_in w text f)
-text_yields w o Without p fits env n f q r l s = refl
-text_yields w o (With e) p fits env n f q r l s =
-    let a = emitted e (columns_in w) env n in expr_yields w o e p fits env n f q r l s
+text_yields w o Without p env n f q r l s = refl
+text_yields w o (With e) p env n f q r l s =
+    let a = emitted e (columns_in w) env n in expr_yields w o e p env n f q r l s
     (added a.nodes w o q) (grows_same (added a.nodes w o q))
 
 -- ---- SIGNAL
@@ -103,11 +104,11 @@ signal_raises : (w : Inputs) (seen : Seen) (state : List ℕ) (text : Perhaps) (
 signal_raises w seen state Without f = (one_condition state [], refl, refl)
 signal_raises w seen state (With e) f = signal_with w seen state f (value_in w e f)
 
-pub signal_sim : (w : Inputs) (o : List (List Cell)) → Fits w → (seen : Seen) → Good w o seen →
-    (level : ℕ) (state : List ℕ) (text : Perhaps) → PerhapsPlans text →
+pub signal_sim : (w : Inputs) (o : List (List Cell)) → (seen : Seen) → Good w o seen →
+    (level : ℕ) (state : List ℕ) (text : Perhaps) → PerhapsHolds text (ValueRight w) →
     Sim w o level (emit_signal state text (columns_in w) (codes_of w seen))
     (λ st. signalling state (scopes_of w seen) (perhaps_in w text))
-signal_sim w o fits seen good level state text p =
+signal_sim w o seen good level state text p =
     let S = columns_in w in
     let cell : Env → ℕ → Scalar = λ env n. push state (perhaps_emitted text S env n).scalar
     (constant Null) in
@@ -120,14 +121,14 @@ signal_sim w o fits seen good level state text p =
       t.0,
       column_cell a.nodes (cell env n) w o q n s.long
           ∙ (ap (λ (c : Cell). push_cell state c (Val Null))
-          (text_yields w o text p fits env n f q r s.long s.shows) ∙ t.1),
+          (text_yields w o text p env n f q r s.long s.shows) ∙ t.1),
       t.2,
     ))
 
 -- ---- RESIGNAL
 
 again_with : (w : Inputs) (seen : Seen) (state : Option (List ℕ)) (a : Area) (f : Frame)
-    (E : Ending Value) (s : Sight) (x : Scalar) (c : ℕ) (e : Expr) → cell_of x s ≡ cell_end E →
+    (E : Ending Value) (s : Sight) (x : Scalar) (c : ℕ) (e : ValueLeaf) → cell_of x s ≡ cell_end E →
     cell_of (col c) s ≡ Cond a →
     Raises seen w f (cell_of (again state (With e) x c) s)
     (with_end (scopes_of w seen) (after E (λ v. Ok (Some v))) f
@@ -192,31 +193,31 @@ again_wide (Some c) state text w o env n q l =
     let a = perhaps_emitted text (columns_in w) env n in column_wide a.nodes
     (again state text a.scalar c) w o q n l
 
-again_goes : (es : Option ℕ) (state : Option (List ℕ)) (text : Perhaps) → PerhapsPlans text →
-    (w : Inputs) (o : List (List Cell)) → Fits w → (seen : Seen) (env : Env) (n : ℕ) →
+again_goes : (es : Option ℕ) (state : Option (List ℕ)) (text : Perhaps) (w : Inputs)
+    (o : List (List Cell)) → PerhapsHolds text (ValueRight w) → (seen : Seen) (env : Env) (n : ℕ) →
     Rising 3 env.columns n →
     (st : Option Area) (f : Frame) (q : List Cell) → length q ≡ n → cells_at q env.columns
     ≡ shown f → Holds es st env.columns n q →
     Raises seen w f (cell_at (added (again_nodes es state text w env n) w o q)
     (again_column es text w env n)) (resignalling st state (scopes_of w seen) (perhaps_in w text) f)
-again_goes None state text p w o fits seen env n r None f q l s h =
+again_goes None state text w o p seen env n r None f q l s h =
     (not_active, column_cell no_node not_active_cell w o q n l, refl)
-again_goes None state text p w o fits seen env n r (Some a) f q l s h = absurd h
-again_goes (Some c) state text p w o fits seen env n r None f q l s h = absurd h
-again_goes (Some c) state text p w o fits seen env n r (Some a) f q l s h =
+again_goes None state text w o p seen env n r (Some a) f q l s h = absurd h
+again_goes (Some c) state text w o p seen env n r None f q l s h = absurd h
+again_goes (Some c) state text w o p seen env n r (Some a) f q l s h =
     let e = perhaps_emitted text (columns_in w) env n in
     let t = again_raises w seen state text a f (sight w o (added e.nodes w o q)) e.scalar c
-    (text_yields w o text p fits env n f q r l s)
+    (text_yields w o text p env n f q r l s)
     (grows_at q (added e.nodes w o q) c (added_grows e.nodes w o q)
     (let b = h.1 in omega (arith, l, b)) ∙ h.3) in
     (t.0, column_cell e.nodes (again state text e.scalar c) w o q n l ∙ t.1, t.2)
 
-pub resignal_sim : (w : Inputs) (o : List (List Cell)) → Fits w → (seen : Seen) → Good w o seen →
-    (level : ℕ) (state : Option (List ℕ)) (text : Perhaps) → PerhapsPlans text →
+pub resignal_sim : (w : Inputs) (o : List (List Cell)) → (seen : Seen) → Good w o seen →
+    (level : ℕ) (state : Option (List ℕ)) (text : Perhaps) → PerhapsHolds text (ValueRight w) →
     Sim w o level (λ env here next n. emit_again env.stacked state text (columns_in w)
     (codes_of w seen) env here next n) (λ st. resignalling st state (scopes_of w seen)
     (perhaps_in w text))
-resignal_sim w o fits seen good level state text p =
+resignal_sim w o seen good level state text p =
     let d : Option Area → Doing = λ st. resignalling st state (scopes_of w seen)
     (perhaps_in w text) in
     sim_same w o level (λ env here next n. one_raise (codes_of w seen) env here next n
@@ -225,7 +226,7 @@ resignal_sim w o fits seen good level state text p =
     (raise_sim w o seen good level (λ env n. again_nodes env.stacked state text w env n)
     (λ env n. again_column env.stacked text w env n) d
     (λ env n q l. again_wide env.stacked state text w o env n q l)
-    (λ env n r st f q s. again_goes env.stacked state text p w o fits seen env n r st f q s.long
+    (λ env n r st f q s. again_goes env.stacked state text w o p seen env n r st f q s.long
     s.shows s.holds))
 
 -- ---- GET STACKED DIAGNOSTICS
@@ -465,8 +466,8 @@ abbrev tail_of : List Cell → List Cell
 tail_of [] = []
 tail_of (c ∷ cs) = cs
 
-condition_judged : (w : Inputs) (o : List (List Cell)) → Fits w → (seen : Seen) (env : Env)
-    (here n : ℕ) → Rising 3 env.columns n → (number : Expr) → Plans number →
+condition_judged : (w : Inputs) (o : List (List Cell)) → (seen : Seen) (env : Env)
+    (here n : ℕ) → Rising 3 env.columns n → (number : ValueLeaf) → ValueRight w number →
     (reads : List ConditionRead) (c : ℕ) (a : Area) (f : Frame) (q : List Cell) → length q ≡ n →
     cells_at q env.columns ≡ shown f → cell_at q c ≡ Cond a → c < n →
     let x = emitted number (columns_in w) env n in let i = width x.nodes n in let k =
@@ -477,7 +478,7 @@ condition_judged : (w : Inputs) (o : List (List Cell)) → Fits w → (seen : Se
     (target_stores (condition_targets reads) env n (suc i + k) (suc (suc i))) (tag here) (suc i + k)
     f
     (getting_condition (Some a) (scopes_of w seen) (value_in w number) reads f)
-condition_judged w o fits seen env here n r number p reads c a f q l s h u =
+condition_judged w o seen env here n r number p reads c a f q l s h u =
     let x = emitted number (columns_in w) env n in let i = width x.nodes n in let k =
     suc (length reads) in
     let before = with_column x.nodes x.scalar in let ss = more (item_cell state_item i c)
@@ -487,7 +488,7 @@ condition_judged w o fits seen env here n r number p reads c a f q l s h u =
     let long : length y ≡ suc i = column_wide x.nodes x.scalar w o q n l in
     let many : scalar_count ss ≡ k = ap suc (condition_count reads i c) in
     let at_i : cell_at y i ≡ cell_end (value_in w number f) =
-    column_cell x.nodes x.scalar w o q n l ∙ expr_yields w o number p fits env n f q r l s
+    column_cell x.nodes x.scalar w o q n l ∙ expr_yields w o number p env n f q r l s
     (added x.nodes w o q) (grows_same (added x.nodes w o q)) in
     let at_c : cell_at y c ≡ Cond a = grows_at q y c (added_grows before w o q) (omega (arith, l))
     ∙ h in
@@ -508,7 +509,8 @@ condition_judged w o fits seen env here n r number p reads c a f q l s h u =
     ∙ (ap tail_of cells ∙ own_cells (value_in w number f) a reads i c (sight w o y) at_i at_c xs
     e)))
 
-condition_wide : (w : Inputs) (o : List (List Cell)) (number : Expr) (reads : List ConditionRead)
+condition_wide : (w : Inputs) (o : List (List Cell)) (number : ValueLeaf)
+    (reads : List ConditionRead)
     (c : ℕ) (env : Env) (n : ℕ) (q : List Cell) → length q ≡ n →
     let x = emitted number (columns_in w) env n in let i = width x.nodes n in let k =
     suc (length reads) in
@@ -523,7 +525,8 @@ condition_wide w o number reads c env n q l =
     (column_wide x.nodes x.scalar w o q n l) (ap suc (condition_count reads i c))
 
 condition_passes : (w : Inputs) (o : List (List Cell)) (seen : Seen) → Good w o seen →
-    (es : Option ℕ) (number : Expr) (reads : List ConditionRead) (env : Env) (here next n : ℕ) →
+    (es : Option ℕ) (number : ValueLeaf) (reads : List ConditionRead) (env : Env)
+    (here next n : ℕ) →
     Ready env here next n →
     (k : ℕ) → k < next → nat_eq k here ≡ false → (q : List Cell) → length q ≡ n → cell_at q 0
     ≡ at k →
@@ -542,24 +545,25 @@ condition_passes w o seen good (Some i) number reads env here next n r k u x q l
     (target_stores (condition_targets reads) env n (suc j + m) (suc (suc j))) k u x q l
     (condition_wide w o number reads i env n q l) c
 
-condition_lands : (w : Inputs) (o : List (List Cell)) → Fits w → (seen : Seen) → Good w o seen →
-    (es : Option ℕ) (number : Expr) → Plans number → (reads : List ConditionRead) (env : Env)
+condition_lands : (w : Inputs) (o : List (List Cell)) → (seen : Seen) → Good w o seen →
+    (es : Option ℕ) (number : ValueLeaf) → ValueRight w number → (reads : List ConditionRead)
+    (env : Env)
     (here next n : ℕ) → Ready env here next n →
     (st : Option Area) (f : Frame) (q : List Cell) → length q ≡ n → cells_at q env.columns
     ≡ shown f → Holds es st env.columns n q → cell_at q 0 ≡ at here →
     Lands env here n q (getting_condition st (scopes_of w seen) (value_in w number) reads f)
     (run w o (emit_condition_items es number reads (columns_in w) (codes_of w seen) env here next n)
     q)
-condition_lands w o fits seen good None number p reads env here next n r None f q l s h c =
+condition_lands w o seen good None number p reads env here next n r None f q l s h c =
     raise_lands w o seen good env here next n r (with_column no_node not_stacked_cell) n f
     (raising (scopes_of w seen) not_stacked f) q l s
     (column_wide no_node not_stacked_cell w o q n l) c
     not_stacked (column_cell no_node not_stacked_cell w o q n l) refl
-condition_lands w o fits seen good None number p reads env here next n r (Some a) f q l s h c =
+condition_lands w o seen good None number p reads env here next n r (Some a) f q l s h c =
     absurd h
-condition_lands w o fits seen good (Some i) number p reads env here next n r None f q l s h c =
+condition_lands w o seen good (Some i) number p reads env here next n r None f q l s h c =
     absurd h
-condition_lands w o fits seen good (Some i) number p reads env here next n r (Some a) f q l s h c =
+condition_lands w o seen good (Some i) number p reads env here next n r (Some a) f q l s h c =
     let x = emitted number (columns_in w) env n in let j = width x.nodes n in let k =
     suc (length reads) in
     one_lands w o seen good env here next n r
@@ -569,16 +573,17 @@ condition_lands w o fits seen good (Some i) number p reads env here next n r (So
     (target_stores (condition_targets reads) env n (suc j + k) (suc (suc j))) f
     (getting_condition (Some a) (scopes_of w seen) (value_in w number) reads f) q l s
     (condition_wide w o number reads i env n q l) c
-    (condition_judged w o fits seen env here n r.rising number p reads i a f q l s h.3 h.1)
+    (condition_judged w o seen env here n r.rising number p reads i a f q l s h.3 h.1)
 
-pub condition_items_sim : (w : Inputs) (o : List (List Cell)) → Fits w → (seen : Seen) →
-    Good w o seen → (level : ℕ) (number : Expr) → Plans number → (reads : List ConditionRead) →
+pub condition_items_sim : (w : Inputs) (o : List (List Cell)) → (seen : Seen) →
+    Good w o seen → (level : ℕ) (number : ValueLeaf) → ValueRight w number →
+    (reads : List ConditionRead) →
     Sim w o level (λ env here next n. emit_condition_items env.stacked number reads (columns_in w)
     (codes_of w seen) env here next n)
     (λ st. getting_condition st (scopes_of w seen) (value_in w number) reads)
-condition_items_sim w o fits seen good level number p reads = record {
+condition_items_sim w o seen good level number p reads = record {
   passes = λ env here next n r k u x q l c. condition_passes w o seen good env.stacked number reads
       env here next n r k u x q l c;
-  lands = λ env here next n r v st f q s c. condition_lands w o fits seen good env.stacked number p
+  lands = λ env here next n r v st f q s c. condition_lands w o seen good env.stacked number p
       reads env here next n r st f q s.long s.shows s.holds c;
 }

@@ -10,16 +10,16 @@ use Rattle.row_types.specs.declared.cell.Cell.TheVariants.{Cond}
 use Rattle.rel_algebra.specs.Plain.{Inputs, columns_in}
 use Rattle.rel_algebra.specs.Plan.{no_node, word, case_word, sight, cell_at, cells_at, shown}
 use Rattle.rel_algebra.specs.States.{state_in}
-use Rattle.regions.specs.Tree.{HandlerType, Stmt, Handlers, NoHandler, MoreHandlers}
+use Rattle.regions.specs.Bodies.{HandlerType, Stmt, Handlers, NoHandler, MoreHandlers}
 use Rattle.regions.specs.Doing.{Frame, Outcome, Next, Leaving, Returning, Exiting, Raising, End}
 use Rattle.regions.specs.Doing.{Doing, ends}
 use Rattle.regions.specs.Handlers.{Handling, best_here, with_best}
 use Rattle.regions.specs.Compounds.{exited_or}
-use Rattle.regions.specs.Meaning.{does, in_action, handlings}
+use Rattle.regions.specs.BodyMeaning.{does, in_action, handlings}
 use Rattle.regions.specs.Steps.{grow, stepped, run, Store, store, acts, col, only, tag}
 use Rattle.regions.specs.Dispatch.{Env, scope_arms, action_env, whatever, scope_actions}
-use Rattle.regions.specs.Inline.{coded, set_at, out_in, inside, ending_env, its_own, ending}
-use Rattle.regions.specs.Inline.{ending_width}
+use Rattle.regions.specs.BodyChain.{coded, set_at, out_in, inside, ending_env, its_own, ending}
+use Rattle.regions.specs.BodyChain.{ending_width}
 use Rattle.regions.proofs.Base.{at, lower_differs, higher_differs, set_same, set_other, Rising}
 use Rattle.regions.proofs.Base.{rising_below, rising_more, rising_take, Apart, Keeps, cells_set_low}
 use Rattle.regions.proofs.Base.{cells_at_long, front_at, grown_cells}

@@ -6,56 +6,59 @@ use Rattle.std.proofs.lemmas.List.{length-set, length-replicate}
 use Rattle.sql_values.specs.declared.value.SqlType.{SqlType}
 use Rattle.sql_values.specs.declared.value.SqlType.TheVariants.{Integer, Varchar, Boolean}
 use Rattle.sql_values.specs.declared.value.Value.TheVariants.{Null, Bool as Truth}
-use Rattle.rel_algebra.specs.Tree.{Expr, Query, Select, Grouped, Values, Ordered, ConditionValue}
+use Rattle.rel_algebra.specs.Tree.{ConditionValue}
 use Rattle.rel_algebra.specs.Tree.{State, SqlException, SqlWarning, NotFound, AnyOf, NullTest}
-use Rattle.rel_algebra.specs.Tree.{NoExpr}
-use Rattle.rel_algebra.specs.Emit.{Emitted, Folded, folded, joined_nodes, plan, width, assigning}
+use Rattle.rel_algebra.specs.Emit.{Emitted, Folded, joined_nodes, width, assigning}
 use Rattle.rel_algebra.specs.Emit.{scalar_count, all_values, if_values, Place, at, given, nowhere}
-use Rattle.rel_algebra.specs.Emit.{folded_env}
-use Rattle.rel_algebra.specs.Joins.{places, query_width}
+use Rattle.rel_algebra.specs.Joins.{places}
 use Rattle.rel_algebra.specs.Plan.{Nodes, no_node, extend_by, apply_by, kind_width, into, aggregate}
 use Rattle.rel_algebra.specs.Plan.{constant, word, Scalar, Scalars, none, more, PlanTree, extend}
 use Rattle.rel_algebra.specs.Plan.{keep, on_each, unit_row, Way, anew, once, lookup, found_width}
 use Rattle.rel_algebra.specs.Plan.{on_condition, strict, case_word, and_word, or_word, Word}
 use Rattle.rel_algebra.specs.Removal.{less, tree_width}
-use Rattle.rel_algebra.specs.WellFormed.{has_column, Shaped, ShapedQuery, columns_fit, kind_fits}
+use Rattle.rel_algebra.specs.WellFormed.{has_column, columns_fit, kind_fits}
 use Rattle.rel_algebra.specs.WellFormed.{nodes_fit, scalar_fits, scalars_fit, tree_fits, way_fits}
 use Rattle.rel_algebra.proofs.Laws.{and_true, left_true, right_true, EnvFits, Fit, check_fits}
 use Rattle.rel_algebra.proofs.Laws.{if_values_fits, join_fits, lt_less, on_each_fits, places_fit}
-use Rattle.rel_algebra.proofs.Laws.{FoldedFits, expr_fits, fold_fits, query_fits, Even}
-use Rattle.rel_algebra.proofs.Laws.{on_each_width, plan_width, width_join, width_more, all_count}
-use Rattle.regions.specs.Tree.{word_of, Target, HandlerType, Continue, Exit, Undo, Perhaps, Without}
-use Rattle.regions.specs.Tree.{With, StatementItem, Number, RowCount, StatementRead, ConditionRead}
-use Rattle.regions.specs.Tree.{Stmt, Compound, If, SearchedCase, SimpleCase, Set, SelectInto}
-use Rattle.regions.specs.Tree.{Signal, Resignal, GetStatementItems, GetConditionItems, Leave}
-use Rattle.regions.specs.Tree.{Return, Stmts, NoStmt, MoreStmts, Branches, NoBranch, MoreBranches}
-use Rattle.regions.specs.Tree.{Variables, NoVariable, MoreVariables, Handlers, NoHandler}
-use Rattle.regions.specs.Tree.{MoreHandlers, Body}
+use Rattle.rel_algebra.proofs.Laws.{FoldedFits, on_each_width, width_join, width_more}
+use Rattle.regions.specs.Bodies.{word_of, Target, HandlerType, Continue, Exit, Undo, Perhaps}
+use Rattle.regions.specs.Bodies.{Without}
+use Rattle.regions.specs.Bodies.{With, StatementItem, Number, RowCount, StatementRead}
+use Rattle.regions.specs.Bodies.{ConditionRead}
+use Rattle.regions.specs.Bodies.{Stmt, Compound, If, SearchedCase, SimpleCase, Set, SelectInto}
+use Rattle.regions.specs.Bodies.{Signal, Resignal, GetStatementItems, GetConditionItems, Leave}
+use Rattle.regions.specs.Bodies.{Return, Stmts, NoStmt, MoreStmts, Branches, NoBranch, MoreBranches}
+use Rattle.regions.specs.Bodies.{Variables, NoVariable, MoreVariables, Handlers, NoHandler}
+use Rattle.regions.specs.Bodies.{MoreHandlers, Body, Routine, parameters_of}
 use Rattle.regions.specs.Steps.{asked_when, Step, grow, fat, Store, store, steps_tree, is_sure}
 use Rattle.regions.specs.Steps.{asked_at, code_is, case_of, guarded, placed, acts, jump, only, two}
 use Rattle.regions.specs.Steps.{col, tag}
 use Rattle.rel_algebra.specs.OnConditions.{matches_word, number_word, state_item, raise_word}
+use Rattle.regions.proofs.Held.{Holds, AllHold, BranchesHold, CountIs, HandlersHold}
+use Rattle.regions.proofs.Held.{PerhapsHolds, QueryFits, RoutineFits, ValueFits, VariablesHold}
+use Rattle.regions.specs.Leaves.{QueryLeaf, ValueLeaf, Widths}
 use Rattle.regions.specs.Compounds.{scopes_in}
-use Rattle.regions.specs.Meaning.{statement_targets, condition_targets}
+use Rattle.regions.specs.BodyMeaning.{statement_targets, condition_targets}
 use Rattle.regions.specs.Dispatch.{Env, Emit, Coded, Codes, count, matching, is_value, area_in}
 use Rattle.regions.specs.Dispatch.{named_tests, general_tests, arm, named_arms, general_arms}
 use Rattle.regions.specs.Dispatch.{scope_arms, aimed, dispatch, code_or, judging, raising_to}
 use Rattle.regions.specs.Dispatch.{store_if, action_env, if_continue, whatever, scope_actions}
 use Rattle.regions.specs.Dispatch.{actions, has_continue, tags, joins, handled}
-use Rattle.regions.specs.Inline.{null_of, assigned_as, Widths, Rest, reading, place_at, column_at}
-use Rattle.regions.specs.Inline.{emitted, with_column, with_columns, target_stores, one_step}
-use Rattle.regions.specs.Inline.{one_raise, emit_set, emit_return, assigns, assigns_if, into_by}
-use Rattle.regions.specs.Inline.{push, not_active_cell, not_stacked_cell, case_not_found_cell}
-use Rattle.regions.specs.Inline.{without_return_cell, perhaps_emitted, again, emit_signal}
-use Rattle.regions.specs.Inline.{emit_again, statement_cell, statement_cells, emit_statement_items}
-use Rattle.regions.specs.Inline.{item_cell, condition_cells, emit_condition_items, and_on}
-use Rattle.regions.specs.Inline.{branching, not_found, equal_to, with_variables, inside, ending_env}
-use Rattle.regions.specs.Inline.{its_own, ending, ending_width, whole_raise, variable_count}
-use Rattle.regions.specs.Inline.{has_default, null_scalars, emit, emit_all, emit_else}
-use Rattle.regions.specs.Inline.{emit_branches, emit_matching, emit_declares, coded, top}
-use Rattle.regions.specs.Inline.{raised_area, last_cell, first_cells}
-use Rattle.regions.specs.Theorem.{WellFormedInlines, PerhapsShaped, VariablesShaped, StmtShaped}
-use Rattle.regions.specs.Theorem.{AllShaped, BranchesShaped, HandlersShaped}
+use Rattle.regions.specs.BodyChain.{null_of, assigned_as, inline_with, Rest, reading, place_at}
+use Rattle.regions.specs.BodyChain.{column_at}
+use Rattle.regions.specs.BodyChain.{emitted, with_column, with_columns, target_stores, one_step}
+use Rattle.regions.specs.BodyChain.{one_raise, emit_set, emit_return, assigns, assigns_if, into_by}
+use Rattle.regions.specs.BodyChain.{push, not_active_cell, not_stacked_cell, case_not_found_cell}
+use Rattle.regions.specs.BodyChain.{without_return_cell, perhaps_emitted, again, emit_signal}
+use Rattle.regions.specs.BodyChain.{emit_again, statement_cell, statement_cells}
+use Rattle.regions.specs.BodyChain.{emit_statement_items}
+use Rattle.regions.specs.BodyChain.{item_cell, condition_cells, emit_condition_items, and_on}
+use Rattle.regions.specs.BodyChain.{branching, not_found, equal_to, with_variables, inside}
+use Rattle.regions.specs.BodyChain.{ending_env}
+use Rattle.regions.specs.BodyChain.{its_own, ending, ending_width, whole_raise, variable_count}
+use Rattle.regions.specs.BodyChain.{has_default, null_scalars, emit, emit_all, emit_else}
+use Rattle.regions.specs.BodyChain.{emit_branches, emit_matching, emit_declares, coded, top}
+use Rattle.regions.specs.BodyChain.{raised_area, last_cell, first_cells}
 use Rattle.regions.proofs.Base.{Rising, rising_below, rising_more, rising_take, rising_append, both}
 use Rattle.regions.proofs.Rows.{asked_width, guarded_count}
 use Rattle.regions.proofs.Handled.{places_count}
@@ -343,10 +346,10 @@ reading_fits : (A : Around) (env : Env) (n : ℕ) → Placed env n → EnvFits (
     A.args
 reading_fits A env n p = (λ d i. tt, λ i. place_right 3 env.columns n p.rising i A.outer A.args)
 
-expr_right : (A : Around) (e : Expr) → Shaped e A.tables → (env : Env) (n : ℕ) → Placed env n →
+expr_right : (A : Around) (e : ValueLeaf) → ValueFits A.tables e → (env : Env) (n : ℕ) → Placed env
+    n →
     Fit (emitted e A.tables env n) A.tables n A.outer A.args
-expr_right A e s env n p = expr_fits e A.tables (reading env) n A.outer A.args s
-    (reading_fits A env n p)
+expr_right A e s env n p = s A.outer A.args (reading env) n (reading_fits A env n p)
 
 -- ---- dispatch
 
@@ -590,7 +593,7 @@ jump_fits A k to n j rest h f = then_fits A k no_node n (store 0 (tag to) ∷ []
 
 -- ---- statements
 
-set_fits_all : (A : Around) (t : Target) (e : Expr) → Shaped e A.tables → (cs : Codes) →
+set_fits_all : (A : Around) (t : Target) (e : ValueLeaf) → ValueFits A.tables e → (cs : Codes) →
     CodesFit A cs → EmitFits A (emit_set t e A.tables cs)
 set_fits_all A t e s cs h env here next n q =
     let a = emitted e A.tables env n in let p = width a.nodes n in let f = expr_right A e s env n
@@ -609,7 +612,8 @@ set_fits_all A t e s cs h env here next n q =
       tt,
     )
 
-return_fits_all : (A : Around) (e : Expr) → Shaped e A.tables → (cs : Codes) → CodesFit A cs →
+return_fits_all : (A : Around) (e : ValueLeaf) → ValueFits A.tables e → (cs : Codes) → CodesFit A
+    cs →
     EmitFits A (emit_return e A.tables cs)
 return_fits_all A e s cs h env here next n q =
     let a = emitted e A.tables env n in let p = width a.nodes n in let f = expr_right A e s env n
@@ -643,49 +647,31 @@ ifs_long : (is : List ℕ) (ts : List Target) (p : ℕ) → scalar_count (assign
 ifs_long is [] p = refl
 ifs_long is (t ∷ ts) p = ap suc (ifs_long is ts (suc p))
 
-shaped_even : (q : Query) (S : Widths) → ShapedQuery q S → Even q
-shaped_even (Select items from tests) S s = tt
-shaped_even (Grouped from tests k items ags having list) S s = tt
-shaped_even (Values rows) S s = s.0
-shaped_even (Ordered q keys) S s = shaped_even q S s.0
-
 equal_true : (a b : ℕ) → a ≡ b → nat_eq a b ≡ true
 equal_true a b h = ap (nat_eq a) (sym h) ∙ grind arith
 
--- how many scalars a folded list has
-abbrev ListLong : Option Folded → ℕ → Type 0
-ListLong None k = Unit {0}
-ListLong (Some a) k = (n : ℕ) → scalar_count (a.list n).scalars ≡ k
-
-list_long : (q : Query) (S : Widths) (e : Rattle.rel_algebra.specs.Emit.Env) →
-    ListLong (folded q S e) (query_width q S)
-list_long (Grouped from tests zero items (a ∷ ags) NoExpr list) S e =
-    λ n. all_count list S (folded_env e n (suc (length ags))) (n + suc (length ags))
-list_long _ S e = tt
-
-into_fits : (A : Around) (query : Query) (ts : List Target) → ShapedQuery query A.tables →
-    query_width query A.tables ≡ length ts → (cs : Codes) → CodesFit A cs →
+into_fits : (A : Around) (query : QueryLeaf) (ts : List Target) → QueryFits A.tables query ts →
+    (cs : Codes) → CodesFit A cs →
     (env : Env) (here next n : ℕ) → Placed env n →
-    (oa : Option Folded) → FoldedFits oa A.tables n A.outer A.args → ListLong oa (length ts) →
-    Fits A (into_by oa (plan query A.tables (reading env)) ts cs env here next n) n n
-into_fits A query ts s qw cs h env here next n q None f c =
-    let k = length ts in let t = plan query A.tables (reading env) in let p = n + k in
+    (oa : Option Folded) → FoldedFits oa A.tables n A.outer A.args → CountIs oa (length ts) →
+    Fits A (into_by oa (query.plan A.tables (reading env)) ts cs env here next n) n n
+into_fits A query ts s cs h env here next n q None f c =
+    let k = length ts in let t = query.plan A.tables (reading env) in let p = n + k in
     one_fits A cs h env here next n q (apply_by (constant (Truth true)) (into k) anew t
     (with_columns no_node (assigns ts n) (places p k))) (p + k) (tag here)
     (target_stores ts env n (p + k) p) (omega arith)
     (and_true (true && nat_eq (tree_width t) k)
     (tree_fits t A.tables (n ∷ A.outer) A.args && nodes_fit
     (with_columns no_node (assigns ts n) (places p k)) A.tables p A.outer A.args)
-    (equal_true (tree_width t) k (plan_width query A.tables (reading env)
-    (shaped_even query A.tables s) ∙ qw))
+    (equal_true (tree_width t) k (s.wide (reading env)))
     (and_true (tree_fits t A.tables (n ∷ A.outer) A.args) _
-    (query_fits query A.tables (reading env) (n ∷ A.outer) A.args s (reading_fits A env n q))
+    (s.fits (reading env) (n ∷ A.outer) A.args (reading_fits A env n q))
     (with_more A no_node (assigns ts n) (places p k) p k (assigns_long ts n) refl
     (assigns_right A ts n p (omega arith)) (places_fit p k (p + k) (omega arith)))))
     (more_width no_node (assigns ts n) (places p k) p k (assigns_long ts n)) refl
     (targets_right A ts env n (p + k) p (suc (p + k)) q.rising (omega arith) (omega arith)
     (omega arith))
-into_fits A query ts s qw cs h env here next n q (Some a) f c =
+into_fits A query ts s cs h env here next n q (Some a) f c =
     let k = length ts in let l = a.list n in let m = n + length a.aggregates in let p =
     width l.nodes m in let is = n ∷ places p k in let ss = assigns_if is ts p in
     let behind = extend_by l.scalars (with_columns no_node ss (places (p + k) k)) in
@@ -715,12 +701,14 @@ into_fits A query ts s qw cs h env here next n q (Some a) f c =
     refl (targets_right A ts env n ((p + k) + k) (p + k) (suc ((p + k) + k)) q.rising (omega arith)
     (omega arith) (omega arith))
 
-perhaps_fits : (A : Around) (p : Perhaps) → PerhapsShaped p A.tables → (env : Env) (n : ℕ) →
+perhaps_fits : (A : Around) (p : Perhaps) → PerhapsHolds p (ValueFits A.tables) → (env : Env)
+    (n : ℕ) →
     Placed env n → Fit (perhaps_emitted p A.tables env n) A.tables n A.outer A.args
 perhaps_fits A Without s env n q = (refl, refl)
 perhaps_fits A (With e) s env n q = expr_right A e s env n q
 
-signal_fits : (A : Around) (state : List ℕ) (text : Perhaps) → PerhapsShaped text A.tables →
+signal_fits : (A : Around) (state : List ℕ) (text : Perhaps) → PerhapsHolds text
+    (ValueFits A.tables) →
     (cs : Codes) → CodesFit A cs → EmitFits A (emit_signal state text A.tables cs)
 signal_fits A state text s cs h env here next n q =
     let a = perhaps_emitted text A.tables env n in let p = width a.nodes n in let f = perhaps_fits A
@@ -745,8 +733,9 @@ again_right A None (With e) s c m h r = two_right A s (col c) m r (column_right 
 again_right A (Some state) Without s c m h r = two_right A s (col c) m r (column_right A c m h)
 again_right A (Some state) (With e) s c m h r = two_right A s (col c) m r (column_right A c m h)
 
-again_fits : (A : Around) (es : Option ℕ) (state : Option (List ℕ)) (text : Perhaps) → PerhapsShaped
-    text A.tables → (cs : Codes) → CodesFit A cs → (env : Env) (here next n : ℕ) → Placed env n →
+again_fits : (A : Around) (es : Option ℕ) (state : Option (List ℕ)) (text : Perhaps) → PerhapsHolds
+    text (ValueFits A.tables) → (cs : Codes) → CodesFit A cs → (env : Env) (here next n : ℕ) →
+    Placed env n →
     StackedBelow es n →
     Fits A (emit_again es state text A.tables cs env here next n) n n
 again_fits A None state text s cs h env here next n q b = constant_fits A not_active_cell n
@@ -816,7 +805,7 @@ condition_reads_long : (reads : List ConditionRead) → length (condition_target
 condition_reads_long [] = refl
 condition_reads_long (r ∷ rs) = ap suc (condition_reads_long rs)
 
-condition_fits : (A : Around) (es : Option ℕ) (number : Expr) → Shaped number A.tables →
+condition_fits : (A : Around) (es : Option ℕ) (number : ValueLeaf) → ValueFits A.tables number →
     (reads : List ConditionRead) (cs : Codes) → CodesFit A cs → (env : Env) (here next n : ℕ) →
     Placed env n → StackedBelow es n →
     Fits A (emit_condition_items es number reads A.tables cs env here next n) n n
@@ -884,7 +873,8 @@ branching_fits A lo test t cs body b rest r env from here base free n l q =
     (jump_fits A free here n n (rest env (suc free) here base (suc (suc free)) n) (omega arith)
     (r env (suc free) here base (suc (suc free)) n l q)))
 
-equal_fits : (A : Around) (m : ℕ) (e : Expr) → Shaped e A.tables → (env : Env) (n : ℕ) → suc m ≤ n →
+equal_fits : (A : Around) (m : ℕ) (e : ValueLeaf) → ValueFits A.tables e → (env : Env) (n : ℕ) → suc
+    m ≤ n →
     Placed env n → Fit (equal_to m (emitted e A.tables env n)) A.tables n A.outer A.args
 equal_fits A m e s env n l q =
     let a = emitted e A.tables env n in let f = expr_right A e s env n q in let wm =
@@ -920,7 +910,7 @@ same_fit zero p m h = refl
 same_fit (suc k) p m h = and_true (less p m) (columns_fit (replicate k p) m) (lt_less p m h)
     (same_fit k p m h)
 
-declares_fit : (A : Around) (vs : Variables) → VariablesShaped vs A.tables → (cs : Codes)
+declares_fit : (A : Around) (vs : Variables) → VariablesHold vs (ValueFits A.tables) → (cs : Codes)
     (env : Env) (from here base free n : ℕ) → Placed env n →
     Fits A (emit_declares vs A.tables cs env from here base free n) n (n + variable_count vs)
 declares_fit A NoVariable s cs env from here base free n q = (let e : n ≡ n + 0 = omega arith in e)
@@ -1032,7 +1022,8 @@ wider_placed env n p = record {
     below (Some c) h = omega arith
 
 mutual
-  stmt_fits : (s : Stmt) (A : Around) → StmtShaped s A.tables → (cs : Codes) → CodesFit A cs →
+  stmt_fits : (s : Stmt) (A : Around) → Holds s (ValueFits A.tables) (QueryFits A.tables) →
+      (cs : Codes) → CodesFit A cs →
       EmitFits A (emit s A.tables cs)
   stmt_fits (Compound atomic variables handlers body) A s cs h = λ env here next n q.
       let S = A.tables in let own = coded handlers S (scopes_in atomic cs) in
@@ -1112,10 +1103,9 @@ mutual
       )
   stmt_fits (Set t e) A s cs h = set_fits_all A t e s cs h
   stmt_fits (SelectInto query targets) A s cs h = λ env here next n q.
-      into_fits A query targets s.0 s.1 cs h env here next n q (folded query A.tables (reading env))
-      (fold_fits query A.tables (reading env) n A.outer A.args s.0 (reading_fits A env n q))
-      (subst (λ (k : ℕ). ListLong (folded query A.tables (reading env)) k) s.1
-      (list_long query A.tables (reading env)))
+      into_fits A query targets s cs h env here next n q (query.folded A.tables (reading env))
+      (s.folds (reading env) n A.outer A.args (reading_fits A env n q))
+      (s.counted (reading env))
   stmt_fits (Signal state text) A s cs h = signal_fits A state text s cs h
   stmt_fits (Resignal state text) A s cs h = λ env here next n q. again_fits A env.stacked state
       text s cs h env here next n q q.stacked
@@ -1128,14 +1118,16 @@ mutual
       (let h3 = rising_below 3 env.columns n q.rising in omega arith) refl
   stmt_fits (Return e) A s cs h = return_fits_all A e s cs h
 
-  stmts_fits : (ss : Stmts) (A : Around) → AllShaped ss A.tables → (cs : Codes) → CodesFit A cs →
+  stmts_fits : (ss : Stmts) (A : Around) → AllHold ss (ValueFits A.tables) (QueryFits A.tables) →
+      (cs : Codes) → CodesFit A cs →
       EmitFits A (emit_all ss A.tables cs)
   stmts_fits NoStmt A s cs h = λ env here next n q. refl
   stmts_fits (MoreStmts x xs) A s cs h = λ env here next n q.
       fits_append A (emit x A.tables cs env here next n) (emit_all xs A.tables cs env here next n) n
       n n (stmt_fits x A s.0 cs h env here next n q) (stmts_fits xs A s.1 cs h env here next n q)
 
-  else_fits : (ss : Stmts) (A : Around) (lo : ℕ) → AllShaped ss A.tables → (cs : Codes) →
+  else_fits : (ss : Stmts) (A : Around) (lo : ℕ) → AllHold ss (ValueFits A.tables)
+      (QueryFits A.tables) → (cs : Codes) →
       CodesFit A cs → RestFits A lo (emit_else ss A.tables cs)
   else_fits NoStmt A lo s cs h = not_found_fits A lo cs
   else_fits (MoreStmts x xs) A lo s cs h =
@@ -1145,7 +1137,8 @@ mutual
       (emit_all xs A.tables cs env here next n) n n n (stmt_fits x A s.0 cs h env here next n q)
       (stmts_fits xs A s.1 cs h env here next n q))
 
-  branches_fits : (bs : Branches) (A : Around) (lo : ℕ) → BranchesShaped bs A.tables →
+  branches_fits : (bs : Branches) (A : Around) (lo : ℕ) → BranchesHold bs (ValueFits A.tables)
+      (QueryFits A.tables) →
       (cs : Codes) → CodesFit A cs → (rest : Rest) → RestFits A lo rest → RestFits A lo
       (emit_branches bs A.tables cs rest)
   branches_fits NoBranch A lo s cs h rest r = r
@@ -1154,7 +1147,8 @@ mutual
       (emit_all body A.tables cs) (stmts_fits body A s.1 cs h)
       (emit_branches others A.tables cs rest) (branches_fits others A lo s.2 cs h rest r)
 
-  matching_fits : (bs : Branches) (A : Around) (m : ℕ) → BranchesShaped bs A.tables → (cs : Codes) →
+  matching_fits : (bs : Branches) (A : Around) (m : ℕ) → BranchesHold bs (ValueFits A.tables)
+      (QueryFits A.tables) → (cs : Codes) →
       CodesFit A cs → (rest : Rest) → RestFits A (suc m) rest → RestFits A (suc m)
       (emit_matching bs m A.tables cs rest)
   matching_fits NoBranch A m s cs h rest r = r
@@ -1164,14 +1158,20 @@ mutual
       (stmts_fits body A s.1 cs h) (emit_matching others m A.tables cs rest)
       (matching_fits others A m s.2 cs h rest r)
 
-  coded_fits : (hs : Handlers) (A : Around) → HandlersShaped hs A.tables → (cs : Codes) →
+  coded_fits : (hs : Handlers) (A : Around) → HandlersHold hs (ValueFits A.tables)
+      (QueryFits A.tables) → (cs : Codes) →
       CodesFit A cs → HandlersFit A (coded hs A.tables cs)
   coded_fits NoHandler A s cs h = tt
   coded_fits (MoreHandlers kind takes action others) A s cs h =
       (stmt_fits action A s.0 cs h, coded_fits others A s.1 cs h)
 
-pub well_formed_inlines : WellFormedInlines
-well_formed_inlines (Body types returns body) S params ws ps s p c =
+-- The plan is well formed under rows outside of any widths and for any number of arguments, where
+-- the plans of the leaves fit, and the scalars that read the parameters do.
+pub well_formed : (r : Routine) (S : Widths) (params : Scalars) (ws : List ℕ) (ps : ℕ) →
+    RoutineFits S r → scalars_fit params (0 ∷ ws) ps ≡ true →
+    scalar_count params ≡ length (parameters_of r) →
+    tree_fits (inline_with r S params) S ws ps ≡ true
+well_formed (Body types returns body) S params ws ps s p c =
     let A : Around = record { tables = S; outer = ws; args = ps } in let k = length types in let n =
     3 + k in
     let first = extend (first_cells returns params) unit_row in

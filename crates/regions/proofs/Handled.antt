@@ -17,16 +17,16 @@ use Rattle.rel_algebra.specs.Plan.{Sight, sight, cell_at, cells_at, cells_of, ca
 use Rattle.rel_algebra.specs.Plan.{values_of, strictly}
 use Rattle.rel_algebra.proofs.Laws.{grows_by, grown_column, first_columns, shown_append}
 use Rattle.rel_algebra.proofs.Laws.{grows_trans, grows_same}
-use Rattle.regions.specs.Tree.{HandlerType, Continue, Exit, Undo, Stmt, Handlers, NoHandler}
-use Rattle.regions.specs.Tree.{MoreHandlers}
+use Rattle.regions.specs.Bodies.{HandlerType, Continue, Exit, Undo, Stmt, Handlers, NoHandler}
+use Rattle.regions.specs.Bodies.{MoreHandlers}
 use Rattle.regions.specs.Doing.{Frame, Outcome, Next, Leaving, Returning, Exiting, Raising, End}
 use Rattle.regions.specs.Doing.{back_in, outside}
-use Rattle.regions.specs.Meaning.{does, in_action, choose}
+use Rattle.regions.specs.BodyMeaning.{does, in_action, choose}
 use Rattle.regions.specs.Steps.{Step, grow, stepped, run, col, only}
 use Rattle.regions.specs.Dispatch.{Env, count, action_env, if_continue, whatever, scope_actions}
 use Rattle.regions.specs.Dispatch.{actions, is_continue, any_continue, has_continue, tags, joins}
 use Rattle.regions.specs.Dispatch.{handled}
-use Rattle.regions.specs.Inline.{emit, coded}
+use Rattle.regions.specs.BodyChain.{emit, coded}
 use Rattle.regions.proofs.Base.{at, both, codes_equal, lower_differs, higher_differs, set_same}
 use Rattle.regions.proofs.Base.{set_other, cells_at_append, cells_at_set, cells_at_long, take_cells}
 use Rattle.regions.proofs.Base.{drop_cells, take_shown, drop_shown, take_and_drop, Rising}

@@ -8,25 +8,25 @@ use Rattle.sql_values.specs.declared.value.Value.TheVariants.{Bool as Truth}
 use Rattle.sql_conditions.specs.Conditions.{Area}
 use Rattle.row_types.specs.declared.cell.Cell.{Cell}
 use Rattle.row_types.specs.declared.cell.Cell.TheVariants.{Val, Cond}
-use Rattle.rel_algebra.specs.Tree.{NullTest, Expr}
+use Rattle.rel_algebra.specs.Tree.{NullTest}
 use Rattle.rel_algebra.specs.Endings.{op_value, cell_end}
 use Rattle.rel_algebra.specs.Emit.{read, width}
 use Rattle.rel_algebra.specs.OnConditions.{number_cell}
 use Rattle.rel_algebra.specs.Plain.{Inputs, columns_in}
 use Rattle.rel_algebra.specs.Plan.{Nodes, no_node, extend_by, Scalar, Scalars, Sight, sight, added}
 use Rattle.rel_algebra.specs.Plan.{cell_at, cells_at, cell_of, cells_of, case_cell, shown, strictly}
-use Rattle.rel_algebra.specs.Theorem.{Fits, outside}
+use Rattle.rel_algebra.specs.Theorem.{outside}
 use Rattle.rel_algebra.proofs.Laws.{Grows, grows_same, grown_column, shown_at, Reads, Yields}
-use Rattle.rel_algebra.proofs.Laws.{added_join, added_long, added_grows, Plans, expr_right}
+use Rattle.rel_algebra.proofs.Laws.{added_join, added_long, added_grows}
 use Rattle.regions.specs.Doing.{Frame, Outcome, Next, Leaving, Returning, Exiting, Raising, End}
 use Rattle.regions.specs.Doing.{Doing, ends}
 use Rattle.regions.specs.Handlers.{raising}
-use Rattle.regions.specs.Meaning.{seen as sees, value_in}
+use Rattle.regions.specs.BodyMeaning.{seen as sees, value_in}
 use Rattle.regions.specs.Steps.{stepped, run, Store, store, col, only, jump}
 use Rattle.regions.specs.Dispatch.{Env, count, is_value, area_in, code_or, judging, raising_to}
 use Rattle.regions.specs.Dispatch.{store_if, dispatch, handled}
-use Rattle.regions.specs.Inline.{place_at, reading, emitted, with_column, one_step, one_raise}
-use Rattle.regions.specs.Inline.{raising_step}
+use Rattle.regions.specs.BodyChain.{place_at, reading, emitted, with_column, one_step, one_raise}
+use Rattle.regions.specs.BodyChain.{raising_step}
 use Rattle.regions.proofs.Base.{at, both, lower_differs, higher_differs, set_same, set_other}
 use Rattle.regions.proofs.Base.{set_grown, Rising, rising_below, cells_set_low, Keeps, grown_cells}
 use Rattle.regions.proofs.Rows.{puts, puts_append, acts_off, acts_on, jump_off, jump_on}
@@ -34,6 +34,8 @@ use Rattle.regions.proofs.Lands.{place_of, Carries, Lands, Ready, Starts, Sim, l
 use Rattle.regions.proofs.Lands.{scopes_of, codes_of, Good}
 use Rattle.regions.proofs.Arms.{Ended, case_more, Sends, dispatch_sends, dispatch_ended}
 use Rattle.regions.proofs.Handled.{Sent, Rests, handled_passes, handled_lands}
+use Rattle.regions.proofs.Held.{ValueRight}
+use Rattle.regions.specs.Leaves.{ValueLeaf}
 
 -- ---- reading
 
@@ -54,11 +56,11 @@ reads_frame env n w o f q r l s = λ z g. (
       (grown_cells 3 env.columns n q g.0 r (omega (arith, l)) ∙ s) ∙ shown_at f i)),
 )
 
-pub expr_yields : (w : Inputs) (o : List (List Cell)) (e : Expr) → Plans e → Fits w →
+pub expr_yields : (w : Inputs) (o : List (List Cell)) (e : ValueLeaf) → ValueRight w e →
     (env : Env) (n : ℕ) (f : Frame) (q : List Cell) → Rising 3 env.columns n → length q ≡ n →
     cells_at q env.columns ≡ shown f → Yields (emitted e (columns_in w) env n) w o q
     (cell_end (value_in w e f))
-expr_yields w o e p fits env n f q r l s = expr_right e p w fits o (sees f) (reading env) n q l
+expr_yields w o e p env n f q r l s = p o (sees f) (reading env) n q l
     (reads_frame env n w o f q r l s)
 
 pub column_added : (nodes : Nodes) (s : Scalar) (w : Inputs) (o : List (List Cell))

@@ -6,14 +6,14 @@ use Rattle.row_types.specs.declared.cell.Cell.{Cell}
 use Rattle.row_types.specs.declared.cell.Cell.TheVariants.{Val, Cond}
 use Rattle.rel_algebra.specs.Plain.{Inputs, columns_in}
 use Rattle.rel_algebra.specs.Plan.{cell_at, cells_at, shown}
-use Rattle.regions.specs.Tree.{Stmt, Handlers, NoHandler, MoreHandlers}
+use Rattle.regions.specs.Bodies.{Stmt, Handlers, NoHandler, MoreHandlers}
 use Rattle.regions.specs.Doing.{Frame, Outcome, Next, Leaving, Returning, Exiting, Raising, End}
 use Rattle.regions.specs.Doing.{Doing, ends, next_or, in_turn}
 use Rattle.regions.specs.Handlers.{Scopes}
-use Rattle.regions.specs.Meaning.{Context, does, handlings}
+use Rattle.regions.specs.BodyMeaning.{Context, does, handlings}
 use Rattle.regions.specs.Steps.{run}
 use Rattle.regions.specs.Dispatch.{Env, Emit, Codes}
-use Rattle.regions.specs.Inline.{emit, coded}
+use Rattle.regions.specs.BodyChain.{emit, coded}
 use Rattle.regions.proofs.Base.{at, lower_differs, Rising, Apart, Keeps}
 use Rattle.regions.proofs.Rows.{run_append}
 

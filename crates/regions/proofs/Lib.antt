@@ -1,3 +1,4 @@
+pub mod Held
 pub mod Base
 pub mod Rows
 pub mod Lands
@@ -13,10 +14,18 @@ pub mod Endings
 pub mod Compounds
 pub mod Statements
 pub mod Chain
+pub mod Traits
 pub mod Removals
+pub mod Inward
+pub mod Moved
 pub mod Fits
 pub mod Best
+pub mod Unplanned
+pub mod Lasts
+pub mod Trees
+pub mod TreeLaws
 pub mod Calls
+pub mod Called
 pub mod Exceptions
 pub mod Given
 pub mod Same

@@ -6,21 +6,21 @@ use Rattle.sql_values.specs.declared.value.Value.TheVariants.{Null}
 use Rattle.sql_conditions.specs.Conditions.{Area}
 use Rattle.row_types.specs.declared.cell.Cell.{Cell}
 use Rattle.row_types.specs.declared.cell.Cell.TheVariants.{Val, Cond}
-use Rattle.rel_algebra.specs.Tree.{Expr}
 use Rattle.rel_algebra.specs.Endings.{Ending, cell_end}
 use Rattle.rel_algebra.specs.Emit.{width}
 use Rattle.rel_algebra.specs.Joins.{places}
 use Rattle.rel_algebra.specs.Plain.{Inputs, columns_in}
 use Rattle.rel_algebra.specs.Plan.{no_node, sight, added, cell_at, cells_at, cell_of, cells_of}
-use Rattle.rel_algebra.specs.Theorem.{Fits}
 use Rattle.rel_algebra.proofs.Laws.{Grows, grows_by, grows_same, first_columns, grown_column}
-use Rattle.rel_algebra.proofs.Laws.{added_grows, Plans}
+use Rattle.rel_algebra.proofs.Laws.{added_grows}
+use Rattle.regions.specs.Leaves.{ValueLeaf}
+use Rattle.regions.proofs.Held.{ValueRight}
 use Rattle.regions.specs.Doing.{Frame, End, Doing}
 use Rattle.regions.specs.Handlers.{raising, with_end, with_value}
-use Rattle.regions.specs.Meaning.{value_in}
+use Rattle.regions.specs.BodyMeaning.{value_in}
 use Rattle.regions.specs.Steps.{fat, run, guarded, tag}
 use Rattle.regions.specs.Dispatch.{Env, count, judging, area_in, handled}
-use Rattle.regions.specs.Inline.{Rest, emitted, with_column, compared_with}
+use Rattle.regions.specs.BodyChain.{Rest, emitted, with_column, compared_with}
 use Rattle.regions.proofs.Base.{lower_differs, Rising, rising_below, rising_more, apart_above}
 use Rattle.regions.proofs.Base.{front_at, grown_cells}
 use Rattle.regions.proofs.Rows.{run_append, puts, acts_off_wide, acts_on_wide}
@@ -48,12 +48,13 @@ sent_wider w env here seen base n q e z c r h s = let l = s.long in record {
   keeps = λ i lo hi p. refl;
 }
 
-pub compared_sim : (w : Inputs) (o : List (List Cell)) → Fits w → (seen : Seen) → Good w o seen →
-    (level : ℕ) (e : Expr) → Plans e → (rest : ℕ → Rest) (d : Value → Option Area → Doing) →
+pub compared_sim : (w : Inputs) (o : List (List Cell)) → (seen : Seen) → Good w o seen →
+    (level : ℕ) (e : ValueLeaf) → ValueRight w e → (rest : ℕ → Rest)
+    (d : Value → Option Area → Doing) →
     ((m : ℕ) (x : Value) → Half w o seen level (operand_known m x) (rest m) (d x)) →
     Sim w o level (compared_with e (columns_in w) (codes_of w seen) rest)
     (λ st. with_value (scopes_of w seen) (value_in w e) (λ x. d x st))
-compared_sim w o fits seen good level e p rest d halves = record {
+compared_sim w o seen good level e p rest d halves = record {
   passes = λ env here next n r k u x q l c.
       let h3 = rising_below 3 env.columns n r.rising in let b = r.before in
       let a = emitted e (columns_in w) env n in let i = width a.nodes n in let start = next + count
@@ -86,7 +87,7 @@ compared_sim w o fits seen good level e p rest d halves = record {
       (codes_of w seen) env here next free n in
       let E = value_in w e f in
       let cell : cell_at z i ≡ cell_end E = column_cell a.nodes a.scalar w o q n s.long
-      ∙ expr_yields w o e p fits env n f q r.rising s.long s.shows (added a.nodes w o q)
+      ∙ expr_yields w o e p env n f q r.rising s.long s.shows (added a.nodes w o q)
       (grows_same (added a.nodes w o q)) in
       let last : cell_at (z ++ gs) i ≡ cell_end E = front_at z gs i
       (let m = column_wide a.nodes a.scalar w o q n s.long in omega (arith, m)) ∙ cell in

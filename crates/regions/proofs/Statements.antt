@@ -5,42 +5,31 @@ use Rattle.sql_conditions.specs.Conditions.{Area}
 use Rattle.row_types.specs.declared.cell.Cell.{Cell}
 use Rattle.rel_algebra.specs.Endings.{after, equal_values}
 use Rattle.rel_algebra.specs.Plain.{Inputs, columns_in}
-use Rattle.rel_algebra.specs.Theorem.{Fits}
-use Rattle.rel_algebra.proofs.Laws.{grows_same, plans, query_plans}
-use Rattle.regions.specs.Tree.{Perhaps, Without, With, Stmt, Compound, If, SearchedCase, SimpleCase}
-use Rattle.regions.specs.Tree.{Set, SelectInto, Signal, Resignal, GetStatementItems}
-use Rattle.regions.specs.Tree.{GetConditionItems, Leave, Return, Stmts, NoStmt, MoreStmts, Branches}
-use Rattle.regions.specs.Tree.{NoBranch, MoreBranches, Variables, NoVariable, MoreVariables}
-use Rattle.regions.specs.Tree.{Handlers, NoHandler, MoreHandlers}
+use Rattle.rel_algebra.proofs.Laws.{grows_same}
+use Rattle.regions.proofs.Held.{Holds, AllHold, BranchesHold, HandlersHold, ValueRight, QueryRight}
+use Rattle.regions.specs.Bodies.{Stmt, Compound, If, SearchedCase, SimpleCase}
+use Rattle.regions.specs.Bodies.{Set, SelectInto, Signal, Resignal, GetStatementItems}
+use Rattle.regions.specs.Bodies.{GetConditionItems, Leave, Return, Stmts, NoStmt, MoreStmts}
+use Rattle.regions.specs.Bodies.{Branches}
+use Rattle.regions.specs.Bodies.{NoBranch, MoreBranches}
+use Rattle.regions.specs.Bodies.{Handlers, NoHandler, MoreHandlers}
 use Rattle.regions.specs.Doing.{Doing, Frame, End}
-use Rattle.regions.specs.Meaning.{value_in, does_all, does_else, does_branches, does_matching}
-use Rattle.regions.specs.Inline.{emitted, equal_to, emit_all, emit_else, emit_branches}
-use Rattle.regions.specs.Inline.{emit_matching, and_on, Rest}
-use Rattle.regions.specs.Theorem.{Planned, VariablesFormed, Formed, AllFormed, BranchesFormed}
-use Rattle.regions.specs.Theorem.{HandlersFormed}
+use Rattle.regions.specs.BodyMeaning.{value_in, does_all, does_else, does_branches, does_matching}
+use Rattle.regions.specs.BodyChain.{emitted, equal_to, emit_all, emit_else, emit_branches}
+use Rattle.regions.specs.BodyChain.{emit_matching, and_on, Rest}
 use Rattle.regions.proofs.Lands.{Sim, in_turn_sim, nothing_sim, Seen, nowhere, within, scopes_of}
 use Rattle.regions.proofs.Lands.{codes_of, context, Simulated, AllGood, Good}
 use Rattle.regions.proofs.Judged.{expr_yields, leave_sim}
 use Rattle.regions.proofs.Values.{set_sim, return_sim, into_sim}
-use Rattle.regions.proofs.Diagnostics.{PerhapsPlans, signal_sim, resignal_sim, statement_items_sim}
+use Rattle.regions.proofs.Diagnostics.{signal_sim, resignal_sim, statement_items_sim}
 use Rattle.regions.proofs.Diagnostics.{condition_items_sim}
 use Rattle.regions.proofs.Tests.{Knowing, Half, and_on_half, not_found_half, branching_half}
 use Rattle.regions.proofs.Tests.{nothing_known, tested_sim, operand_known, operand_stays}
 use Rattle.regions.proofs.Tests.{matching_yields, matching_doing}
 use Rattle.regions.proofs.Operands.{compared_sim}
-use Rattle.regions.proofs.Declares.{VariablesPlan}
 use Rattle.regions.proofs.Compounds.{compound_general}
 use Rattle.regions.proofs.Handled.{Rests}
 use Rattle.regions.specs.Steps.{run}
-
-perhaps : (p : Perhaps) → Planned p → PerhapsPlans p
-perhaps Without h = tt
-perhaps (With e) h = plans e h
-
-defaults : (vs : Variables) → VariablesFormed vs → VariablesPlan vs
-defaults NoVariable h = tt
-defaults (MoreVariables k t Without others) h = (tt, defaults others h.1)
-defaults (MoreVariables k t (With e) others) h = (plans e h.0, defaults others h.1)
 
 -- a half that does the same
 half_same : (w : Inputs) (o : List (List Cell)) (seen : Seen) (level : ℕ) (K : Knowing)
@@ -66,100 +55,102 @@ knows no_operand = nothing_known
 knows (operand m x) = operand_known m x
 
 mutual
-  pub stmt_sim : (s : Stmt) (w : Inputs) (o : List (List Cell)) → Fits w → Formed s (columns_in w) →
+  pub stmt_sim : (s : Stmt) (w : Inputs) (o : List (List Cell)) → Holds s (ValueRight w)
+      (QueryRight w) →
       (seen : Seen) → Good w o seen → (level : ℕ) → Simulated w o seen level s
-  stmt_sim (Compound true variables handlers body) w o fits h seen good level =
-      compound_general w o fits seen good nowhere true variables handlers body
-      (defaults variables h.0)
-      (λ lv. handlers_good handlers w o fits h.1 nowhere tt lv)
-      (λ lv v. all_sim body w o fits h.2 (within handlers lv v nowhere)
-      (handlers_good handlers w o fits h.1 nowhere tt lv, tt) (suc lv)) level
-  stmt_sim (Compound false variables handlers body) w o fits h seen good level =
-      compound_general w o fits seen good seen false variables handlers body
-      (defaults variables h.0)
-      (λ lv. handlers_good handlers w o fits h.1 seen good lv)
-      (λ lv v. all_sim body w o fits h.2 (within handlers lv v seen)
-      (handlers_good handlers w o fits h.1 seen good lv, good) (suc lv)) level
-  stmt_sim (If branches otherwise) w o fits h seen good level =
+  stmt_sim (Compound true variables handlers body) w o h seen good level =
+      compound_general w o seen good nowhere true variables handlers body
+      h.0
+      (λ lv. handlers_good handlers w o h.1 nowhere tt lv)
+      (λ lv v. all_sim body w o h.2 (within handlers lv v nowhere)
+      (handlers_good handlers w o h.1 nowhere tt lv, tt) (suc lv)) level
+  stmt_sim (Compound false variables handlers body) w o h seen good level =
+      compound_general w o seen good seen false variables handlers body
+      h.0
+      (λ lv. handlers_good handlers w o h.1 seen good lv)
+      (λ lv v. all_sim body w o h.2 (within handlers lv v seen)
+      (handlers_good handlers w o h.1 seen good lv, good) (suc lv)) level
+  stmt_sim (If branches otherwise) w o h seen good level =
       tested_sim w o seen good level _ _
-      (branches_half branches w o fits h.0 seen good level
+      (branches_half branches w o h.0 seen good level
       (and_on (emit_all otherwise (columns_in w) (codes_of w seen)))
       (λ st. does_all otherwise w (context w seen level st))
       (and_on_half w o seen level nothing_known _ _
-      (all_sim otherwise w o fits h.1 seen good level)))
-  stmt_sim (SearchedCase branches otherwise) w o fits h seen good level =
+      (all_sim otherwise w o h.1 seen good level)))
+  stmt_sim (SearchedCase branches otherwise) w o h seen good level =
       tested_sim w o seen good level _ _
-      (branches_half branches w o fits h.0 seen good level
+      (branches_half branches w o h.0 seen good level
       (emit_else otherwise (columns_in w) (codes_of w seen))
       (λ st. does_else otherwise w (context w seen level st))
-      (else_half otherwise w o fits h.1 seen good level no_operand))
-  stmt_sim (SimpleCase e branches otherwise) w o fits h seen good level =
-      compared_sim w o fits seen good level e (plans e h.0)
+      (else_half otherwise w o h.1 seen good level no_operand))
+  stmt_sim (SimpleCase e branches otherwise) w o h seen good level =
+      compared_sim w o seen good level e h.0
       (λ x. emit_matching branches x (columns_in w) (codes_of w seen)
       (emit_else otherwise (columns_in w) (codes_of w seen)))
       (λ x st. does_matching branches x w (context w seen level st)
       (does_else otherwise w (context w seen level st)))
-      (λ m x. matching_half branches w o fits h.1 seen good level m x
+      (λ m x. matching_half branches w o h.1 seen good level m x
       (emit_else otherwise (columns_in w) (codes_of w seen))
       (λ st. does_else otherwise w (context w seen level st))
-      (else_half otherwise w o fits h.2 seen good level (operand m x)))
-  stmt_sim (Set t e) w o fits h seen good level = set_sim w o fits seen good level t e (plans e h)
-  stmt_sim (SelectInto query ts) w o fits h seen good level = into_sim w o fits seen good level
-      query ts (query_plans query h.0) h.1 h.2
-  stmt_sim (Signal state text) w o fits h seen good level = signal_sim w o fits seen good level
-      state text (perhaps text h)
-  stmt_sim (Resignal state text) w o fits h seen good level = resignal_sim w o fits seen good level
-      state text (perhaps text h)
-  stmt_sim (GetStatementItems reads) w o fits h seen good level = statement_items_sim w o seen good
+      (else_half otherwise w o h.2 seen good level (operand m x)))
+  stmt_sim (Set t e) w o h seen good level = set_sim w o seen good level t e h
+  stmt_sim (SelectInto query ts) w o h seen good level = into_sim w o seen good level
+      query ts h.0 h.1
+  stmt_sim (Signal state text) w o h seen good level = signal_sim w o seen good level
+      state text h
+  stmt_sim (Resignal state text) w o h seen good level = resignal_sim w o seen good level
+      state text h
+  stmt_sim (GetStatementItems reads) w o h seen good level = statement_items_sim w o seen good
       level reads
-  stmt_sim (GetConditionItems number reads) w o fits h seen good level = condition_items_sim w o
-      fits seen good level number (plans number h) reads
-  stmt_sim (Leave outwards) w o fits h seen good level = leave_sim w o level outwards
-  stmt_sim (Return e) w o fits h seen good level = return_sim w o fits seen good level e (plans e h)
+  stmt_sim (GetConditionItems number reads) w o h seen good level = condition_items_sim w o
+      seen good level number h reads
+  stmt_sim (Leave outwards) w o h seen good level = leave_sim w o level outwards
+  stmt_sim (Return e) w o h seen good level = return_sim w o seen good level e h
 
-  pub all_sim : (ss : Stmts) (w : Inputs) (o : List (List Cell)) → Fits w → AllFormed ss
-      (columns_in w) → (seen : Seen) → Good w o seen → (level : ℕ) →
+  pub all_sim : (ss : Stmts) (w : Inputs) (o : List (List Cell)) → AllHold ss (ValueRight w)
+      (QueryRight w) → (seen : Seen) → Good w o seen → (level : ℕ) →
       Sim w o level (emit_all ss (columns_in w) (codes_of w seen))
       (λ st. does_all ss w (context w seen level st))
-  all_sim NoStmt w o fits h seen good level = nothing_sim w o level
-  all_sim (MoreStmts s ss) w o fits h seen good level =
-      in_turn_sim w o level _ _ _ _ (stmt_sim s w o fits h.0 seen good level)
-      (all_sim ss w o fits h.1 seen good level)
+  all_sim NoStmt w o h seen good level = nothing_sim w o level
+  all_sim (MoreStmts s ss) w o h seen good level =
+      in_turn_sim w o level _ _ _ _ (stmt_sim s w o h.0 seen good level)
+      (all_sim ss w o h.1 seen good level)
 
-  pub else_half : (ss : Stmts) (w : Inputs) (o : List (List Cell)) → Fits w → AllFormed ss
-      (columns_in w) → (seen : Seen) → Good w o seen → (level : ℕ) (K : Known) →
+  pub else_half : (ss : Stmts) (w : Inputs) (o : List (List Cell)) → AllHold ss (ValueRight w)
+      (QueryRight w) → (seen : Seen) → Good w o seen → (level : ℕ) (K : Known) →
       Half w o seen level (knows K) (emit_else ss (columns_in w) (codes_of w seen))
       (λ st. does_else ss w (context w seen level st))
-  else_half NoStmt w o fits h seen good level K = not_found_half w o seen level (knows K)
-  else_half (MoreStmts s ss) w o fits h seen good level K =
+  else_half NoStmt w o h seen good level K = not_found_half w o seen level (knows K)
+  else_half (MoreStmts s ss) w o h seen good level K =
       and_on_half w o seen level (knows K) _ _
-      (in_turn_sim w o level _ _ _ _ (stmt_sim s w o fits h.0 seen good level)
-      (all_sim ss w o fits h.1 seen good level))
+      (in_turn_sim w o level _ _ _ _ (stmt_sim s w o h.0 seen good level)
+      (all_sim ss w o h.1 seen good level))
 
-  pub branches_half : (bs : Branches) (w : Inputs) (o : List (List Cell)) → Fits w → BranchesFormed
-      bs (columns_in w) → (seen : Seen) → Good w o seen → (level : ℕ) (rest : Rest)
+  pub branches_half : (bs : Branches) (w : Inputs) (o : List (List Cell)) → BranchesHold bs
+      (ValueRight w) (QueryRight w) → (seen : Seen) → Good w o seen → (level : ℕ) (rest : Rest)
       (d : Option Area → Doing) →
       Half w o seen level nothing_known rest d →
       Half w o seen level nothing_known (emit_branches bs (columns_in w) (codes_of w seen) rest)
       (λ st. does_branches bs w (context w seen level st) (d st))
-  branches_half NoBranch w o fits h seen good level rest d x = x
-  branches_half (MoreBranches test body others) w o fits h seen good level rest d x =
+  branches_half NoBranch w o h seen good level rest d x = x
+  branches_half (MoreBranches test body others) w o h seen good level rest d x =
       branching_half w o seen level nothing_known (λ cs n q z a b. tt) (emitted test (columns_in w))
       (value_in w test) _ _ _ _
-      (λ env n f q r l s g. expr_yields w o test (plans test h.0) fits env n f q r l s _
+      (λ env n f q r l s g. expr_yields w o test h.0 env n f q r l s _
       (grows_same _))
-      (all_sim body w o fits h.1 seen good level)
-      (branches_half others w o fits h.2 seen good level rest d x)
+      (all_sim body w o h.1 seen good level)
+      (branches_half others w o h.2 seen good level rest d x)
 
-  pub matching_half : (bs : Branches) (w : Inputs) (o : List (List Cell)) → Fits w → BranchesFormed
-      bs (columns_in w) → (seen : Seen) → Good w o seen → (level : ℕ) (m : ℕ) (x : Value)
+  pub matching_half : (bs : Branches) (w : Inputs) (o : List (List Cell)) → BranchesHold bs
+      (ValueRight w) (QueryRight w) → (seen : Seen) → Good w o seen → (level : ℕ) (m : ℕ)
+      (x : Value)
       (rest : Rest) (d : Option Area → Doing) →
       Half w o seen level (operand_known m x) rest d →
       Half w o seen level (operand_known m x)
       (emit_matching bs m (columns_in w) (codes_of w seen) rest)
       (λ st. does_matching bs x w (context w seen level st) (d st))
-  matching_half NoBranch w o fits h seen good level m x rest d y = y
-  matching_half (MoreBranches e body others) w o fits h seen good level m x rest d y =
+  matching_half NoBranch w o h seen good level m x rest d y = y
+  matching_half (MoreBranches e body others) w o h seen good level m x rest d y =
       half_same w o seen level (operand_known m x) _ _ _
       (λ st f. sym (matching_doing (scopes_of w seen) (value_in w e f) x f
       (does_all body w (context w seen level st))
@@ -167,15 +158,16 @@ mutual
       (branching_half w o seen level (operand_known m x) (operand_stays m x)
       (λ env n. equal_to m (emitted e (columns_in w) env n))
       (λ f. after (value_in w e f) (λ y. Ok (equal_values x y))) _ _ _ _
-      (λ env n f q r l s g. matching_yields w o fits e (plans e h.0) m x env n f q r l s g)
-      (all_sim body w o fits h.1 seen good level)
-      (matching_half others w o fits h.2 seen good level m x rest d y))
+      (λ env n f q r l s g. matching_yields w o e h.0 m x env n f q r l s g)
+      (all_sim body w o h.1 seen good level)
+      (matching_half others w o h.2 seen good level m x rest d y))
 
-  pub handlers_good : (hs : Handlers) (w : Inputs) (o : List (List Cell)) → Fits w → HandlersFormed
-      hs (columns_in w) → (outer : Seen) → Good w o outer → (level : ℕ) → AllGood w o hs level outer
-  handlers_good NoHandler w o fits h outer good level = tt
-  handlers_good (MoreHandlers kind takes action others) w o fits h outer good level = (
-    stmt_sim action w o fits h.0 outer good (suc level),
-    handlers_good others w o fits h.1 outer
+  pub handlers_good : (hs : Handlers) (w : Inputs) (o : List (List Cell)) → HandlersHold hs
+      (ValueRight w) (QueryRight w) → (outer : Seen) → Good w o outer → (level : ℕ) → AllGood w o hs
+      level outer
+  handlers_good NoHandler w o h outer good level = tt
+  handlers_good (MoreHandlers kind takes action others) w o h outer good level = (
+    stmt_sim action w o h.0 outer good (suc level),
+    handlers_good others w o h.1 outer
         good level,
   )

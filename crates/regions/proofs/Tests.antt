@@ -9,7 +9,7 @@ use Rattle.sql_values.specs.Values.{is_true}
 use Rattle.sql_conditions.specs.Conditions.{Area}
 use Rattle.row_types.specs.declared.cell.Cell.{Cell}
 use Rattle.row_types.specs.declared.cell.Cell.TheVariants.{Val, Cond}
-use Rattle.rel_algebra.specs.Tree.{Expr, Comparing}
+use Rattle.rel_algebra.specs.Tree.{Comparing}
 use Rattle.rel_algebra.specs.Endings.{Ending, cell_end, after, op_value, equal_values}
 use Rattle.rel_algebra.specs.Emit.{Emitted, width}
 use Rattle.rel_algebra.specs.Joins.{places}
@@ -17,16 +17,17 @@ use Rattle.rel_algebra.specs.Plain.{Inputs, columns_in}
 use Rattle.rel_algebra.specs.Plan.{no_node, Sight, sight, added, cell_at, cells_at, cell_of}
 use Rattle.rel_algebra.specs.Plan.{case_cell, shown, strictly}
 use Rattle.rel_algebra.specs.States.{case_not_found}
-use Rattle.rel_algebra.specs.Theorem.{Fits}
-use Rattle.rel_algebra.proofs.Laws.{Grows, grows_at, grows_same, added_grows, Plans}
+use Rattle.rel_algebra.proofs.Laws.{Grows, grows_at, grows_same, added_grows}
+use Rattle.regions.specs.Leaves.{ValueLeaf}
+use Rattle.regions.proofs.Held.{ValueRight}
 use Rattle.regions.specs.Doing.{Frame, Outcome, Next, Leaving, Returning, Exiting, Raising, End}
 use Rattle.regions.specs.Doing.{Doing}
 use Rattle.regions.specs.Handlers.{Scopes, raising, with_end, with_value}
-use Rattle.regions.specs.Meaning.{value_in, choose}
+use Rattle.regions.specs.BodyMeaning.{value_in, choose}
 use Rattle.regions.specs.Steps.{Step, stepped, run, col, tag, case_of, jump}
 use Rattle.regions.specs.Dispatch.{Env, Emit, count, judging, raising_to, area_in, handled}
-use Rattle.regions.specs.Inline.{Rest, emitted, with_column, and_on, branching, not_found}
-use Rattle.regions.specs.Inline.{case_not_found_cell, tested, equal_to}
+use Rattle.regions.specs.BodyChain.{Rest, emitted, with_column, and_on, branching, not_found}
+use Rattle.regions.specs.BodyChain.{case_not_found_cell, tested, equal_to}
 use Rattle.regions.proofs.Base.{at, both, lower_differs, higher_differs, set_same, set_other}
 use Rattle.regions.proofs.Base.{Rising, rising_below, Apart, Keeps, kept_rest, cells_set_low}
 use Rattle.regions.proofs.Base.{cells_at_long, front_at, grown_cells}
@@ -546,18 +547,18 @@ equal_cell x (Ok y) = refl
 equal_cell x (Err a) = refl
 
 -- the comparison with the operand
-pub matching_yields : (w : Inputs) (o : List (List Cell)) → Fits w → (e : Expr) → Plans e →
+pub matching_yields : (w : Inputs) (o : List (List Cell)) → (e : ValueLeaf) → ValueRight w e →
     (m : ℕ) (x : Value) (env : Env) (n : ℕ) (f : Frame) (q : List Cell) → Rising 3 env.columns n →
     length q ≡ n →
     cells_at q env.columns ≡ shown f → operand_known m x env.columns n q →
     let a = equal_to m (emitted e (columns_in w) env n) in
     cell_of a.scalar (sight w o (added a.nodes w o q)) ≡ cell_end
     (after (value_in w e f) (λ y. Ok (equal_values x y)))
-matching_yields w o fits e p m x env n f q r l s k =
+matching_yields w o e p m x env n f q r l s k =
     let a = emitted e (columns_in w) env n in let z = added a.nodes w o q in
     both (λ (c d : Cell). strictly (op_value (Comparing Equals)) (c ∷ d ∷ [])) _ _ _ _
     (grows_at q z m (added_grows a.nodes w o q) (let h = k.1 in omega (arith, l, h)) ∙ k.3)
-    (expr_yields w o e p fits env n f q r l s z (grows_same z))
+    (expr_yields w o e p env n f q r l s z (grows_same z))
     ∙ equal_cell x (value_in w e f)
 
 pub matching_doing : (scopes : Scopes) (E : Ending Value) (x : Value) (f : Frame) (a b : Doing) →

@@ -11,35 +11,33 @@ use Rattle.sql_conditions.specs.declared.condition.EngineCondition.TheVariants.{
 use Rattle.row_types.specs.declared.cell.Cell.{Cell}
 use Rattle.row_types.specs.declared.cell.Cell.TheVariants.{Val, Cond}
 use Rattle.row_types.specs.Rows.{Row}
-use Rattle.rel_algebra.specs.Tree.{Expr, Query, Grouped, NoExpr}
 use Rattle.rel_algebra.specs.Endings.{Ending, cell_end, after, ending_of}
-use Rattle.rel_algebra.specs.Emit.{Emitted, EmittedAll, Folded, folded, folded_env, width}
-use Rattle.rel_algebra.specs.Emit.{joined_nodes, assigning, all_values, scalar_count, plan}
-use Rattle.rel_algebra.specs.Joins.{finish_all, places, query_width}
-use Rattle.rel_algebra.proofs.Laws.{FoldsAs, FoldedRight, fold_cells, finished_long, first_cell}
-use Rattle.rel_algebra.proofs.Laws.{width_join, if_values_cell, query_folds, Grows, grows_by}
+use Rattle.rel_algebra.specs.Emit.{EmittedAll, Folded, width}
+use Rattle.rel_algebra.specs.Emit.{joined_nodes, assigning, all_values, scalar_count}
+use Rattle.rel_algebra.specs.Joins.{finish_all, places}
+use Rattle.rel_algebra.proofs.Laws.{fold_cells, finished_long, first_cell}
+use Rattle.rel_algebra.proofs.Laws.{width_join, if_values_cell, Grows, grows_by}
 use Rattle.rel_algebra.proofs.Laws.{grows_same, grows_trans, grown_column, grown_columns}
 use Rattle.rel_algebra.proofs.Laws.{shown_long, added_join, added_long, added_grows, cells_long}
 use Rattle.rel_algebra.proofs.Laws.{AreCells, are_cells, WideEnd, assigning_cell, guard}
-use Rattle.rel_algebra.proofs.Laws.{checks_guard, values_more, Plans, QueryPlans, query_means}
-use Rattle.rel_algebra.proofs.Laws.{LongEnd, answer_wide, all_count}
+use Rattle.rel_algebra.proofs.Laws.{checks_guard, values_more, LongEnd}
 use Rattle.rel_algebra.specs.Plan.{PlanTree, aggregate, all_or_first, case_cell, anew, Nodes}
 use Rattle.rel_algebra.specs.Plan.{no_node, extend_by, apply_by, into, Scalars, constant, sight}
 use Rattle.rel_algebra.specs.Plan.{added, applied, cell_at, cells_at, cell_of, cells_of, collapse}
 use Rattle.rel_algebra.specs.Plan.{collapse_as, collected, den, shown, values_of}
-use Rattle.rel_algebra.specs.Plain.{Inputs, columns_in, answer}
+use Rattle.rel_algebra.specs.Plain.{Inputs, columns_in}
 use Rattle.rel_algebra.specs.States.{no_data}
-use Rattle.rel_algebra.specs.Theorem.{Fits}
-use Rattle.regions.specs.Tree.{Target}
-use Rattle.regions.specs.Theorem.{HasTarget}
+use Rattle.regions.specs.Bodies.{HasTarget, Target}
+use Rattle.regions.specs.Leaves.{QueryLeaf, ValueLeaf}
+use Rattle.regions.proofs.Held.{CountIs, Folds, FoldsTo, QueryMeans, ValueRight}
 use Rattle.regions.specs.Doing.{Frame, Next, Returning, ends, put_values, take_values, storing}
 use Rattle.regions.specs.Handlers.{with_end, with_value}
-use Rattle.regions.specs.Meaning.{seen as sees, value_in, one_row}
+use Rattle.regions.specs.BodyMeaning.{seen as sees, value_in, one_row}
 use Rattle.regions.specs.Steps.{run, col, only, tag}
 use Rattle.regions.specs.Dispatch.{Env, store_if}
-use Rattle.regions.specs.Inline.{column_at, reading, emitted, with_column, with_columns}
-use Rattle.regions.specs.Inline.{target_stores, assigns, assigns_if, one_step, into_by, emit_set}
-use Rattle.regions.specs.Inline.{emit_return, emit_into}
+use Rattle.regions.specs.BodyChain.{column_at, reading, emitted, with_column, with_columns}
+use Rattle.regions.specs.BodyChain.{target_stores, assigns, assigns_if, one_step, into_by, emit_set}
+use Rattle.regions.specs.BodyChain.{emit_return, emit_into}
 use Rattle.regions.proofs.Base.{at, both, lower_differs, set_same, set_other, shown_set, Rising}
 use Rattle.regions.proofs.Base.{rising_below, column_apart, cells_set_low, cells_set_slot}
 use Rattle.regions.proofs.Rows.{puts}
@@ -88,12 +86,12 @@ set_judged w o env here seen n q z p f t (Ok v) r l s h =
 set_judged w o env here seen n q z p f t (Err a) r l s h =
     inl (a, h, (store_old p p (column_at n env.columns t.slot) (sight w o z) a h, tt), refl)
 
-pub set_sim : (w : Inputs) (o : List (List Cell)) → Fits w → (seen : Seen) → Good w o seen →
-    (level : ℕ) (t : Target) (e : Expr) → Plans e →
+pub set_sim : (w : Inputs) (o : List (List Cell)) → (seen : Seen) → Good w o seen →
+    (level : ℕ) (t : Target) (e : ValueLeaf) → ValueRight w e →
     Sim w o level (emit_set t e (columns_in w) (codes_of w seen))
     (λ st. with_value (scopes_of w seen) (λ f. after (value_in w e f)
     (λ v. take_values (t ∷ []) (v ∷ []))) (storing (t ∷ [])))
-set_sim w o fits seen good level t e p =
+set_sim w o seen good level t e p =
     let S = columns_in w in
     one_sim w o seen good level (λ env n. with_column (emitted e S env n).nodes
     (assigning t.data_type (emitted e S env n).scalar)) (λ env n. width (emitted e S env n).nodes n)
@@ -116,7 +114,7 @@ set_sim w o fits seen good level t e p =
     (set_judged w o env here seen n q z (width a.nodes n) f t E r s.long s.shows
     (column_cell a.nodes (assigning t.data_type a.scalar) w o q n s.long
     ∙ assigning_cell t.data_type a.scalar (sight w o (added a.nodes w o q)) (value_in w e f)
-    (expr_yields w o e p fits env n f q r s.long s.shows (added a.nodes w o q)
+    (expr_yields w o e p env n f q r s.long s.shows (added a.nodes w o q)
     (grows_same (added a.nodes w o q))))))
 
 -- ---- RETURN
@@ -149,11 +147,11 @@ return_judged w o env here seen n q z p f (Ok v) r l s h =
 return_judged w o env here seen n q z p f (Err a) r l s h =
     inl (a, h, (store_old p p 1 (sight w o z) a h, tt), refl)
 
-pub return_sim : (w : Inputs) (o : List (List Cell)) → Fits w → (seen : Seen) → Good w o seen →
-    (level : ℕ) (e : Expr) → Plans e →
+pub return_sim : (w : Inputs) (o : List (List Cell)) → (seen : Seen) → Good w o seen →
+    (level : ℕ) (e : ValueLeaf) → ValueRight w e →
     Sim w o level (emit_return e (columns_in w) (codes_of w seen))
     (λ st. with_value (scopes_of w seen) (value_in w e) (λ v. ends (Returning v)))
-return_sim w o fits seen good level e p =
+return_sim w o seen good level e p =
     let S = columns_in w in
     one_sim w o seen good level (λ env n. with_column (emitted e S env n).nodes
     (emitted e S env n).scalar) (λ env n. width (emitted e S env n).nodes n) (λ here. tag 0)
@@ -165,7 +163,7 @@ return_sim w o fits seen good level e p =
     let a = emitted e S env n in let z = added (with_column a.nodes a.scalar) w o q in
     return_judged w o env here seen n q z (width a.nodes n) f (value_in w e f) r s.long s.shows
     (column_cell a.nodes a.scalar w o q n s.long
-    ∙ expr_yields w o e p fits env n f q r s.long s.shows (added a.nodes w o q)
+    ∙ expr_yields w o e p env n f q r s.long s.shows (added a.nodes w o q)
     (grows_same (added a.nodes w o q))))
 
 -- ---- several values
@@ -389,52 +387,51 @@ pub are_shown : (E : Ending Row) (cs : List Cell) → values_of cs ≡ E → (xs
 are_shown E cs h xs e = subst (λ (x : Ending Row). AreCells x cs) (h ∙ e) (are_cells cs)
 
 -- the row on which the list is asked, by an inner plan
-asked_judged : (w : Inputs) (o : List (List Cell)) → Fits w → (seen : Seen) (env : Env)
-    (here n : ℕ) → Rising 3 env.columns n → (query : Query) (ts : List Target) → QueryPlans query →
-    query_width query (columns_in w) ≡ length ts → HasTarget ts →
+asked_judged : (w : Inputs) (o : List (List Cell)) → (seen : Seen) (env : Env)
+    (here n : ℕ) → Rising 3 env.columns n → (query : QueryLeaf) (ts : List Target) → QueryMeans w
+    query (length ts) → HasTarget ts →
     (f : Frame) (q : List Cell) → length q ≡ n → cells_at q env.columns ≡ shown f →
     let k = length ts in let pre = apply_by (constant (Truth true)) (into k) anew
-    (plan query (columns_in w) (reading env))
+    (query.plan (columns_in w) (reading env))
     (with_columns no_node (assigns ts n) (places (n + k) k)) in
     Judged w o env here seen n q (added pre w o q) (target_stores ts env n ((n + k) + k) (n + k))
     (tag here) ((n + k) + k) f
-    (with_end (scopes_of w seen) (after (answer query w (sees f)) (one_row ts)) f (storing ts))
-asked_judged w o fits seen env here n r query ts qp qw has f q l s =
+    (with_end (scopes_of w seen) (after (query.answer w (sees f)) (one_row ts)) f (storing ts))
+asked_judged w o seen env here n r query ts qm has f q l s =
     let S = columns_in w in let k = length ts in
-    let asks = apply_by (constant (Truth true)) (into k) anew (plan query S (reading env))
+    let asks = apply_by (constant (Truth true)) (into k) anew (query.plan S (reading env))
     no_node in
-    let pre = apply_by (constant (Truth true)) (into k) anew (plan query S (reading env))
+    let pre = apply_by (constant (Truth true)) (into k) anew (query.plan S (reading env))
     (with_columns no_node (assigns ts n) (places (n + k) k)) in
     let long : length (added asks w o q) ≡ n + k = added_long asks w o q n l in
     let y = added asks w o q in let z = added pre w o q in
-    let means : collected (den (plan query S (reading env)) w (q ∷ o)) ≡ answer query w (sees f) =
-    query_means query qp w fits (q ∷ o) (sees f) (reading env)
+    let means : collected (den (query.plan S (reading env)) w (q ∷ o)) ≡ query.answer w (sees f) =
+    qm.means (q ∷ o) (sees f) (reading env)
     (reads_frame env n w o f q r l s q (grows_same q)) in
-    let t = into_ends ts has (answer query w (sees f))
-    (subst (λ (j : ℕ). WideEnd j (answer query w (sees f))) qw
-    (answer_wide query w (sees f) qp)) in
+    let t = into_ends ts has (query.answer w (sees f))
+    (qm.wide (sees f)) in
     let X = map (applied (Val (Truth true))) (collapse_as (into k) (Val Null)
-    (collected (den (plan query S (reading env)) w (q ∷ o)))) in
+    (collected (den (query.plan S (reading env)) w (q ∷ o)))) in
     let found : cells_at y (places n k) ≡ cells_end t.0 =
     grown_columns q X y n k l
     (let d = long in let e = length-append q X in let m : length X ≡ k = omega (arith, d, e, l) in
     m) (grows_same y)
     ∙ (all_applied (collapse_as (into k) (Val Null)
-    (collected (den (plan query S (reading env)) w (q ∷ o))))
+    (collected (den (query.plan S (reading env)) w (q ∷ o))))
     ∙ (ap (collapse_as (into k) (Val Null)) means ∙ t.1)) in
     let cells : cells_of (assigns ts n) (sight w o y) ≡ taken ts t.0 = assigns_cells ts t.0 w o y n
     found in
-    let values : values_of (cells_of (assigns ts n) (sight w o y)) ≡ after (answer query w (sees f))
+    let values : values_of (cells_of (assigns ts n) (sight w o y)) ≡ after (query.answer w (sees f))
     (one_row ts) = ap values_of cells ∙ t.2 in
     many_judged w o env here seen n q z ((n + k) + k) (n + k) f ts
-    (after (answer query w (sees f)) (one_row ts)) r l s
+    (after (query.answer w (sees f)) (one_row ts)) r l s
     (columns_test asks (assigns ts n) (places (n + k) k) w o q (n + k) k long (assigns_count ts n)
     ∙ ap (λ (cs : List Cell). guard (values_of cs))
     (columns_before asks (assigns ts n) w o q (n + k) k long (assigns_count ts n))
     ∙ ap guard values)
     (λ xs e. columns_cells asks (assigns ts n) (places (n + k) k) w o q (n + k) k long
     (assigns_count ts n)
-    ∙ are_shown (after (answer query w (sees f)) (one_row ts))
+    ∙ are_shown (after (query.answer w (sees f)) (one_row ts))
     (cells_of (assigns ts n) (sight w o y)) values xs e)
 
 asked_wide : (w : Inputs) (o : List (List Cell)) (inner : PlanTree) (ts : List Target) (n : ℕ)
@@ -582,15 +579,15 @@ folded_row w o c list q n some k p l sc wp (Ok (v ∷ vs)) long ys =
     )
 
 folded_judged : (w : Inputs) (o : List (List Cell)) (seen : Seen) (env : Env) (here n : ℕ) →
-    Rising 3 env.columns n → (a : Folded) (query : Query) (ts : List Target) → scalar_count
+    Rising 3 env.columns n → (a : Folded) (query : QueryLeaf) (ts : List Target) → scalar_count
     (a.list n).scalars ≡ length ts → HasTarget ts →
-    (f : Frame) (q : List Cell) → length q ≡ n → cells_at q env.columns ≡ shown f → FoldsAs a query
-    w o (sees f) q n →
+    (f : Frame) (q : List Cell) → length q ≡ n → cells_at q env.columns ≡ shown f → FoldsTo a
+    (query.answer w (sees f)) w o q n →
     let k = length ts in let p = width (a.list n).nodes (n + length a.aggregates) in
     Judged w o env here seen n q (added (with_columns (folded_nodes a n)
     (assigns_if (n ∷ places p k) ts p) (places (p + k) k)) w o q)
     (target_stores ts env n ((p + k) + k) (p + k)) (tag here) ((p + k) + k) f
-    (with_end (scopes_of w seen) (after (answer query w (sees f)) (one_row ts)) f (storing ts))
+    (with_end (scopes_of w seen) (after (query.answer w (sees f)) (one_row ts)) f (storing ts))
 folded_judged w o seen env here n r a query ts sc has f q l s fold =
     let k = length ts in let c = a.list n in let m = length a.aggregates in let p = width c.nodes
     (n + m) in let is = n ∷ places p k in let ss = assigns_if is ts p in
@@ -622,7 +619,7 @@ folded_judged w o seen env here n r a query ts sc has f q l s fold =
     let ends : values_of (cells_of ss (sight w o (added (folded_nodes a n) w o q))) ≡ after R
     (take_values ts) =
     ap (λ (t : List Cell). values_of (cells_of ss (sight w o t))) is_y ∙ ends_y in
-    let answered : after (answer query w (sees f)) (one_row ts) ≡ after R (take_values ts) =
+    let answered : after (query.answer w (sees f)) (one_row ts) ≡ after R (take_values ts) =
     ap (λ (d : Ending (List Row)). after d (one_row ts)) fold.answers ∙ row_ends fin fold.list
     ts in
     subst (λ (d : Ending (List Value)). Judged w o env here seen n q
@@ -640,17 +637,6 @@ folded_judged w o seen env here n r a query ts sc has f q l s fold =
     (ifs_count is ts p)
     ∙ are_shown (after R (take_values ts)) (cells_of ss
     (sight w o (added (folded_nodes a n) w o q))) ends xs e))
-
--- how many scalars the list of a folded query has
-abbrev CountIs : Option Folded → ℕ → Type 0
-CountIs None k = Unit {0}
-CountIs (Some a) k = (n : ℕ) → scalar_count (a.list n).scalars ≡ k
-
-folded_count : (q : Query) (S : List ℕ → ℕ) (e : Rattle.rel_algebra.specs.Emit.Env) →
-    CountIs (folded q S e) (query_width q S)
-folded_count (Grouped from tests zero items (a ∷ ags) NoExpr list) S e = λ n. all_count list S
-    (folded_env e n (suc (length ags))) (n + suc (length ags))
-folded_count _ S e = tt
 
 -- ---- either way
 
@@ -676,27 +662,27 @@ into_passes w o seen good (Some a) inner ts sc env here next n r k u x q l c =
     (columns_wide (folded_nodes a n) (assigns_if (n ∷ places p j) ts p) (places (p + j) j) w o q
     (p + j) j (folded_wide w o a ts n (sc n) q l) (ifs_count (n ∷ places p j) ts p)) c
 
-into_lands : (w : Inputs) (o : List (List Cell)) → Fits w → (seen : Seen) → Good w o seen →
-    (query : Query) (ts : List Target) → QueryPlans query → query_width query (columns_in w)
-    ≡ length ts → HasTarget ts → (env : Env) (here next n : ℕ) → Ready env here next n →
+into_lands : (w : Inputs) (o : List (List Cell)) → (seen : Seen) → Good w o seen →
+    (query : QueryLeaf) (ts : List Target) → QueryMeans w query (length ts) → HasTarget ts →
+    (env : Env) (here next n : ℕ) → Ready env here next n →
     (f : Frame) (q : List Cell) → length q ≡ n → cells_at q env.columns ≡ shown f → cell_at q 0
-    ≡ at here → (oa : Option Folded) → CountIs oa (length ts) → FoldedRight oa query w o (sees f) q
-    n →
-    Lands env here n q (with_end (scopes_of w seen) (after (answer query w (sees f)) (one_row ts)) f
-    (storing ts)) (run w o (into_by oa (plan query (columns_in w) (reading env)) ts
+    ≡ at here → (oa : Option Folded) → CountIs oa (length ts) → Folds oa (query.answer w (sees f)) w
+    o q n →
+    Lands env here n q (with_end (scopes_of w seen) (after (query.answer w (sees f)) (one_row ts)) f
+    (storing ts)) (run w o (into_by oa (query.plan (columns_in w) (reading env)) ts
     (codes_of w seen) env here next n) q)
-into_lands w o fits seen good query ts qp qw has env here next n r f q l s c None sc fold =
-    let j = length ts in let inner = plan query (columns_in w) (reading env) in
+into_lands w o seen good query ts qm has env here next n r f q l s c None sc fold =
+    let j = length ts in let inner = query.plan (columns_in w) (reading env) in
     one_lands w o seen good env here next n r
     (apply_by (constant (Truth true)) (into j) anew inner
     (with_columns no_node (assigns ts n) (places (n + j) j))) ((n + j) + j) (tag here)
     (target_stores ts env n ((n + j) + j) (n + j)) f
-    (with_end (scopes_of w seen) (after (answer query w (sees f)) (one_row ts)) f (storing ts)) q l
+    (with_end (scopes_of w seen) (after (query.answer w (sees f)) (one_row ts)) f (storing ts)) q l
     s (asked_wide w o inner ts n q l) c
-    (asked_judged w o fits seen env here n r.rising query ts qp qw has f q l s)
-into_lands w o fits seen good query ts qp qw has env here next n r f q l s c (Some a) sc fold =
+    (asked_judged w o seen env here n r.rising query ts qm has f q l s)
+into_lands w o seen good query ts qm has env here next n r f q l s c (Some a) sc fold =
     let j = length ts in let p = width (a.list n).nodes (n + length a.aggregates) in
-    let e = with_end (scopes_of w seen) (after (answer query w (sees f)) (one_row ts)) f
+    let e = with_end (scopes_of w seen) (after (query.answer w (sees f)) (one_row ts)) f
     (storing ts) in
     subst (λ (pre : Nodes). Lands env here n q e
     (run w o (one_step (codes_of w seen) env here next n pre ((p + j) + j) (tag here)
@@ -709,23 +695,21 @@ into_lands w o fits seen good query ts qp qw has env here next n r f q l s c (So
     (p + j) j (folded_wide w o a ts n (sc n) q l) (ifs_count (n ∷ places p j) ts p)) c
     (folded_judged w o seen env here n r.rising a query ts (sc n) has f q l s fold))
 
-pub into_sim : (w : Inputs) (o : List (List Cell)) → Fits w → (seen : Seen) → Good w o seen →
-    (level : ℕ) (query : Query) (ts : List Target) → QueryPlans query → query_width query
-    (columns_in w) ≡ length ts → HasTarget ts →
+pub into_sim : (w : Inputs) (o : List (List Cell)) → (seen : Seen) → Good w o seen →
+    (level : ℕ) (query : QueryLeaf) (ts : List Target) → QueryMeans w query (length ts) → HasTarget
+    ts →
     Sim w o level (emit_into query ts (columns_in w) (codes_of w seen))
-    (λ st. with_value (scopes_of w seen) (λ f. after (answer query w (sees f)) (one_row ts))
+    (λ st. with_value (scopes_of w seen) (λ f. after (query.answer w (sees f)) (one_row ts))
     (storing ts))
-into_sim w o fits seen good level query ts qp qw has =
-    let counted : (env : Env) → CountIs (folded query (columns_in w) (reading env)) (length ts) =
-    λ env. subst (λ (k : ℕ). CountIs (folded query (columns_in w) (reading env)) k) qw
-    (folded_count query (columns_in w) (reading env)) in
+into_sim w o seen good level query ts qm has =
     record {
       passes = λ env here next n r k u x q l c.
-          into_passes w o seen good (folded query (columns_in w) (reading env))
-          (plan query (columns_in w) (reading env)) ts (counted env) env here next n r k u x q l c;
+          into_passes w o seen good (query.folded (columns_in w) (reading env))
+          (query.plan (columns_in w) (reading env)) ts (qm.counted (reading env)) env here next n r
+          k u x q l c;
       lands = λ env here next n r v st f q s c.
-          into_lands w o fits seen good query ts qp qw has env here next n r f q s.long s.shows c
-          (folded query (columns_in w) (reading env)) (counted env)
-          (query_folds query qp w fits o (sees f) (reading env) q n s.long
+          into_lands w o seen good query ts qm has env here next n r f q s.long s.shows c
+          (query.folded (columns_in w) (reading env)) (qm.counted (reading env))
+          (qm.folds o (sees f) (reading env) q n s.long
           (reads_frame env n w o f q r.rising s.long s.shows));
     }

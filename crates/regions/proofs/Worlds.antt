@@ -14,7 +14,7 @@ use Rattle.row_types.specs.Rows.{Row}
 use Rattle.rel_algebra.specs.Tree.{Expr, Query}
 use Rattle.rel_algebra.specs.Endings.{Ending, after, ending_of, equal_values}
 use Rattle.rel_algebra.specs.Joins.{table_width}
-use Rattle.rel_algebra.specs.Plain.{Inputs, answer, planned, planned_expr}
+use Rattle.rel_algebra.specs.Plain.{answer, planned, planned_expr}
 use Rattle.rel_algebra.specs.Meaning as full
 use Rattle.rel_algebra.specs.Meaning.{call as calls, carried}
 use Rattle.rel_algebra.specs.OnConditions.{condition_numbered, item_of}
@@ -33,7 +33,7 @@ use Rattle.regions.specs.Tree.{ConditionRead, word_of, Variables, NoVariable, Mo
 use Rattle.regions.specs.Tree.{Compound, If, SearchedCase, SimpleCase, Set, SelectInto, Signal}
 use Rattle.regions.specs.Tree.{Resignal, GetStatementItems, GetConditionItems, Leave, Return, Stmts}
 use Rattle.regions.specs.Tree.{NoStmt, MoreStmts, Branches, NoBranch, MoreBranches, Handlers}
-use Rattle.regions.specs.Tree.{NoHandler, MoreHandlers, Body}
+use Rattle.regions.specs.Tree.{NoHandler, MoreHandlers, Routine, Body}
 use Rattle.regions.specs.Doing.{Frame, Outcome, Next, Leaving, Returning, Exiting, Raising, Doing}
 use Rattle.regions.specs.Doing.{ends, storing, take_values}
 use Rattle.regions.specs.Handlers.{Scopes, with_value, with_end}
@@ -44,10 +44,10 @@ use Rattle.regions.specs.Meaning.{condition_targets, condition_values, reading_i
 use Rattle.regions.specs.Meaning.{of_condition, getting_condition, does, does_all, does_else}
 use Rattle.regions.specs.Meaning.{does_branches, does_matching, declare, handlings, returned_or}
 use Rattle.regions.specs.Meaning.{call, no_context}
-use Rattle.regions.specs.Theorem.{Planned, VariablesFormed, Formed, AllFormed, BranchesFormed}
-use Rattle.regions.specs.Theorem.{HandlersFormed}
-use Rattle.regions.specs.Worlds.{stmt_of, stmts_of, branches_of, handlers_of, tables_of, FormIsPure}
-use Rattle.regions.specs.Worlds.{BodyPlans}
+use Rattle.regions.specs.Theorem.{AllEach, BranchesEach, Each, ExprPlanned, HandlersEach}
+use Rattle.regions.specs.Theorem.{PerhapsEach, QueryPlanned, RoutineEach, VariablesEach}
+use Rattle.regions.specs.Worlds.{stmt_of, stmts_of, branches_of, handlers_of, routine_of}
+use Rattle.regions.specs.Worlds.{BodyPlans, FormIsPure, tables_of}
 use Rattle.regions.proofs.Exceptions.{Fails, ending_fails, fails_after, ev_fails, answer_fails}
 use Rattle.regions.proofs.Given.{answer_same}
 use Rattle.regions.proofs.Same.{Does, Gives, Same, SameHandlings, SameScopes, called_same}
@@ -55,9 +55,26 @@ use Rattle.regions.proofs.Same.{ends_same, failing_same, in_turn_same, outcome_o
 use Rattle.regions.proofs.Same.{raising_same, storing_same, take_fails, take_same, then_same}
 use Rattle.regions.proofs.Same.{unit_same, value_same}
 use Rattle.regions.proofs.Wholes.{compound_same, with_frame}
-use Rattle.regions.proofs.Chain.{inlines}
+use Rattle.regions.proofs.TreeLaws.{inlines}
+use Rattle.regions.proofs.Trees.{each}
 
--- ---- expressions and queries, whatever a self-call means
+-- ---- what is asked of expressions and queries, whatever a self-call means
+
+-- an expression has its value by the tables alone, and what it raises is an exception
+abbrev pub ExprGives : World → List Value → Expr → Type 0
+ExprGives w args e =
+    ((self : Called) (f : worlds.Frame) → Gives w (full.ev e self [] f)
+    (value_in (tables_of w args) e f.variables))
+    × ((vs : Frame) → Fails (value_in (tables_of w args) e vs))
+
+-- so has a query its rows
+abbrev pub QueryGives : World → List Value → Query → List Target → Type 0
+QueryGives w args q targets =
+    ((self : Called) (f : worlds.Frame) → Gives w (full.answer q self [] f)
+    (answer q (tables_of w args) (seen f.variables)))
+    × ((vs : Frame) → Fails (answer q (tables_of w args) (seen vs)))
+
+-- ---- where they have plans
 
 expr_gives : (e : Expr) → planned_expr e ≡ true → (self : Called) (w : World) (args : List Value)
     (f : worlds.Frame) → Gives w (full.ev e self [] f) (value_in (tables_of w args) e f.variables)
@@ -104,14 +121,13 @@ row_same w ss ts c targets (Ok (r ∷ [])) h f =
     of_row (Err area) k = failing_same w ss ts c area k f
 row_same w ss ts c targets (Ok (r ∷ s ∷ rows)) h f = failing_same w ss ts c _ refl f
 
-into_same : (q : Query) → planned q ≡ true → (self : Called) (w : World) (args : List Value) →
-    Fits (tables_of w args) → (ss : handlers.Scopes) (ts : Scopes) → SameScopes w ss ts →
-    (targets : List Target) →
+into_same : (q : Query) (self : Called) (w : World) (args : List Value) (ss : handlers.Scopes)
+    (ts : Scopes) → SameScopes w ss ts → (targets : List Target) → QueryGives w args q targets →
     Does w (handlers.with_value ss (λ f w. worlds.after (full.answer q self [] f w)
     (full.one_row targets)) (full.found ss targets))
     (with_value ts (λ f. after (answer q (tables_of w args) (seen f)) (one_row targets))
     (storing targets))
-into_same q p self w args fits ss ts c targets f = let rows = answer q (tables_of w args)
+into_same q self w args ss ts c targets p f = let rows = answer q (tables_of w args)
     (seen f.variables) in
     subst (λ (d : Ends (Option (List Value))). Same w (handlers.with_end ss d f
     (full.found ss targets))
@@ -119,23 +135,24 @@ into_same q p self w args fits ss ts c targets f = let rows = answer q (tables_o
     (sym (unit_same w (λ u. worlds.after (full.answer q self [] f u) (full.one_row targets))
     (after rows (maybe_row targets))
     (then_same w (full.answer q self [] f) rows (full.one_row targets) (maybe_row targets)
-    (query_gives q p self w args fits f) (maybe_gives w targets))))
-    (row_same w ss ts c targets rows (answer_fails q (tables_of w args) (seen f.variables)) f)
+    (p.0 self f) (maybe_gives w targets))))
+    (row_same w ss ts c targets rows (p.1 f.variables) f)
 
 -- ---- SIGNAL and RESIGNAL
 
-perhaps_gives : (x : Perhaps) → Planned x → (self : Called) (w : World) (args : List Value)
-    (f : worlds.Frame) →
+perhaps_gives : (x : Perhaps) (self : Called) (w : World) (args : List Value) →
+    PerhapsEach x (ExprGives w args) → (f : worlds.Frame) →
     Gives w (full.ev_perhaps x self f) (perhaps_in (tables_of w args) x f.variables)
-perhaps_gives Without p self w args f = refl
-perhaps_gives (With e) p self w args f =
+perhaps_gives Without self w args p f = refl
+perhaps_gives (With e) self w args p f =
     then_same w (full.ev e self [] f) (value_in (tables_of w args) e f.variables)
-    (λ v. worlds.give (Some v)) (λ v. Ok (Some v)) (expr_gives e p self w args f) (λ v. refl)
+    (λ v. worlds.give (Some v)) (λ v. Ok (Some v)) (p.0 self f) (λ v. refl)
 
-perhaps_fails : (x : Perhaps) (w : Inputs) (vs : Frame) → Fails (perhaps_in w x vs)
-perhaps_fails Without w vs = tt
-perhaps_fails (With e) w vs =
-    fails_after (value_in w e vs) _ (ev_fails e w (seen vs)) (λ v. tt)
+perhaps_fails : (x : Perhaps) (w : World) (args : List Value) → PerhapsEach x (ExprGives w args) →
+    (vs : Frame) → Fails (perhaps_in (tables_of w args) x vs)
+perhaps_fails Without w args p vs = tt
+perhaps_fails (With e) w args p vs =
+    fails_after (value_in (tables_of w args) e vs) _ (p.1 vs) (λ v. tt)
 
 text_same : (w : World) (ss : handlers.Scopes) (ts : Scopes) → SameScopes w ss ts →
     (v : Option Value) (go : Option (List ℕ) → doing.Doing) (next : Option (List ℕ) → Doing) →
@@ -148,14 +165,14 @@ text_same w ss ts c (Some (Int n)) go next h = failing_same w ss ts c _ refl
 text_same w ss ts c (Some (Truth b)) go next h = failing_same w ss ts c _ refl
 
 resignal_same : (w : World) (ss : handlers.Scopes) (ts : Scopes) → SameScopes w ss ts →
-    (stacked : Option Area) (state : Option (List ℕ)) (x : Perhaps) → Planned x →
-    (self : Called) (args : List Value) →
+    (stacked : Option Area) (state : Option (List ℕ)) (x : Perhaps) (self : Called)
+    (args : List Value) → PerhapsEach x (ExprGives w args) →
     Does w (diagnostics.resignalling stacked state ss (full.ev_perhaps x self))
     (resignalling stacked state ts (perhaps_in (tables_of w args) x))
-resignal_same w ss ts c None state x p self args = failing_same w ss ts c _ refl
-resignal_same w ss ts c (Some area) state x p self args =
+resignal_same w ss ts c None state x self args p = failing_same w ss ts c _ refl
+resignal_same w ss ts c (Some area) state x self args p =
     value_same w ss ts c (full.ev_perhaps x self) (perhaps_in (tables_of w args) x)
-    (perhaps_gives x p self w args) (perhaps_fails x (tables_of w args)) _ _
+    (perhaps_gives x self w args p) (perhaps_fails x w args p) _ _
     (λ v. text_same w ss ts c v _ _ (λ s. raising_same w ss ts c (again_as state s area)))
 
 -- ---- GET STACKED DIAGNOSTICS
@@ -228,16 +245,15 @@ numbered_same (Int (pos (suc n))) area = refl
 numbered_same _ area = refl
 
 condition_same : (w : World) (ss : handlers.Scopes) (ts : Scopes) → SameScopes w ss ts →
-    (stacked : Option Area) (number : Expr) → planned_expr number ≡ true →
-    (rs : List ConditionRead) (self : Called) (args : List Value) →
+    (stacked : Option Area) (number : Expr) (rs : List ConditionRead) (self : Called)
+    (args : List Value) → ExprGives w args number →
     Does w (diagnostics.getting_condition (diagnostics.stacked_reading stacked) ss
     (full.ev number self []) rs)
     (getting_condition stacked ts (value_in (tables_of w args) number) rs)
-condition_same w ss ts c None number p rs self args = failing_same w ss ts c _ refl
-condition_same w ss ts c (Some area) number p rs self args =
+condition_same w ss ts c None number rs self args p = failing_same w ss ts c _ refl
+condition_same w ss ts c (Some area) number rs self args p =
     value_same w ss ts c (full.ev number self []) (value_in (tables_of w args) number)
-    (expr_gives number p self w args)
-    (λ vs. ev_fails number (tables_of w args) (seen vs)) _ _
+    (p.0 self) p.1 _ _
     (λ n. subst (λ (x : Option Condition). Does w (diagnostics.of_condition x ss rs)
     (of_condition (condition_numbered n area) ts rs)) (sym (numbered_same n area))
     (of_condition_same w ss ts c (condition_numbered n area) rs))
@@ -249,14 +265,14 @@ after_after : {A B C : Type 0} (e : Ending A) (go : A → Ending B) (next : B �
 after_after (Ok a) go next = refl
 after_after (Err area) go next = refl
 
-declare_gives : (vs : Variables) → VariablesFormed vs → (self : Called) (w : World)
-    (args : List Value) (f : worlds.Frame) →
+declare_gives : (vs : Variables) (self : Called) (w : World) (args : List Value) →
+    VariablesEach vs (ExprGives w args) → (f : worlds.Frame) →
     full.declare vs self f w
     ≡ carried (with_frame f (declare vs (tables_of w args) f.variables)) w
-declare_gives NoVariable p self w args f = refl
-declare_gives (MoreVariables n t Without more) p self w args f =
-    declare_gives more p.1 self w args (doing.with_more (replicate n Null) f)
-declare_gives (MoreVariables n t (With e) more) p self w args f =
+declare_gives NoVariable self w args p f = refl
+declare_gives (MoreVariables n t Without more) self w args p f =
+    declare_gives more self w args p.1 (doing.with_more (replicate n Null) f)
+declare_gives (MoreVariables n t (With e) more) self w args p f =
     let g = tables_of w args in let x = value_in g e f.variables in
     let v : Ending Value = after x (λ y. ending_of (assigned t y)) in
     let rest : Value → Ending Frame = λ v. declare more g (f.variables ++ replicate n v) in
@@ -266,21 +282,22 @@ declare_gives (MoreVariables n t (With e) more) p self w args f =
     (λ v. with_frame f (rest v))
     (unit_same w (λ u. worlds.after (full.ev e self [] f u) (λ y. worlds.outcome (assigned t y)))
     v (then_same w (full.ev e self [] f) x (λ y. worlds.outcome (assigned t y))
-    (λ y. ending_of (assigned t y)) (expr_gives e p.0 self w args f)
+    (λ y. ending_of (assigned t y)) (p.0.0 self f)
     (λ y. outcome_same w (assigned t y))))
-    (λ v. declare_gives more p.1 self w args (doing.with_more (replicate n v) f))
+    (λ v. declare_gives more self w args p.1 (doing.with_more (replicate n v) f))
     ∙ ap (λ (d : Ending worlds.Frame). carried d w)
     (sym (after_after v rest (λ vs. Ok (doing.with_variables vs f)))
     ∙ ap (with_frame f) (after_after x (λ y. ending_of (assigned t y)) rest))
 
-declare_fails : (vs : Variables) (w : Inputs) (f : Frame) → Fails (declare vs w f)
-declare_fails NoVariable w f = tt
-declare_fails (MoreVariables n t Without more) w f =
-    declare_fails more w (f ++ replicate n Null)
-declare_fails (MoreVariables n t (With e) more) w f =
-    fails_after (value_in w e f) _ (ev_fails e w (seen f))
+declare_fails : (vs : Variables) (w : World) (args : List Value) →
+    VariablesEach vs (ExprGives w args) → (f : Frame) → Fails (declare vs (tables_of w args) f)
+declare_fails NoVariable w args p f = tt
+declare_fails (MoreVariables n t Without more) w args p f =
+    declare_fails more w args p.1 (f ++ replicate n Null)
+declare_fails (MoreVariables n t (With e) more) w args p f =
+    fails_after (value_in (tables_of w args) e f) _ (p.0.1 f)
     (λ x. fails_after (ending_of (assigned t x)) _ (ending_fails (assigned t x))
-    (λ v. declare_fails more w (f ++ replicate n v)))
+    (λ v. declare_fails more w args p.1 (f ++ replicate n v)))
 
 -- ---- all statements
 
@@ -307,142 +324,141 @@ abbrev In : World → (full.Context → doing.Doing) → (Context → Doing) →
 In w d p = (self : Called) (again : Calling) (ss : handlers.Scopes) (c : Context) →
     SameScopes w ss c.scopes → Does w (d (placed self again ss c)) (p c)
 
-tested : (w : World) (args : List Value) (e : Expr) → planned_expr e ≡ true →
+tested : (w : World) (args : List Value) (e : Expr) → ExprGives w args e →
     (go : full.Context → Value → doing.Doing) (next : Context → Value → Doing) →
     ((v : Value) → In w (λ c. go c v) (λ c. next c v)) →
     In w (λ c. handlers.with_value c.scopes (full.ev e c.self []) (go c))
     (λ c. with_value c.scopes (value_in (tables_of w args) e) (next c))
 tested w args e p go next h self again ss c s =
     value_same w ss c.scopes s (full.ev e self []) (value_in (tables_of w args) e)
-    (expr_gives e p self w args) (λ vs. ev_fails e (tables_of w args) (seen vs))
-    (go (placed self again ss c)) (next c) (λ v. h v self again ss c s)
+    (p.0 self) p.1 (go (placed self again ss c)) (next c) (λ v. h v self again ss c s)
 
 mutual
-  stmt_same : (s : Stmt) (w : World) (args : List Value) → Fits (tables_of w args) →
-      Formed s (table_width w.tables) →
+  stmt_same : (s : Stmt) (w : World) (args : List Value) →
+      Each s (ExprGives w args) (QueryGives w args) →
       In w (full.does (stmt_of s)) (does s (tables_of w args))
-  stmt_same (Compound atomic variables hs body) w args fits p self again ss c s =
+  stmt_same (Compound atomic variables hs body) w args p self again ss c s =
       compound_same w atomic c.level ss c.scopes s (full.declare variables self)
-      (declare variables (tables_of w args)) (declare_gives variables p.0 self w args)
-      (declare_fails variables (tables_of w args))
+      (declare variables (tables_of w args)) (declare_gives variables self w args p.0)
+      (declare_fails variables w args p.0)
       (λ outer. full.handlings (handlers_of hs) (placed self again ss c) outer)
       (λ outer. handlings hs (tables_of w args) c.level outer)
-      (λ outer within e. handlers_same hs w args fits p.1 self again ss c outer within e)
+      (λ outer within e. handlers_same hs w args p.1 self again ss c outer within e)
       (λ outer. full.does_all (stmts_of body)
       (full.inside_scopes outer (placed self again ss c)))
       (λ outer. does_all body (tables_of w args) (inside_scopes outer c))
-      (λ outer within e. all_same body w args fits p.2 self again outer (inside_scopes within c) e)
-  stmt_same (If branches otherwise) w args fits p self again ss c s =
-      branches_same branches w args fits p.0 (full.does_all (stmts_of otherwise))
-      (does_all otherwise (tables_of w args)) (all_same otherwise w args fits p.1)
+      (λ outer within e. all_same body w args p.2 self again outer (inside_scopes within c) e)
+  stmt_same (If branches otherwise) w args p self again ss c s =
+      branches_same branches w args p.0 (full.does_all (stmts_of otherwise))
+      (does_all otherwise (tables_of w args)) (all_same otherwise w args p.1)
       self again ss c s
-  stmt_same (SearchedCase branches otherwise) w args fits p self again ss c s =
-      branches_same branches w args fits p.0 (full.does_else (stmts_of otherwise))
-      (does_else otherwise (tables_of w args)) (else_same otherwise w args fits p.1)
+  stmt_same (SearchedCase branches otherwise) w args p self again ss c s =
+      branches_same branches w args p.0 (full.does_else (stmts_of otherwise))
+      (does_else otherwise (tables_of w args)) (else_same otherwise w args p.1)
       self again ss c s
-  stmt_same (SimpleCase e branches otherwise) w args fits p self again ss c s =
+  stmt_same (SimpleCase e branches otherwise) w args p self again ss c s =
       tested w args e p.0 (λ c x. full.does_matching (branches_of branches) x c
       (full.does_else (stmts_of otherwise) c))
       (λ c x. does_matching branches x (tables_of w args) c
       (does_else otherwise (tables_of w args) c))
-      (λ x. matching_same branches x w args fits p.1 (full.does_else (stmts_of otherwise))
-      (does_else otherwise (tables_of w args)) (else_same otherwise w args fits p.2))
+      (λ x. matching_same branches x w args p.1 (full.does_else (stmts_of otherwise))
+      (does_else otherwise (tables_of w args)) (else_same otherwise w args p.2))
       self again ss c s
-  stmt_same (Set t e) w args fits p self again ss c s =
+  stmt_same (Set t e) w args p self again ss c s =
       value_same w ss c.scopes s
       (λ f u. worlds.after (full.ev e self [] f u) (λ v. doing.take_values (t ∷ []) (v ∷ [])))
       (λ f. after (value_in (tables_of w args) e f) (λ v. take_values (t ∷ []) (v ∷ [])))
       (λ f. then_same w (full.ev e self [] f) (value_in (tables_of w args) e f.variables)
       (λ v. doing.take_values (t ∷ []) (v ∷ [])) (λ v. take_values (t ∷ []) (v ∷ []))
-      (expr_gives e p self w args f) (λ v. take_same w (t ∷ []) (v ∷ [])))
+      (p.0 self f) (λ v. take_same w (t ∷ []) (v ∷ [])))
       (λ vs. fails_after (value_in (tables_of w args) e vs) _
-      (ev_fails e (tables_of w args) (seen vs)) (λ v. take_fails (t ∷ []) (v ∷ [])))
+      (p.1 vs) (λ v. take_fails (t ∷ []) (v ∷ [])))
       (doing.storing (t ∷ [])) (storing (t ∷ [])) (storing_same w (t ∷ []))
-  stmt_same (SelectInto query targets) w args fits p self again ss c s =
-      into_same query p.0 self w args fits ss c.scopes s targets
-  stmt_same (Signal state x) w args fits p self again ss c s =
+  stmt_same (SelectInto query targets) w args p self again ss c s =
+      into_same query self w args ss c.scopes s targets p
+  stmt_same (Signal state x) w args p self again ss c s =
       value_same w ss c.scopes s (full.ev_perhaps x self) (perhaps_in (tables_of w args) x)
-      (perhaps_gives x p self w args) (perhaps_fails x (tables_of w args)) _ _
+      (perhaps_gives x self w args p) (perhaps_fails x w args p) _ _
       (λ v. text_same w ss c.scopes s v _ _
       (λ m. raising_same w ss c.scopes s (one_condition state (or_empty m))))
-  stmt_same (Resignal state x) w args fits p self again ss c s =
-      resignal_same w ss c.scopes s c.stacked state x p self args
-  stmt_same (GetStatementItems reads) w args fits p self again ss c s =
+  stmt_same (Resignal state x) w args p self again ss c s =
+      resignal_same w ss c.scopes s c.stacked state x self args p
+  stmt_same (GetStatementItems reads) w args p self again ss c s =
       area_same w ss c.scopes s c.stacked reads
-  stmt_same (GetConditionItems number reads) w args fits p self again ss c s =
-      condition_same w ss c.scopes s c.stacked number p reads self args
-  stmt_same (Leave outwards) w args fits p self again ss c s =
+  stmt_same (GetConditionItems number reads) w args p self again ss c s =
+      condition_same w ss c.scopes s c.stacked number reads self args p
+  stmt_same (Leave outwards) w args p self again ss c s =
       ends_same w (Leaving (c.level - suc outwards)) tt
-  stmt_same (Return e) w args fits p self again ss c s =
+  stmt_same (Return e) w args p self again ss c s =
       tested w args e p (λ c v. doing.ends (doing.Returning v)) (λ c v. ends (Returning v))
       (λ v self again ss c s. ends_same w (Returning v) tt) self again ss c s
 
-  all_same : (xs : Stmts) (w : World) (args : List Value) → Fits (tables_of w args) →
-      AllFormed xs (table_width w.tables) →
+  all_same : (xs : Stmts) (w : World) (args : List Value) →
+      AllEach xs (ExprGives w args) (QueryGives w args) →
       In w (full.does_all (stmts_of xs)) (does_all xs (tables_of w args))
-  all_same NoStmt w args fits p self again ss c s = ends_same w Next tt
-  all_same (MoreStmts x xs) w args fits p self again ss c s =
+  all_same NoStmt w args p self again ss c s = ends_same w Next tt
+  all_same (MoreStmts x xs) w args p self again ss c s =
       let d = placed self again ss c in let g = tables_of w args in
       in_turn_same w (full.does (stmt_of x) d) (full.does_all (stmts_of xs) d)
-      (does x g c) (does_all xs g c) (stmt_same x w args fits p.0 self again ss c s)
-      (all_same xs w args fits p.1 self again ss c s)
+      (does x g c) (does_all xs g c) (stmt_same x w args p.0 self again ss c s)
+      (all_same xs w args p.1 self again ss c s)
 
-  else_same : (xs : Stmts) (w : World) (args : List Value) → Fits (tables_of w args) →
-      AllFormed xs (table_width w.tables) →
+  else_same : (xs : Stmts) (w : World) (args : List Value) →
+      AllEach xs (ExprGives w args) (QueryGives w args) →
       In w (full.does_else (stmts_of xs)) (does_else xs (tables_of w args))
-  else_same NoStmt w args fits p self again ss c s = failing_same w ss c.scopes s _ refl
-  else_same (MoreStmts x xs) w args fits p self again ss c s =
+  else_same NoStmt w args p self again ss c s = failing_same w ss c.scopes s _ refl
+  else_same (MoreStmts x xs) w args p self again ss c s =
       let d = placed self again ss c in let g = tables_of w args in
       in_turn_same w (full.does (stmt_of x) d) (full.does_all (stmts_of xs) d)
-      (does x g c) (does_all xs g c) (stmt_same x w args fits p.0 self again ss c s)
-      (all_same xs w args fits p.1 self again ss c s)
+      (does x g c) (does_all xs g c) (stmt_same x w args p.0 self again ss c s)
+      (all_same xs w args p.1 self again ss c s)
 
-  branches_same : (bs : Branches) (w : World) (args : List Value) → Fits (tables_of w args) →
-      BranchesFormed bs (table_width w.tables) → (d : full.Context → doing.Doing)
+  branches_same : (bs : Branches) (w : World) (args : List Value) →
+      BranchesEach bs (ExprGives w args) (QueryGives w args) → (d : full.Context → doing.Doing)
       (p : Context → Doing) → In w d p →
       In w (λ c. full.does_branches (branches_of bs) c (d c))
       (λ c. does_branches bs (tables_of w args) c (p c))
-  branches_same NoBranch w args fits h d p k = k
-  branches_same (MoreBranches test body others) w args fits h d p k =
+  branches_same NoBranch w args h d p k = k
+  branches_same (MoreBranches test body others) w args h d p k =
       tested w args test h.0 (λ c v. choose v (full.does_all (stmts_of body) c)
       (full.does_branches (branches_of others) c (d c)))
       (λ c v. choose v (does_all body (tables_of w args) c)
       (does_branches others (tables_of w args) c (p c)))
       (λ v self again ss c s. choose_same w v _ _ _ _
-      (all_same body w args fits h.1 self again ss c s)
-      (branches_same others w args fits h.2 d p k self again ss c s))
+      (all_same body w args h.1 self again ss c s)
+      (branches_same others w args h.2 d p k self again ss c s))
 
   matching_same : (bs : Branches) (x : Value) (w : World) (args : List Value) →
-      Fits (tables_of w args) → BranchesFormed bs (table_width w.tables) →
+      BranchesEach bs (ExprGives w args) (QueryGives w args) →
       (d : full.Context → doing.Doing) (p : Context → Doing) → In w d p →
       In w (λ c. full.does_matching (branches_of bs) x c (d c))
       (λ c. does_matching bs x (tables_of w args) c (p c))
-  matching_same NoBranch x w args fits h d p k = k
-  matching_same (MoreBranches e body others) x w args fits h d p k =
+  matching_same NoBranch x w args h d p k = k
+  matching_same (MoreBranches e body others) x w args h d p k =
       tested w args e h.0 (λ c y. choose (equal_values x y) (full.does_all (stmts_of body) c)
       (full.does_matching (branches_of others) x c (d c)))
       (λ c y. choose (equal_values x y) (does_all body (tables_of w args) c)
       (does_matching others x (tables_of w args) c (p c)))
       (λ y self again ss c s. choose_same w (equal_values x y) _ _ _ _
-      (all_same body w args fits h.1 self again ss c s)
-      (matching_same others x w args fits h.2 d p k self again ss c s))
+      (all_same body w args h.1 self again ss c s)
+      (matching_same others x w args h.2 d p k self again ss c s))
 
-  handlers_same : (hs : Handlers) (w : World) (args : List Value) → Fits (tables_of w args) →
-      HandlersFormed hs (table_width w.tables) →
+  handlers_same : (hs : Handlers) (w : World) (args : List Value) →
+      HandlersEach hs (ExprGives w args) (QueryGives w args) →
       (self : Called) (again : Calling) (ss : handlers.Scopes) (c : Context)
       (outer : handlers.Scopes) (within : Scopes) → SameScopes w outer within →
       SameHandlings w (full.handlings (handlers_of hs) (placed self again ss c) outer)
       (handlings hs (tables_of w args) c.level within)
-  handlers_same NoHandler w args fits p self again ss c outer within e = tt
-  handlers_same (MoreHandlers kind takes action others) w args fits p self again ss c outer within
+  handlers_same NoHandler w args p self again ss c outer within e = tt
+  handlers_same (MoreHandlers kind takes action others) w args p self again ss c outer within
       e = (
         record {
           kind = refl;
           takes = refl;
-          action = λ area. stmt_same action w args fits p.0 self again outer
+          action = λ area. stmt_same action w args p.0 self again outer
               (in_action within area c.level) e;
         },
-        handlers_same others w args fits p.1 self again ss c outer within e,
+        handlers_same others w args p.1 self again ss c outer within e,
       )
 
 -- ---- calls
@@ -460,13 +476,30 @@ end_gives : (w : World) (t : SqlType) (e : doing.End) (p : Outcome) → e.outcom
 end_gives w t e p h k =
     (λ i. callings.returned_or t (h i) (k i)) ∙ returned_gives w t p
 
-pub form_is_pure : FormIsPure
-form_is_pure (Body types returns body) values args w p fits =
-    let s = stmt_same body w args fits p worlds.no_self worlds.no_again [] no_context tt
+-- a call ends as by the tables alone, where each expression and query of the body gives so
+pub call_gives : (r : Routine) (values args : List Value) (w : World) →
+    RoutineEach r (ExprGives w args) (QueryGives w args) →
+    full.call (routine_of r) values w ≡ carried (call r values (tables_of w args)) w
+call_gives (Body types returns body) values args w p =
+    let s = stmt_same body w args p worlds.no_self worlds.no_again [] no_context tt
     (worlds.frame_of values) in
     end_gives w returns (full.does (stmt_of body)
     (placed worlds.no_self worlds.no_again [] no_context) (worlds.frame_of values) w)
     (does body (tables_of w args) no_context values).outcome s.outcome s.world
+
+pub form_is_pure : FormIsPure
+form_is_pure (Body types returns body) values args w p fits =
+    call_gives (Body types returns body) values args w
+    (each body ExprPlanned (ExprGives w args) (QueryPlanned (table_width w.tables))
+    (QueryGives w args)
+    (λ e h. (
+      λ self f. expr_gives e h self w args f,
+      λ vs. ev_fails e (tables_of w args) (seen vs),
+    ))
+    (λ q ts h. (
+      λ self f. query_gives q h.0 self w args fits f,
+      λ vs. answer_fails q (tables_of w args) (seen vs),
+    )) p)
 
 pub body_plans : BodyPlans
 body_plans r values w p l fits = record {

@@ -8,7 +8,7 @@ use Rattle.rel_algebra.specs.Joins.{places}
 use Rattle.rel_algebra.specs.Plan.{Scalar, Scalars, word, none, more, case_word, or_word, strict}
 use Rattle.rel_algebra.specs.Plan.{on_condition, no_node, extend_by}
 use Rattle.rel_algebra.specs.OnConditions.{matches_word, number_word}
-use Rattle.regions.specs.Tree.{HandlerType, Continue, Exit, Undo}
+use Rattle.regions.specs.Bodies.{HandlerType, Continue, Exit, Undo}
 use Rattle.regions.specs.Steps.{Step, grow, fat, tag, col, only, case_of, Store, store, placed}
 
 -- The columns of the variables in sight, by their slots; the codes to go to by the level of a

@@ -6,7 +6,7 @@ use Rattle.sql_values.specs.Casts.{assigned}
 use Rattle.sql_conditions.specs.Conditions.{Area}
 use Rattle.rel_algebra.specs.Endings.{Ending, ◌>>=◌, ending_of}
 pub use Rattle.rel_algebra.specs.Doing.{put_values}
-use Rattle.regions.specs.Tree.{Target}
+use Rattle.regions.specs.Bodies.{Target}
 
 -- the values of the variables in sight, by their slots
 abbrev pub Frame : Type 0

@@ -8,7 +8,7 @@ use Rattle.rel_algebra.specs.Endings.{Ending}
 use Rattle.rel_algebra.specs.Tree.{ConditionValue}
 use Rattle.rel_algebra.specs.States.{state_in, is_exception, names, covers}
 pub use Rattle.rel_algebra.specs.Handlers.{or_else, first_with}
-use Rattle.regions.specs.Tree.{HandlerType, Continue, Exit, Undo}
+use Rattle.regions.specs.Bodies.{HandlerType, Continue, Exit, Undo}
 use Rattle.regions.specs.Doing.{Frame, Next, Exiting, Raising, End, Doing, ends, outside}
 
 -- a handler in sight: what follows its action, what it waits for, and what its action does, by the

@@ -1,4 +1,9 @@
+pub mod Leaves
+pub mod Bodies
+pub mod BodyMeaning
+pub mod BodyChain
 pub mod Tree
+pub mod TreeBodies
 pub mod Doing
 pub mod Handlers
 pub mod Compounds

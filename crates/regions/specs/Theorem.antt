@@ -1,81 +1,115 @@
 -- What the plan of a function in form is to be.
-use Rattle.std.specs.Prelude.{◌≡◌, ℕ, zero, suc, ◌++◌, true, false, List, [], ◌∷◌, length}
+use Rattle.std.specs.Prelude.{◌≡◌, ℕ, ◌++◌, true, false, List, [], ◌∷◌, length}
+use Rattle.sql_values.specs.declared.value.SqlType.{SqlType}
 use Rattle.sql_values.specs.declared.value.Value.{Value}
 use Rattle.row_types.specs.declared.cell.Cell.{Cell}
-use Rattle.rel_algebra.specs.Endings.{Ending, after, cell_end}
+use Rattle.rel_algebra.specs.Emit.{called_region, scalar_count}
+use Rattle.rel_algebra.specs.Endings.{cell_end}
 use Rattle.rel_algebra.specs.Joins.{query_width}
 use Rattle.rel_algebra.specs.Plain.{Inputs, columns_in, planned, planned_expr}
-use Rattle.rel_algebra.specs.Plan.{PlanTree, Scalars, added, cell_of, cells_of, column, den, more}
-use Rattle.rel_algebra.specs.Plan.{none, shown, sight, values_of}
-use Rattle.rel_algebra.specs.Theorem.{Fits, one_cell}
+use Rattle.rel_algebra.specs.Plan.{Scalars, added, cell_of, cells_of, den, shown, sight}
 use Rattle.rel_algebra.specs.Removal.{all_removable, is_region}
-use Rattle.rel_algebra.specs.Emit.{called_region, scalar_count}
-use Rattle.rel_algebra.specs.WellFormed.{Shaped, ShapedQuery, scalars_fit, tree_fits}
 use Rattle.rel_algebra.specs.Simple.{Nested, Simple, SimpleQuery}
+use Rattle.rel_algebra.specs.Theorem.{Fits, one_cell}
+use Rattle.rel_algebra.specs.Tree.{Expr, Query}
+use Rattle.rel_algebra.specs.WellFormed.{Shaped, ShapedQuery, scalars_fit, tree_fits}
+pub use Rattle.regions.specs.Bodies.{HasTarget}
+pub use Rattle.regions.specs.Inline.{outer_columns, region}
+pub use Rattle.regions.specs.Meaning.{called_with}
+use Rattle.regions.specs.Inline.{Widths, inline, inline_with}
+use Rattle.regions.specs.Meaning.{call}
 use Rattle.regions.specs.Tree.{Target, Perhaps, Without, With, Stmt, Compound, If, SearchedCase}
 use Rattle.regions.specs.Tree.{SimpleCase, Set, SelectInto, Signal, Resignal, GetStatementItems}
 use Rattle.regions.specs.Tree.{GetConditionItems, Leave, Return, Stmts, NoStmt, MoreStmts, Branches}
 use Rattle.regions.specs.Tree.{NoBranch, MoreBranches, Variables, NoVariable, MoreVariables}
 use Rattle.regions.specs.Tree.{Handlers, NoHandler, MoreHandlers, Routine, Body}
-use Rattle.regions.specs.Meaning.{call}
-use Rattle.regions.specs.Inline.{Widths, inline, inline_with}
-use Rattle.sql_values.specs.declared.value.SqlType.{SqlType}
 
--- at least one target
-abbrev pub HasTarget : List Target → Type 0
-HasTarget [] = ⊥
-HasTarget (t ∷ ts) = Unit {0}
+-- what holds of an expression that may be left out
+abbrev pub PerhapsEach : Perhaps → (Expr → Type 0) → Type 0
+PerhapsEach Without P = Unit {0}
+PerhapsEach (With e) P = P e
 
--- the expressions and queries of a body have plans, and SELECT INTO has one target for each column,
--- and at least one
+-- of each default of declarations
+abbrev pub VariablesEach : Variables → (Expr → Type 0) → Type 0
+VariablesEach NoVariable P = Unit {0}
+VariablesEach (MoreVariables k t default others) P = PerhapsEach default P × VariablesEach others P
+
+-- what holds of each expression, and of each query with the targets of its SELECT INTO
+abbrev mutual
+  -- in a statement
+  pub Each : Stmt → (Expr → Type 0) → (Query → List Target → Type 0) → Type 0
+  Each (Compound atomic variables handlers body) P Q = VariablesEach variables P
+      × HandlersEach handlers P Q × AllEach body P Q
+  Each (If branches otherwise) P Q = BranchesEach branches P Q × AllEach otherwise P Q
+  Each (SearchedCase branches otherwise) P Q = BranchesEach branches P Q × AllEach otherwise P Q
+  Each (SimpleCase e branches otherwise) P Q = P e × BranchesEach branches P Q
+      × AllEach otherwise P Q
+  Each (Set t e) P Q = P e
+  Each (SelectInto query targets) P Q = Q query targets
+  Each (Signal state text) P Q = PerhapsEach text P
+  Each (Resignal state text) P Q = PerhapsEach text P
+  Each (GetStatementItems reads) P Q = Unit {0}
+  Each (GetConditionItems number reads) P Q = P number
+  Each (Leave outwards) P Q = Unit {0}
+  Each (Return e) P Q = P e
+
+  -- in statements
+  pub AllEach : Stmts → (Expr → Type 0) → (Query → List Target → Type 0) → Type 0
+  AllEach NoStmt P Q = Unit {0}
+  AllEach (MoreStmts s ss) P Q = Each s P Q × AllEach ss P Q
+
+  -- in tests with their statements
+  pub BranchesEach : Branches → (Expr → Type 0) → (Query → List Target → Type 0) → Type 0
+  BranchesEach NoBranch P Q = Unit {0}
+  BranchesEach (MoreBranches test body others) P Q = P test × AllEach body P Q
+      × BranchesEach others P Q
+
+  -- in handlers
+  pub HandlersEach : Handlers → (Expr → Type 0) → (Query → List Target → Type 0) → Type 0
+  HandlersEach NoHandler P Q = Unit {0}
+  HandlersEach (MoreHandlers kind takes action others) P Q = Each action P Q
+      × HandlersEach others P Q
+
+-- in the body of a function
+abbrev pub RoutineEach : Routine → (Expr → Type 0) → (Query → List Target → Type 0) → Type 0
+RoutineEach (Body types returns body) P Q = Each body P Q
+
+-- an expression has a plan
+abbrev pub ExprPlanned : Expr → Type 0
+ExprPlanned e = planned_expr e ≡ true
+
+-- a query has a plan, and SELECT INTO has one target for each column, and at least one
+abbrev pub QueryPlanned : Widths → Query → List Target → Type 0
+QueryPlanned S query targets = (planned query ≡ true) × (query_width query S ≡ length targets)
+    × HasTarget targets
+
+-- where an expression is written, it has a plan
 abbrev pub Planned : Perhaps → Type 0
-Planned Without = Unit {0}
-Planned (With e) = planned_expr e ≡ true
+Planned text = PerhapsEach text ExprPlanned
 
 -- declarations
 abbrev pub VariablesFormed : Variables → Type 0
-VariablesFormed NoVariable = Unit {0}
-VariablesFormed (MoreVariables k t default others) = Planned default × VariablesFormed others
+VariablesFormed variables = VariablesEach variables ExprPlanned
 
-abbrev mutual
-  -- a statement in form
-  pub Formed : Stmt → Widths → Type 0
-  Formed (Compound atomic variables handlers body) S = VariablesFormed variables × HandlersFormed
-      handlers S × AllFormed body S
-  Formed (If branches otherwise) S = BranchesFormed branches S × AllFormed otherwise S
-  Formed (SearchedCase branches otherwise) S = BranchesFormed branches S × AllFormed otherwise S
-  Formed (SimpleCase e branches otherwise) S = (planned_expr e ≡ true) × BranchesFormed branches S
-      × AllFormed otherwise S
-  Formed (Set t e) S = planned_expr e ≡ true
-  Formed (SelectInto query targets) S = (planned query ≡ true)
-      × (query_width query S ≡ length targets) × HasTarget targets
-  Formed (Signal state text) S = Planned text
-  Formed (Resignal state text) S = Planned text
-  Formed (GetStatementItems reads) S = Unit {0}
-  Formed (GetConditionItems number reads) S = planned_expr number ≡ true
-  Formed (Leave outwards) S = Unit {0}
-  Formed (Return e) S = planned_expr e ≡ true
+-- a statement in form: its expressions and queries have plans
+abbrev pub Formed : Stmt → Widths → Type 0
+Formed s S = Each s ExprPlanned (QueryPlanned S)
 
-  -- statements
-  pub AllFormed : Stmts → Widths → Type 0
-  AllFormed NoStmt S = Unit {0}
-  AllFormed (MoreStmts s ss) S = Formed s S × AllFormed ss S
+-- statements
+abbrev pub AllFormed : Stmts → Widths → Type 0
+AllFormed ss S = AllEach ss ExprPlanned (QueryPlanned S)
 
-  -- tests with their statements
-  pub BranchesFormed : Branches → Widths → Type 0
-  BranchesFormed NoBranch S = Unit {0}
-  BranchesFormed (MoreBranches test body others) S = (planned_expr test ≡ true) × AllFormed body S
-      × BranchesFormed others S
+-- tests with their statements
+abbrev pub BranchesFormed : Branches → Widths → Type 0
+BranchesFormed branches S = BranchesEach branches ExprPlanned (QueryPlanned S)
 
-  -- handlers
-  pub HandlersFormed : Handlers → Widths → Type 0
-  HandlersFormed NoHandler S = Unit {0}
-  HandlersFormed (MoreHandlers kind takes action others) S = Formed action S × HandlersFormed others
-      S
+-- handlers
+abbrev pub HandlersFormed : Handlers → Widths → Type 0
+HandlersFormed handlers S = HandlersEach handlers ExprPlanned (QueryPlanned S)
 
 -- a function in form
 abbrev pub RoutineFormed : Routine → Widths → Type 0
-RoutineFormed (Body types returns body) S = Formed body S
+RoutineFormed r S = RoutineEach r ExprPlanned (QueryPlanned S)
 
 -- the types of a function's parameters
 abbrev pub parameters_of : Routine → List SqlType
@@ -97,56 +131,42 @@ Inlines = (r : Routine) (w : Inputs) (o : List (List Cell)) → Fits w → Routi
 
 -- ---- the shape
 
--- each query in the body is simple: names of its parameters and variables stand in a run of
--- equalities
+-- each query nested in an expression is simple: names of the body's parameters and variables stand
+-- in a run of equalities
+abbrev pub ExprSimple : Widths → Expr → Type 0
+ExprSimple S e = Simple e S false
+
+-- a query is, and each that is nested in it
+abbrev pub QuerySimple : Widths → Query → List Target → Type 0
+QuerySimple S query targets = SimpleQuery query S false × Nested query S false
+
+-- of an expression that may be left out
 abbrev pub PerhapsSimple : Perhaps → Widths → Type 0
-PerhapsSimple Without S = Unit {0}
-PerhapsSimple (With e) S = Simple e S false
+PerhapsSimple text S = PerhapsEach text (ExprSimple S)
 
 -- of declarations
 abbrev pub VariablesSimple : Variables → Widths → Type 0
-VariablesSimple NoVariable S = Unit {0}
-VariablesSimple (MoreVariables k t default others) S = PerhapsSimple default S × VariablesSimple
-    others S
+VariablesSimple variables S = VariablesEach variables (ExprSimple S)
 
-abbrev mutual
-  -- of a statement
-  pub StmtSimple : Stmt → Widths → Type 0
-  StmtSimple (Compound atomic variables handlers body) S = VariablesSimple variables S
-      × HandlersSimple handlers S × AllSimple body S
-  StmtSimple (If branches otherwise) S = BranchesSimple branches S × AllSimple otherwise S
-  StmtSimple (SearchedCase branches otherwise) S = BranchesSimple branches S × AllSimple otherwise S
-  StmtSimple (SimpleCase e branches otherwise) S = Simple e S false × BranchesSimple branches S
-      × AllSimple otherwise S
-  StmtSimple (Set t e) S = Simple e S false
-  StmtSimple (SelectInto query targets) S = SimpleQuery query S false × Nested query S false
-  StmtSimple (Signal state text) S = PerhapsSimple text S
-  StmtSimple (Resignal state text) S = PerhapsSimple text S
-  StmtSimple (GetStatementItems reads) S = Unit {0}
-  StmtSimple (GetConditionItems number reads) S = Simple number S false
-  StmtSimple (Leave outwards) S = Unit {0}
-  StmtSimple (Return e) S = Simple e S false
+-- of a statement
+abbrev pub StmtSimple : Stmt → Widths → Type 0
+StmtSimple s S = Each s (ExprSimple S) (QuerySimple S)
 
-  -- of statements
-  pub AllSimple : Stmts → Widths → Type 0
-  AllSimple NoStmt S = Unit {0}
-  AllSimple (MoreStmts s ss) S = StmtSimple s S × AllSimple ss S
+-- of statements
+abbrev pub AllSimple : Stmts → Widths → Type 0
+AllSimple ss S = AllEach ss (ExprSimple S) (QuerySimple S)
 
-  -- of tests with their statements
-  pub BranchesSimple : Branches → Widths → Type 0
-  BranchesSimple NoBranch S = Unit {0}
-  BranchesSimple (MoreBranches test body others) S = Simple test S false × AllSimple body S
-      × BranchesSimple others S
+-- of tests with their statements
+abbrev pub BranchesSimple : Branches → Widths → Type 0
+BranchesSimple branches S = BranchesEach branches (ExprSimple S) (QuerySimple S)
 
-  -- of handlers
-  pub HandlersSimple : Handlers → Widths → Type 0
-  HandlersSimple NoHandler S = Unit {0}
-  HandlersSimple (MoreHandlers kind takes action others) S = StmtSimple action S × HandlersSimple
-      others S
+-- of handlers
+abbrev pub HandlersSimple : Handlers → Widths → Type 0
+HandlersSimple handlers S = HandlersEach handlers (ExprSimple S) (QuerySimple S)
 
 -- of a function
 abbrev pub RoutineSimple : Routine → Widths → Type 0
-RoutineSimple (Body types returns body) S = StmtSimple body S
+RoutineSimple r S = RoutineEach r (ExprSimple S) (QuerySimple S)
 
 -- The plan is a chain over Unit; and where each query in the body is simple, each Apply in it can
 -- be removed.
@@ -158,56 +178,41 @@ pub record Regions : Type 0 where
   pub removable : (r : Routine) (S : Widths) (params : Scalars) → RoutineSimple r S → all_removable
       (inline_with r S params) ≡ true
 
--- what a body keeps that is well typed
+-- what an expression keeps that is well typed
+abbrev pub ExprShaped : Widths → Expr → Type 0
+ExprShaped S e = Shaped e S
+
+-- what a query keeps, whose columns are as many as the targets
+abbrev pub QueryShaped : Widths → Query → List Target → Type 0
+QueryShaped S query targets = ShapedQuery query S × (query_width query S ≡ length targets)
+
+-- of an expression that may be left out
 abbrev pub PerhapsShaped : Perhaps → Widths → Type 0
-PerhapsShaped Without S = Unit {0}
-PerhapsShaped (With e) S = Shaped e S
+PerhapsShaped text S = PerhapsEach text (ExprShaped S)
 
 -- of declarations
 abbrev pub VariablesShaped : Variables → Widths → Type 0
-VariablesShaped NoVariable S = Unit {0}
-VariablesShaped (MoreVariables k t default others) S = PerhapsShaped default S × VariablesShaped
-    others S
+VariablesShaped variables S = VariablesEach variables (ExprShaped S)
 
-abbrev mutual
-  -- of a statement
-  pub StmtShaped : Stmt → Widths → Type 0
-  StmtShaped (Compound atomic variables handlers body) S = VariablesShaped variables S
-      × HandlersShaped handlers S × AllShaped body S
-  StmtShaped (If branches otherwise) S = BranchesShaped branches S × AllShaped otherwise S
-  StmtShaped (SearchedCase branches otherwise) S = BranchesShaped branches S × AllShaped otherwise S
-  StmtShaped (SimpleCase e branches otherwise) S = Shaped e S × BranchesShaped branches S
-      × AllShaped otherwise S
-  StmtShaped (Set t e) S = Shaped e S
-  StmtShaped (SelectInto query targets) S = ShapedQuery query S
-      × (query_width query S ≡ length targets)
-  StmtShaped (Signal state text) S = PerhapsShaped text S
-  StmtShaped (Resignal state text) S = PerhapsShaped text S
-  StmtShaped (GetStatementItems reads) S = Unit {0}
-  StmtShaped (GetConditionItems number reads) S = Shaped number S
-  StmtShaped (Leave outwards) S = Unit {0}
-  StmtShaped (Return e) S = Shaped e S
+-- of a statement
+abbrev pub StmtShaped : Stmt → Widths → Type 0
+StmtShaped s S = Each s (ExprShaped S) (QueryShaped S)
 
-  -- of statements
-  pub AllShaped : Stmts → Widths → Type 0
-  AllShaped NoStmt S = Unit {0}
-  AllShaped (MoreStmts s ss) S = StmtShaped s S × AllShaped ss S
+-- of statements
+abbrev pub AllShaped : Stmts → Widths → Type 0
+AllShaped ss S = AllEach ss (ExprShaped S) (QueryShaped S)
 
-  -- of tests with their statements
-  pub BranchesShaped : Branches → Widths → Type 0
-  BranchesShaped NoBranch S = Unit {0}
-  BranchesShaped (MoreBranches test body others) S = Shaped test S × AllShaped body S
-      × BranchesShaped others S
+-- of tests with their statements
+abbrev pub BranchesShaped : Branches → Widths → Type 0
+BranchesShaped branches S = BranchesEach branches (ExprShaped S) (QueryShaped S)
 
-  -- of handlers
-  pub HandlersShaped : Handlers → Widths → Type 0
-  HandlersShaped NoHandler S = Unit {0}
-  HandlersShaped (MoreHandlers kind takes action others) S = StmtShaped action S × HandlersShaped
-      others S
+-- of handlers
+abbrev pub HandlersShaped : Handlers → Widths → Type 0
+HandlersShaped handlers S = HandlersEach handlers (ExprShaped S) (QueryShaped S)
 
 -- of a function
 abbrev pub RoutineShaped : Routine → Widths → Type 0
-RoutineShaped (Body types returns body) S = StmtShaped body S
+RoutineShaped r S = RoutineEach r (ExprShaped S) (QueryShaped S)
 
 -- The plan is well formed under rows outside of any widths and for any number of arguments, where
 -- the scalars that read the parameters are: so also for none, where these read columns of a row
@@ -219,20 +224,6 @@ WellFormedInlines = (r : Routine) (S : Widths) (params : Scalars) (ws : List ℕ
     ≡ true
 
 -- ---- calls
-
--- the columns from i on of the row outside
-abbrev pub outer_columns : ℕ → ℕ → Scalars
-outer_columns i zero = none
-outer_columns i (suc k) = more (column 1 i) (outer_columns (suc i) k)
-
--- the plan of a function as a region, which reads its parameters from the k columns from m on of
--- the row outside
-abbrev pub region : Routine → Widths → ℕ → ℕ → PlanTree
-region r S m k = inline_with r S (outer_columns m k)
-
--- what a call gives for cells of arguments
-abbrev pub called_with : Routine → Inputs → List Cell → Ending Value
-called_with r w cs = after (values_of cs) (λ vs. call r vs w)
 
 -- A call, whose arguments stand in the columns from m on: the column that the region adds is the
 -- value of the call, or the area of the first argument that has one, or that of the call.

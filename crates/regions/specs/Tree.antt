@@ -7,12 +7,7 @@ pub use Rattle.rel_algebra.specs.Tree.{Target, HandlerType, Continue, Exit, Undo
 pub use Rattle.rel_algebra.specs.Tree.{With, StatementItem, Number, RowCount, StatementRead}
 pub use Rattle.rel_algebra.specs.Tree.{Variables, NoVariable, MoreVariables, ConditionItem}
 pub use Rattle.rel_algebra.specs.Tree.{ReturnedSqlstate, MessageText, ConditionRead}
-use Rattle.rel_algebra.specs.OnConditions.{ItemWord, state_item, text_item}
-
--- the word that reads an item of a condition
-abbrev pub word_of : ConditionItem → ItemWord
-word_of ReturnedSqlstate = state_item
-word_of MessageText = text_item
+pub use Rattle.regions.specs.Bodies.{word_of}
 
 mutual
   -- A label stands by how many compound statements outwards it is; an action stands inside its

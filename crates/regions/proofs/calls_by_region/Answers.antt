@@ -1,4 +1,4 @@
-use Rattle.regions.proofs.Calls.{calls_by_region}
+use Rattle.regions.proofs.TreeLaws.{calls_by_region}
 use Rattle.regions.proofs.calls_by_region.Goals as goal
 
 pub returns : goal.returns

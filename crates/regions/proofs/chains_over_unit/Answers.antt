@@ -1,4 +1,4 @@
-use Rattle.regions.proofs.Removals.{regions}
+use Rattle.regions.proofs.TreeLaws.{regions}
 use Rattle.regions.proofs.chains_over_unit.Goals as goal
 
 pub returns : goal.returns

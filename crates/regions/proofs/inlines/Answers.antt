@@ -1,4 +1,4 @@
-use Rattle.regions.proofs.Chain.{inlines}
+use Rattle.regions.proofs.TreeLaws.{inlines}
 use Rattle.regions.proofs.inlines.Goals as goal
 
 pub returns : goal.returns

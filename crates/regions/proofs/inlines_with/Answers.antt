@@ -1,4 +1,4 @@
-use Rattle.regions.proofs.Chain.{inlines_with}
+use Rattle.regions.proofs.TreeLaws.{inlines_with}
 use Rattle.regions.proofs.inlines_with.Goals as goal
 
 pub returns : goal.returns

@@ -1,4 +1,4 @@
-use Rattle.regions.proofs.Fits.{well_formed_inlines}
+use Rattle.regions.proofs.TreeLaws.{well_formed_inlines}
 use Rattle.regions.proofs.well_formed_inlines.Goals as goal
 
 pub returns : goal.returns

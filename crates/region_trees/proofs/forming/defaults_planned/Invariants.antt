@@ -1,0 +1,7 @@
+use Rattle.std.proofs.Common.{◌≡◌, drop}
+use Rattle.region_trees.specs.Form.{defaults_planned}
+use Rattle.region_trees.proofs.forming.defaults_planned.Given as goal
+
+abbrev pub invariant-loop-declared : goal.invariant-loop-declared
+invariant-loop-declared l = defaults_planned l.catalog (drop l.declared-index l.variables) ≡
+    defaults_planned l.catalog l.variables

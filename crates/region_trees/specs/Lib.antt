@@ -1,0 +1,4 @@
+pub mod Form
+pub mod Regions
+pub mod Laws
+pub mod Examples
