@@ -19,6 +19,12 @@ pub mod Removals
 pub mod Inward
 pub mod Moved
 pub mod Fits
+pub mod KindsHeld
+pub mod KindsSteps
+pub mod KindsHandled
+pub mod KindsBodies
+pub mod KindsRoutines
+pub mod KindsTrees
 pub mod Best
 pub mod Unplanned
 pub mod Lasts

@@ -23,6 +23,7 @@ use Rattle.rel_algebra.specs.Plain.{Inputs}
 use Rattle.rel_algebra.specs.Plan.{PlanTree, Scalar, Scalars, den, extend, keep, unit_row, constant}
 use Rattle.rel_algebra.specs.Plan.{argument, word, more, case_word, or_word, strict, on_condition}
 use Rattle.rel_algebra.specs.OnConditions.{matches_word}
+use Rattle.regions.specs.Kinds.{RoutineTyped}
 use Rattle.regions.specs.Steps.{case_of, code_is, col, only, tag, two}
 use Rattle.regions.specs.Dispatch.{is_value}
 use Rattle.regions.specs.Inline.{null_of, raised_area, without_return_cell, inline}
@@ -364,3 +365,7 @@ pub record RoutinesWorked : Type 0 where
   pub may_end_good : is_good may_end (IntegerKind ∷ []) 1 ≡ true
   pub texts_0_good : is_good (texts 0) (IntegerKind ∷ []) 1 ≡ true
   pub assigned_last_good : is_good assigned_last (IntegerKind ∷ []) 1 ≡ true
+  -- so their statements are typed
+  pub safe_typed : RoutineTyped safe table_kinds
+  pub into_sum_typed : RoutineTyped into_sum table_kinds
+  pub texts_0_typed : RoutineTyped (texts 0) table_kinds

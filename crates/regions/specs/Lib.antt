@@ -12,6 +12,7 @@ pub mod Steps
 pub mod Dispatch
 pub mod Inline
 pub mod Theorem
+pub mod Kinds
 pub mod Worlds
 pub mod Examples
 pub mod Sizes

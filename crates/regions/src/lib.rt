@@ -3,6 +3,7 @@
 
 ghost use Rattle.regions.specs.Examples.{RoutinesWorked};
 ghost use Rattle.regions.specs.Handlers.{RaisesByBest};
+ghost use Rattle.regions.specs.Kinds.{KindedInlines};
 ghost use Rattle.regions.specs.Sizes.{SizesWorked};
 ghost use Rattle.regions.specs.Worlds.{BodyPlans, FormIsPure};
 ghost use Rattle.regions.specs.Theorem.{
@@ -39,6 +40,12 @@ pub fn chains_over_unit()
 /// by the scalars that read its parameters.
 pub fn well_formed_inlines()
     ensures { WellFormedInlines }
+{}
+
+/// The plan of a function in form whose statements are typed is well kinded, and its one column is
+/// of the kind of the result, where each scalar that reads a parameter has the kind of its type.
+pub fn kinded_inlines()
+    ensures { KindedInlines }
 {}
 
 /// How many nodes the plans of worked functions have.

@@ -52,4 +52,40 @@ returns c = record {
   may_end_good = refl;
   texts_0_good = refl;
   assigned_last_good = refl;
+  safe_typed = (tt, ((tt, refl), tt), (((tt, (refl, tt, refl, tt)), refl), tt));
+  into_sum_typed = (
+    (tt, tt),
+    tt,
+    (
+      (
+        (
+          tt,
+          (((tt, (tt, tt)), refl), tt),
+          refl,
+          (tt, tt),
+          refl,
+          tt,
+          refl,
+          ((tt, (refl, tt, refl, tt)), tt),
+        ),
+        ((refl, refl), tt),
+      ),
+      ((tt, refl), tt),
+    ),
+  );
+  texts_0_typed = (
+    (tt, (tt, tt)),
+    (
+      (
+        tt,
+        tt,
+        (
+          ((refl, refl), tt),
+          (((tt, refl), ((refl, refl), ((refl, refl), tt))), ((tt, refl), tt)),
+        ),
+      ),
+      tt,
+    ),
+    (((tt, (refl, tt, refl, tt)), (refl, refl)), tt),
+  );
 }
