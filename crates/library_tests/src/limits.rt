@@ -1,16 +1,22 @@
 //! Words of no command that a case of a script cannot have, an area that is full, and the same
 //! name.
 
-use psm_words::{Command, read_words};
+use psm_words::{Command, RunOptions, read_words};
 use sql_conditions::{Area, Condition, EngineCondition};
 use sql_values::Name;
 use std::test::Fail;
 
+// `run` with so many turns, and without a dump.
+fn run(budget: u32) -> Option<Command> {
+    let dump = false;
+    Some(Command::Run(RunOptions { budget, dump }))
+}
+
 #[test]
 fn words_without_a_command(rt: HostRuntime) -> Result<(), Fail> {
     let rows: [(&[&str], Option<Command>); 8] = [
-        (&["./a", "run"], Some(Command::Run(1_000_000))),
-        (&["./a", "run", "--budget", "5"], Some(Command::Run(5))),
+        (&["./a", "run"], run(1_000_000)),
+        (&["./a", "run", "--budget", "5"], run(5)),
         (&["psm", "run", "--budget", ""], None),
         (&["", "check"], Some(Command::Check)),
         (&[], None),

@@ -1,9 +1,11 @@
 //! psm runs a script of SQL and SQL/PSM from standard input, or checks each of its statements
-//! alone, and writes its replies to standard output:
+//! alone, or runs a script of its own, and writes its replies to standard output, and with `--dump`
+//! the tables behind them:
 //!
 //! ```text
-//! psm run <script
+//! psm run [--budget N] [--dump] <script
 //! psm check <script
+//! psm demo --seed S --rows N
 //! ```
 //!
 //! The words, the standard streams and an empty database are taken here; what is done with them is

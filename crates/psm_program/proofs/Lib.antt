@@ -1,5 +1,5 @@
 pub mod LowerLaws
 pub mod RunLemmas
 pub mod Runs
-pub mod OneRun
 pub mod ProgramLemmas
+pub mod OneRun

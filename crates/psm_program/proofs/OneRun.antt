@@ -4,9 +4,9 @@ use Rattle.std.proofs.Common.{ap, subst, arith, length, length-append, append-ni
 use Rattle.std.proofs.Common.{◌⊎◌, inl, inr, ◌||◌}
 use Rattle.std.proofs.lemmas.Grind.{flat_map-append}
 use Rattle.std.specs.Prelude.{Option, Some, None}
+use Rattle.psm_program.proofs.ProgramLemmas.{script_is}
 use Rattle.psm_program.proofs.RunLemmas.{whole-more}
-use Rattle.psm_program.specs.Outcome.{CutInReply, FirstFew}
-use Rattle.std.specs.Io.KnownBytes.{Consumes}
+use Rattle.psm_program.specs.Outcome.{CutInReply, CutInEnding, FirstFew, Unflushed}
 use Rattle.io_edges.specs.TakenBytes.{TakenBytes, Takes, TakesFlushed, with_bytes, all_flushed}
 use Rattle.io_edges.specs.TakenBytes.{IsWithin}
 use Rattle.io_edges.proofs.Laws.{Takes-nil}
@@ -14,10 +14,10 @@ use Rattle.sql_lex.specs.Tokens.{Lexing, IsTokens}
 use Rattle.psm_effects.specs.Database.{Plain}
 use Rattle.psm_program.specs.Script.{Runs, IsDetermined, AlwaysGoesOn, whole, has_exception}
 use Rattle.program_status.specs.Replies.{is_exception}
-use Rattle.psm_program.specs.Session.{Does, Script}
+use Rattle.psm_program.specs.Session.{Does, ending, Script}
 use Rattle.psm_words.specs.declared.command.Command.{Command}
-use Rattle.psm_words.specs.declared.command.Command.TheVariants.{Run, Check}
-use Rattle.program_status.specs.Reading.{ReadsWhole}
+use Rattle.psm_words.specs.declared.command.Command.TheVariants.{Run, Check, Demo}
+use Rattle.psm_words.specs.declared.command.TheConstants.{DEFAULT_BUDGET}
 use Rattle.psm_program.specs.Whole.{RunsWhole, IsCutShort, IsFirstFew, SaysExceptions}
 use Rattle.psm_program.specs.Whole.{LeavesTheOnlyRun, WritesFront}
 use Rattle.program_status.specs.declared.status.Status.{Status}
@@ -30,9 +30,9 @@ use Rattle.psm_program.proofs.Runs.{some_run, runs_same, runs_front}
 
 -- what a command does is determined
 Does-determined : (command : Command) (t : Lexing) → IsDetermined (Does command t) (length t.tokens)
-Does-determined (Run budget) t = record {
-  one = λ at before r r' to to' after after' p q. one_statement budget t at before r r' to to'
-      after after' p.1 q.1;
+Does-determined (Run options) t = record {
+  one = λ at before r r' to to' after after' p q. one_statement options.budget t at before r r' to
+      to' after after' p.1 q.1;
   ends = λ before r to after p. absurd (omega (arith, p.0));
 }
 Does-determined Check t = record {
@@ -40,14 +40,22 @@ Does-determined Check t = record {
       p.1 q.1;
   ends = λ before r to after p. absurd (omega (arith, p.0));
 }
+Does-determined (Demo options) t = record {
+  one = λ at before r r' to to' after after' p q. one_statement DEFAULT_BUDGET t at before r r' to
+      to' after after' p.1 q.1;
+  ends = λ before r to after p. absurd (omega (arith, p.0));
+}
 
 -- and there is always something that it does, up to the end
 Does-goes_on : (command : Command) (t : Lexing) → AlwaysGoesOn (Does command t) (length t.tokens)
-Does-goes_on (Run budget) t at before there =
-    let s = some_statement budget t at before there in
+Does-goes_on (Run options) t at before there =
+    let s = some_statement options.budget t at before there in
     (s.0, s.1, s.2, (there, s.3), s.4, s.5)
 Does-goes_on Check t at before there =
     let s = some_checked t at before there in
+    (s.0, s.1, s.2, (there, s.3), s.4, s.5)
+Does-goes_on (Demo options) t at before there =
+    let s = some_statement DEFAULT_BUDGET t at before there in
     (s.0, s.1, s.2, (there, s.3), s.4, s.5)
 
 -- Each script has a run.
@@ -107,6 +115,11 @@ exceptions_length : (rs : List (List ℕ)) → has_exception rs ≡ true → 0 <
 exceptions_length [] e = cc
 exceptions_length (r ∷ rs) e = first_or_later r rs (exceptions_length rs) (is_exception r) refl e
 
+-- whatever stands behind the replies
+all_length : (rs : List (List ℕ)) (more : List ℕ) → has_exception rs ≡ true →
+    0 < length (whole rs ++ more)
+all_length rs more e = omega (arith, length-append (whole rs) more, exceptions_length rs e)
+
 -- what was taken and not flushed is not all flushed
 unflushed : (told told' : Option TakenBytes) (t : TakenBytes) (w more : List ℕ) → IsWithin told →
     told ≡ Some t → Takes told told' w
@@ -119,16 +132,6 @@ unflushed told told' t w more within is takes all some =
     let flushed : t.flushed ≡ length (t.bytes ++ more) = ap (λ (x : TakenBytes). x.flushed) same in
     omega (arith, length-append t.bytes more)
 
-pub script_is : (left left' : Option (List ℕ)) (xs script : List ℕ) → left ≡ Some xs →
-    ReadsWhole left left' script → xs ≡ script
-script_is left None xs script is r =
-    let bad : Consumes (Some xs) None script =
-    subst (λ (o : Option (List ℕ)). Consumes o None script) is r.bytes in absurd bad
-script_is left (Some ys) xs script is r =
-    let used : xs ≡ script ++ ys = subst (λ (o : Option (List ℕ)). Consumes o (Some ys) script) is
-    r.bytes in
-    used ∙ ap (λ z. script ++ z) r.end ∙ append-nil script
-
 module _ (command : Command) (left left' : Option (List ℕ)) (told told' : Option TakenBytes)
     (before after : Plain) (within : IsWithin told) where
   pub exactly : (status : Status)
@@ -140,7 +143,7 @@ module _ (command : Command) (left left' : Option (List ℕ)) (told told' : Opti
       → SaysExceptions command left told told' before status
   exactly Done done cut few rest = λ script replies last t is ran excepts tells all.
       let r = done refl in
-      let same : script ≡ r.script = script_is left left' script r.script is r.read in
+      let same : script ≡ r.script = script_is command left left' script r.script is r.given in
       let ran' : Script command r.script before replies last =
       subst (λ (s : List ℕ). Script command s before replies last) same ran in
       let mine : Script command r.script before r.completes.replies after =
@@ -155,25 +158,29 @@ module _ (command : Command) (left left' : Option (List ℕ)) (told told' : Opti
   exactly WriteFault done cut few rest = λ script replies last t is ran excepts tells all.
       absurd (elim (cut refl).cut [
         | inl x ↦ unflushed told told' t _ _ within tells x.written all
-            (exceptions_length replies excepts)
-        | inr x ↦ unflushed told told' t _ _ within tells x.written all
-            (exceptions_length replies excepts)
+            (all_length replies (ending command last) excepts)
+        | inr y ↦ elim y [
+          | inl x ↦ unflushed told told' t _ _ within tells x.written all
+              (all_length replies (ending command last) excepts)
+          | inr x ↦ unflushed told told' t _ _ within tells x.written all
+              (all_length replies (ending command last) excepts)
+        ]
       ])
   exactly NoMemory done cut few rest = λ script replies last t is ran excepts tells all.
       absurd (elim (few refl) [
-        | inl x ↦ unflushed told told' t _ _ within tells x all (exceptions_length replies excepts)
+        | inl x ↦ unflushed told told' t _ _ within tells x all (all_length replies (ending command last) excepts)
         | inr x ↦ unflushed told told' t _ _ within tells x.first.written all
-            (exceptions_length replies excepts)
+            (all_length replies (ending command last) excepts)
       ])
   exactly Usage done cut few rest = λ script replies last t is ran excepts tells all.
       absurd (unflushed told told' t _ _ within tells (rest (inl refl)) all
-      (exceptions_length replies excepts))
+      (all_length replies (ending command last) excepts))
   exactly ReadFault done cut few rest = λ script replies last t is ran excepts tells all.
       absurd (unflushed told told' t _ _ within tells (rest (inr (inl refl))) all
-      (exceptions_length replies excepts))
+      (all_length replies (ending command last) excepts))
   exactly ScriptTooLong done cut few rest = λ script replies last t is ran excepts tells all.
       absurd (unflushed told told' t _ _ within tells (rest (inr (inr refl))) all
-      (exceptions_length replies excepts))
+      (all_length replies (ending command last) excepts))
 
 -- where nothing was written, not all was
 pub nothing_written : (command : Command) (left : Option (List ℕ)) (told : Option TakenBytes)
@@ -182,21 +189,23 @@ pub nothing_written : (command : Command) (left : Option (List ℕ)) (told : Opt
 nothing_written command left told before status within =
     λ script replies last t is ran excepts tells all.
     absurd (unflushed told told t _ _ within tells (Takes-nil told) all
-    (exceptions_length replies excepts))
+    (all_length replies (ending command last) excepts))
 
 module _ (command : Command) (left left' : Option (List ℕ)) (told told' : Option TakenBytes)
     (before after : Plain) where
   pub only_run : (excepts : Bool) → RunsWhole command left left' told told' before after excepts →
       LeavesTheOnlyRun command left told told' before after
   only_run excepts r script replies last is ran =
-      let same : script ≡ r.script = script_is left left' script r.script is r.read in
+      let same : script ≡ r.script = script_is command left left' script r.script is r.given in
       let ran' : Script command r.script before replies last =
       subst (λ (s : List ℕ). Script command s before replies last) same ran in
       let mine : Script command r.script before r.completes.replies after =
       record { lexing = r.lexing; lexed = r.lexed; ran = r.completes.ran } in
       let one = script_same command r.script before r.completes.replies replies after last mine ran'
       in (
-        subst (λ (rs : List (List ℕ)). TakesFlushed told told' (whole rs)) one.0 r.completes.written,
+        subst (λ (d : Plain). TakesFlushed told told' (whole replies ++ ending command d)) one.1
+            (subst (λ (rs : List (List ℕ)). TakesFlushed told told' (whole rs ++
+            ending command after)) one.0 r.completes.written),
         one.1,
       )
 
@@ -204,39 +213,83 @@ module _ (command : Command) (told told' : Option TakenBytes) (t : Lexing) (scri
     (lexed : IsTokens script t) (before after : Plain) where
   front_of_few : FirstFew (Does command t) told told' before after →
       (replies : List (List ℕ)) (last : Plain) → Script command script before replies last
-      → (front : List ℕ) × (rest : List ℕ) × (whole replies ≡ front ++ rest) ×
-      Takes told told' front
+      → (front : List ℕ) × (rest : List ℕ) × (whole replies ++ ending command last ≡
+      front ++ rest) × Takes told told' front
   front_of_few f replies last ran =
       let more = script_front command script t before f.replies replies f.to after last lexed f.ran
       ran in
-      (whole f.replies, whole more.0, ap whole more.1 ∙ whole-append f.replies more.0, f.written)
+      let behind = ending command last in (
+        whole f.replies,
+        whole more.0 ++ behind,
+        ap (λ rs. whole rs ++ behind) more.1 ∙
+            ap (λ x. x ++ behind) (whole-append f.replies more.0) ∙
+            append_assoc (whole f.replies) (whole more.0) behind,
+        f.written,
+      )
 
   front_of_cut : CutInReply (Does command t) told told' before after →
       (replies : List (List ℕ)) (last : Plain) → Script command script before replies last
-      → (front : List ℕ) × (rest : List ℕ) × (whole replies ≡ front ++ rest) ×
-      Takes told told' front
+      → (front : List ℕ) × (rest : List ℕ) × (whole replies ++ ending command last ≡
+      front ++ rest) × Takes told told' front
   front_of_cut f replies last ran =
       let more = script_front command script t before (f.replies ++ f.reply ∷ []) replies f.to after
       last lexed f.ran ran in
+      let behind = ending command last in
       let all : whole replies ≡ (whole f.replies ++ f.reply) ++ whole more.0 =
       ap whole more.1 ∙ whole-append (f.replies ++ f.reply ∷ []) more.0 ∙
       ap (λ x. x ++ whole more.0) (whole-more f.replies f.reply) in (
         whole f.replies ++ f.front,
-        f.cut.0 ++ whole more.0,
-        all ∙ ap (λ x. (whole f.replies ++ x) ++ whole more.0) f.cut.2 ∙
+        (f.cut.0 ++ whole more.0) ++ behind,
+        ap (λ x. x ++ behind) all ∙
+            ap (λ x. ((whole f.replies ++ x) ++ whole more.0) ++ behind) f.cut.2 ∙
             grind (arith, append_assoc),
         f.written,
       )
 
+  -- what a run to the end wrote is what any run writes, and the same stands behind it
+  all_written : (few : List (List ℕ)) → Runs (Does command t) 0 before few (length t.tokens) after →
+      (replies : List (List ℕ)) (last : Plain) → Script command script before replies last
+      → whole replies ++ ending command last ≡ whole few ++ ending command after
+  all_written few ran replies last other =
+      let mine : Script command script before few after =
+      record { lexing = t; lexed = lexed; ran = ran } in
+      let one = script_same command script before replies few last after other mine in
+      ap (λ rs. whole rs ++ ending command last) one.0 ∙
+      ap (λ d. whole few ++ ending command d) one.1
+
+  front_of_ending : CutInEnding (Does command t) (length t.tokens) (ending command) told told' before
+      after → (replies : List (List ℕ)) (last : Plain) → Script command script before replies last
+      → (front : List ℕ) × (rest : List ℕ) × (whole replies ++ ending command last ≡
+      front ++ rest) × Takes told told' front
+  front_of_ending f replies last ran = (
+    whole f.replies ++ f.front,
+    f.cut.0,
+    all_written f.replies f.ran replies last ran ∙ ap (λ x. whole f.replies ++ x) f.cut.2 ∙
+        sym (append_assoc (whole f.replies) f.front f.cut.0),
+    f.written,
+  )
+
+  front_of_all : Unflushed (Does command t) (length t.tokens) (ending command) told told' before
+      after → (replies : List (List ℕ)) (last : Plain) → Script command script before replies last
+      → (front : List ℕ) × (rest : List ℕ) × (whole replies ++ ending command last ≡
+      front ++ rest) × Takes told told' front
+  front_of_all f replies last ran = (
+    whole f.replies ++ ending command after,
+    [],
+    all_written f.replies f.ran replies last ran ∙
+        sym (append-nil (whole f.replies ++ ending command after)),
+    f.written,
+  )
+
 module _ (command : Command) (left left' : Option (List ℕ)) (told told' : Option TakenBytes)
     (before after : Plain) where
   pub front_of_none : Takes told told' [] → WritesFront command left told told' before
-  front_of_none w script replies last is ran = ([], whole replies, refl, w)
+  front_of_none w script replies last is ran = ([], whole replies ++ ending command last, refl, w)
 
   pub front_of_first : IsFirstFew command left left' told told' before after →
       WritesFront command left told told' before
   front_of_first f script replies last is ran =
-      let same : script ≡ f.script = script_is left left' script f.script is f.read in
+      let same : script ≡ f.script = script_is command left left' script f.script is f.given in
       let ran' : Script command f.script before replies last =
       subst (λ (s : List ℕ). Script command s before replies last) same ran in
       front_of_few command told told' f.lexing f.script f.lexed before after f.first replies last
@@ -245,19 +298,16 @@ module _ (command : Command) (left left' : Option (List ℕ)) (told told' : Opti
   pub front_of_short : IsCutShort command left left' told told' before after →
       WritesFront command left told told' before
   front_of_short f script replies last is ran =
-      let same : script ≡ f.script = script_is left left' script f.script is f.read in
+      let same : script ≡ f.script = script_is command left left' script f.script is f.given in
       let ran' : Script command f.script before replies last =
       subst (λ (s : List ℕ). Script command s before replies last) same ran in
       elim f.cut [
         | inl x ↦ front_of_cut command told told' f.lexing f.script f.lexed before after x replies
             last ran'
-        | inr x ↦
-            front_of_few command told told' f.lexing f.script f.lexed before after
-            (record {
-              replies = x.replies;
-              to = length f.lexing.tokens;
-              ran = x.ran;
-              written =
-                  x.written;
-            }) replies last ran'
+        | inr y ↦ elim y [
+          | inl x ↦ front_of_ending command told told' f.lexing f.script f.lexed before after x
+              replies last ran'
+          | inr x ↦ front_of_all command told told' f.lexing f.script f.lexed before after x replies
+              last ran'
+        ]
       ]

@@ -1,14 +1,16 @@
 -- Laws on what a call of the program says of its edges.
 use Rattle.std.proofs.Common.{◌≡◌, ℕ, ◌≤◌, ◌+◌, List, [], ◌++◌, refl, sym, ◌∙◌, ap, subst, arith}
-use Rattle.std.proofs.Common.{length, length-append, ◌⊎◌, inl, inr}
+use Rattle.std.proofs.Common.{length, length-append, append-nil, ◌⊎◌, inl, inr}
 use Rattle.std.specs.Prelude.{Option, Some, None}
 use Rattle.std.specs.Io.KnownBytes.{Consumes}
 use Rattle.io_edges.specs.TakenBytes.{TakenBytes}
 use Rattle.io_edges.proofs.Laws.{Takes-nil}
 use Rattle.psm_effects.specs.Database.{Plain}
-use Rattle.program_status.specs.Reading.{TakesCount}
+use Rattle.program_status.specs.Reading.{ReadsWhole, TakesCount}
+use Rattle.psm_program.specs.Session.{HasScript, IsGiven}
 use Rattle.psm_program.specs.Whole.{EndsOn}
 use Rattle.psm_words.specs.declared.command.Command.{Command}
+use Rattle.psm_words.specs.declared.command.Command.TheVariants.{Run, Check, Demo}
 use Rattle.program_status.specs.declared.read.TheConstants.{LIMIT}
 use Rattle.program_status.specs.declared.status.Status.{Status}
 use Rattle.program_status.specs.declared.status.Status.TheVariants.{NoMemory, ScriptTooLong}
@@ -36,6 +38,26 @@ none_ran command script told db =
       ends =
           record { replies = []; to = 0; ran = (refl, refl); written = Takes-nil told };
     }
+
+-- ---- the script of a command
+
+-- the source, read to its end, had the script
+read_whole : (left left' : Option (List ℕ)) (xs script : List ℕ) → left ≡ Some xs →
+    ReadsWhole left left' script → xs ≡ script
+read_whole left None xs script is r =
+    let bad : Consumes (Some xs) None script =
+    subst (λ (o : Option (List ℕ)). Consumes o None script) is r.bytes in absurd bad
+read_whole left (Some ys) xs script is r =
+    let used : xs ≡ script ++ ys = subst (λ (o : Option (List ℕ)). Consumes o (Some ys) script) is
+    r.bytes in
+    used ∙ ap (λ z. script ++ z) r.end ∙ append-nil script
+
+-- the script that a command has is the one that it was given
+pub script_is : (command : Command) (left left' : Option (List ℕ)) (xs script : List ℕ) →
+    HasScript command left xs → IsGiven command left left' script → xs ≡ script
+script_is (Run options) left left' xs script is g = read_whole left left' xs script is g
+script_is Check left left' xs script is g = read_whole left left' xs script is g
+script_is (Demo options) left left' xs script is g = is ∙ sym g.0
 
 -- how many bytes were taken, from what was left before and after
 pub taken : (left left' : Option (List ℕ)) (bytes rest bs : List ℕ) → left ≡ Some (bytes ++ rest) →

@@ -1,6 +1,6 @@
 -- How a run goes on by a statement, and how it ends.
 use Rattle.std.proofs.Common.{◌≡◌, ℕ, List, [], ◌∷◌, ◌++◌, Bool, refl, sym, ◌∙◌, ap, subst}
-use Rattle.std.proofs.Common.{append-nil, inr, ◌||◌}
+use Rattle.std.proofs.Common.{append-nil, append_assoc, inl, inr, ◌||◌}
 use Rattle.std.proofs.Math.Bool.{or-false}
 use Rattle.std.proofs.lemmas.Grind.{flat_map-append}
 use Rattle.std.proofs.lemmas.List.Folds.{list_any-append}
@@ -10,7 +10,7 @@ use Rattle.io_edges.proofs.Laws.{Takes-trans}
 use Rattle.psm_program.specs.Script.{Step, Runs, whole, has_exception}
 use Rattle.program_status.specs.Replies.{is_exception}
 use Rattle.program_status.specs.Endings.{Finishes}
-use Rattle.psm_program.specs.Outcome.{RanTo, Stepped, StepStopped, Stopped, Ends}
+use Rattle.psm_program.specs.Outcome.{RanTo, Stepped, StepStopped, Stopped, Closes, Ends}
 use Rattle.psm_program.specs.declared.run.Interruption.{Interruption}
 use Rattle.psm_program.specs.declared.run.Interruption.TheVariants as stop
 use Rattle.program_status.specs.declared.status.Status.{Status}
@@ -74,43 +74,74 @@ module _ {D : Type 0} (step : Step D) (told mid told' : Option TakenBytes)
     written = subst (λ (t : Option TakenBytes). Takes told t (whole r.replies)) (sym s.0) r.written;
   }
 
-flushed_after : (a b c : Option TakenBytes) (xs : List ℕ) → Takes a b xs → TakesFlushed b c [] →
-    TakesFlushed a c xs
-flushed_after None b c xs p q = tt
-flushed_after (Some t) b c xs p q =
-    let r : TakesFlushed (Some (with_bytes t xs)) c [] =
-    subst (λ (o : Option TakenBytes). TakesFlushed o c []) p q in
+flushed_after : (a b c : Option TakenBytes) (xs ys : List ℕ) → Takes a b xs → TakesFlushed b c ys →
+    TakesFlushed a c (xs ++ ys)
+flushed_after None b c xs ys p q = tt
+flushed_after (Some t) b c xs ys p q =
+    let r : TakesFlushed (Some (with_bytes t xs)) c ys =
+    subst (λ (o : Option TakenBytes). TakesFlushed o c ys) p q in
     r ∙ ap (λ bs. Some (all_flushed (record { bytes = bs; flushed = t.flushed })))
-    (append-nil (t.bytes ++ xs))
+    (append_assoc t.bytes xs ys)
 
-unflushed_after : (a b c : Option TakenBytes) (xs : List ℕ) → Takes a b xs → Takes b c [] →
-    Takes a c xs
-unflushed_after a b c xs p q = subst (λ (bs : List ℕ). Takes a c bs) (append-nil xs)
-    (Takes-trans a b c xs [] p q)
+-- what stands behind the replies is written, and then flushed
+pub closes : (excepts : Bool) (text : List ℕ) (told mid told' : Option TakenBytes)
+    (status : Status) → Takes told mid text → Finishes excepts mid told' status →
+    Closes excepts text told told' status
+closes excepts text told mid told' Done w f = (
+  f.0,
+  subst (λ (bs : List ℕ). TakesFlushed told told' bs) (append-nil text)
+      (flushed_after told mid told' text [] w f.1),
+)
+closes excepts text told mid told' DoneWithExceptions w f = (
+  f.0,
+  subst (λ (bs : List ℕ). TakesFlushed told told' bs) (append-nil text)
+      (flushed_after told mid told' text [] w f.1),
+)
+closes excepts text told mid told' WriteFault w f =
+    inr (subst (λ (bs : List ℕ). Takes told told' bs) (append-nil text)
+    (Takes-trans told mid told' text [] w f))
+closes excepts text told mid told' NoMemory w f = absurd f
+closes excepts text told mid told' Usage w f = absurd f
+closes excepts text told mid told' ReadFault w f = absurd f
+closes excepts text told mid told' ScriptTooLong w f = absurd f
 
-module _ {D : Type 0} (step : Step D) (end : ℕ) (told mid told' : Option TakenBytes)
-    (before after : D) where
+module _ {D : Type 0} (step : Step D) (end : ℕ) (ending : D → List ℕ)
+    (told mid told' : Option TakenBytes) (before after : D) where
   pub ends : (excepts : Bool) (status : Status) → RanTo step end told mid before after excepts →
-      Finishes excepts mid told' status
-      → Ends step end told told' before after status
+      Closes excepts (ending after) mid told' status
+      → Ends step end ending told told' before after status
   ends excepts Done r f = record {
     replies = r.replies;
     ran = r.ran;
     kind = r.kind ∙ f.0;
-    written = flushed_after told mid told' (whole r.replies) r.written f.1;
+    written = flushed_after told mid told' (whole r.replies) (ending after) r.written f.1;
   }
   ends excepts DoneWithExceptions r f = record {
     replies = r.replies;
     ran = r.ran;
     kind = r.kind ∙ f.0;
-    written = flushed_after told mid told' (whole r.replies) r.written f.1;
+    written = flushed_after told mid told' (whole r.replies) (ending after) r.written f.1;
   }
-  ends excepts WriteFault r f = inr (record {
+  ends excepts WriteFault r f = elim f [
+    | inl x ↦ inr (inl (record {
+      replies = r.replies;
+      ran = r.ran;
+      front = x.0;
+      cut = x.1;
+      written = Takes-trans told mid told' (whole r.replies) x.0 r.written x.2;
+    }))
+    | inr x ↦ inr (inr (record {
+      replies = r.replies;
+      ran = r.ran;
+      written = Takes-trans told mid told' (whole r.replies) (ending after) r.written x;
+    }))
+  ]
+  ends excepts NoMemory r f = record {
     replies = r.replies;
+    to = end;
     ran = r.ran;
-    written = unflushed_after told mid told' (whole r.replies) r.written f;
-  })
-  ends excepts NoMemory r f = absurd f
+    written = subst (λ (t : Option TakenBytes). Takes told t (whole r.replies)) (sym f) r.written;
+  }
   ends excepts Usage r f = absurd f
   ends excepts ReadFault r f = absurd f
   ends excepts ScriptTooLong r f = absurd f

@@ -1,7 +1,11 @@
 -- Worked rows of the definitions on replies and runs.
 use Rattle.std.specs.Prelude.{◌≡◌, ◌+◌, ◌*◌, nat_lt, if◌then◌else◌, ℕ, true, false, [], ◌∷◌, codes}
 use Rattle.std.specs.Prelude.{refl}
+use Rattle.psm_words.specs.declared.command.Command.TheVariants.{Run, Check, Demo}
+use Rattle.psm_effects.specs.Database.{Plain}
+use Rattle.psm_session.specs.Dump.{dump_text}
 use Rattle.psm_program.specs.Script.{Step, Runs, has_exception, whole}
+use Rattle.psm_program.specs.Session.{ending}
 
 -- replies of statements that ended well
 pub no_exception : has_exception (codes "00000\n" ∷ codes "2,10\n00000 rows 1\n" ∷ []) ≡ false
@@ -37,3 +41,19 @@ three_steps = (
 -- a run of no statement leaves all as it was
 pub no_step : Runs doubles 3 40 [] 3 40
 no_step = (refl, refl)
+
+-- Without a dump nothing stands behind the replies,
+pub no_dump : (after : Plain) → ending (Run (record { budget = 5; dump = false })) after ≡ []
+no_dump after = refl
+
+-- with one the tables do,
+pub a_dump : (after : Plain) → ending (Run (record { budget = 5; dump = true })) after ≡
+    dump_text after
+a_dump after = refl
+
+-- and neither a check nor the demo has one.
+pub no_dump_of_demo : (after : Plain) → ending (Demo (record { seed = 0; rows = 2 })) after ≡ []
+no_dump_of_demo after = refl
+
+pub no_dump_of_check : (after : Plain) → ending Check after ≡ []
+no_dump_of_check after = refl

@@ -1,15 +1,19 @@
 //! Running a script: tokens, then statement after statement, each reply written whole before the
-//! next statement, and one flush at the end.
-ghost use Rattle.std.specs.Prelude.{◌≡◌, ◌<◌, ◌≤◌, length, IfOk, IfErr, OnErr, IsErrOf};
+//! next statement, then the dump where it is asked for, made whole before a byte of it is written,
+//! and one flush at the end.
+ghost use Rattle.std.specs.Prelude.{◌≡◌, ◌<◌, ◌≤◌, length, IfOk, IfErr, OnOk, OnErr, IsErrOf};
 ghost use Rattle.io_edges.specs.Causes.{Rose};
-ghost use Rattle.psm_program.specs.Session.{Does};
+ghost use Rattle.io_edges.specs.TakenBytes.{Takes};
+ghost use Rattle.psm_session.specs.Dump.{dump_text};
+ghost use Rattle.psm_program.specs.Session.{Does, ending};
 ghost use Rattle.psm_program.specs.Outcome.{RanTo, Stepped, StepStopped, Stopped, Ends};
+ghost use Rattle.psm_program.specs.Outcome.{EndingStopped, Closes};
 ghost use Rattle.psm_program.specs.Whole.{EndsOn};
 
 use io_edges::Sink;
-use program_status::{Status, finish, write_reply};
+use program_status::{Status, finish, write_reply, write_whole};
 use psm_session::{Database, Reply, check_next, run_next};
-use psm_words::Command;
+use psm_words::{Command, DEFAULT_BUDGET};
 use sql_lex::{Tokens, tokens};
 use sql_values::NoMemory;
 use std::alloc::Global;
@@ -19,7 +23,7 @@ use std::alloc::Global;
 pub enum Interruption {
     /// The sink failed.
     Write,
-    /// There was no memory for a statement, which was taken back.
+    /// There was no memory for a statement, which was taken back, or for the dump.
     Memory,
 }
 
@@ -38,8 +42,9 @@ fn do_next(
     ensures err { OnErr result (db.new ≡ db.old) }
 {
     match command {
-        Command::Run(budget) => run_next(alloc, list, at, u64::from(budget), db),
+        Command::Run(options) => run_next(alloc, list, at, u64::from(options.budget), db),
         Command::Check => check_next(alloc, list, at, db),
+        Command::Demo(_) => run_next(alloc, list, at, u64::from(DEFAULT_BUDGET), db),
     }
 }
 
@@ -100,7 +105,51 @@ fn run_statements<K: Sink>(
     Ok(excepts)
 }
 
-// Runs the statements of the tokens, and flushes.
+// Writes the dump of a database, which is made whole before.
+fn write_dump<K: Sink>(out: &mut K, db: &Database) -> Result<(), Interruption>
+    ensures ok { OnOk result (Takes (K.told out.old) (K.told out.new) (dump_text db.now)) }
+    ensures err { IfErr result (λ stop. EndingStopped stop (dump_text db.now) (K.told out.old)
+        (K.told out.new)) }
+    ensures fault { IsErrOf result Interruption.Write → Rose (K.faults out.old) (K.faults out.new) }
+    ensures later { K.faults out.old ≤ K.faults out.new }
+{
+    match db.dump() {
+        Ok(dump) => match write_whole(out, dump.as_bytes()) {
+            Ok(()) => Ok(()),
+            Err(_) => Err(Interruption::Write),
+        },
+        Err(_) => Err(Interruption::Memory),
+    }
+}
+
+// Writes what a command has behind the replies.
+fn write_ending<K: Sink>(command: Command, out: &mut K, db: &Database) -> Result<(), Interruption>
+    ensures ok { OnOk result (Takes (K.told out.old) (K.told out.new) (ending command db.now)) }
+    ensures err { IfErr result (λ stop. EndingStopped stop (ending command db.now) (K.told out.old)
+        (K.told out.new)) }
+    ensures fault { IsErrOf result Interruption.Write → Rose (K.faults out.old) (K.faults out.new) }
+    ensures later { K.faults out.old ≤ K.faults out.new }
+{
+    match command {
+        Command::Run(options) if options.dump => write_dump(out, db),
+        Command::Run(_) | Command::Check | Command::Demo(_) => Ok(()),
+    }
+}
+
+// Writes what a command has behind the replies, which are all written, and flushes.
+fn end_run<K: Sink>(command: Command, excepts: bool, out: &mut K, db: &Database) -> Status
+    ensures closes { Closes excepts (ending command db.now) (K.told out.old) (K.told out.new) result }
+    ensures fault { result ≡ Status.WriteFault → Rose (K.faults out.old) (K.faults out.new) }
+    ensures later { K.faults out.old ≤ K.faults out.new }
+{
+    match write_ending(command, out, db) {
+        Ok(()) => finish(excepts, out),
+        Err(Interruption::Write) => Status::WriteFault,
+        Err(Interruption::Memory) => Status::NoMemory,
+    }
+}
+
+// Runs the statements of the tokens, writes what the command has behind their replies, and flushes.
 fn run_tokens<K: Sink>(
     alloc: Global,
     command: Command,
@@ -108,19 +157,19 @@ fn run_tokens<K: Sink>(
     out: &mut K,
     db: &mut Database,
 ) -> Status
-    ensures ends { Ends (Does command list.now) (length list.now.tokens) (K.told out.old)
-        (K.told out.new) db.old db.new result }
+    ensures ends { Ends (Does command list.now) (length list.now.tokens) (ending command)
+        (K.told out.old) (K.told out.new) db.old db.new result }
     ensures fault { result ≡ Status.WriteFault → Rose (K.faults out.old) (K.faults out.new) }
     ensures later { K.faults out.old ≤ K.faults out.new }
 {
     match run_statements(alloc, command, list, out, db) {
-        Ok(excepts) => finish(excepts, out),
+        Ok(excepts) => end_run(command, excepts, out, db),
         Err(Interruption::Write) => Status::WriteFault,
         Err(Interruption::Memory) => Status::NoMemory,
     }
 }
 
-/// Runs a script, and writes all that it replies.
+/// Runs a script, and writes all that the command replies.
 pub fn run_script<K: Sink>(
     alloc: Global,
     command: Command,

@@ -6,3 +6,5 @@ pub mod Preparing
 pub mod Laws
 pub mod Unread
 pub mod Calls
+pub mod Naming
+pub mod Dumped

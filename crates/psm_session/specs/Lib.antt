@@ -4,3 +4,6 @@ pub mod Effects
 pub mod Executing
 pub mod Statement
 pub mod Typed
+pub mod Names
+pub mod Dump
+pub mod Examples

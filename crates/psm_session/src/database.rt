@@ -14,8 +14,10 @@ ghost use Rattle.bind_statements.specs.Statements.{judged_statement, anchor_of};
 ghost use Rattle.psm_effects.specs.Answering.{ends_with, HasValues};
 ghost use Rattle.psm_effects.specs.Preparing.{IsPlanOf, IsPrepared, over, plan_in};
 ghost use Rattle.psm_session.specs.Bodies.{IsTypedQuery};
+ghost use Rattle.psm_session.specs.Dump.{dump_text};
 ghost use Rattle.psm_session.specs.Executing.{Executes, Checks, reply_to, refusal};
 
+use crate::dump::add_tables;
 use crate::effect::{check_bound, is_run, run_bound};
 use bind_faults::{Fault, FaultKind};
 use bind_statements::{NameFault, anchor_of, bind_statement};
@@ -23,9 +25,9 @@ use bound_trees::BoundQuery;
 use catalog_store::Catalog;
 use plan_exec::Answer;
 use psm_effects::{Prepared, prepare_query, run_plan};
-use reply_text::{FaultText, Reply, fault_reply};
+use reply_text::{Dump, FaultText, Reply, fault_reply};
 use row_types::Steps;
-use sql_values::NoMemory;
+use sql_values::{Name, NoMemory};
 use statement_trees::Stmt;
 use std::alloc::Global;
 use std::marker::Model;
@@ -37,12 +39,14 @@ use table_store::Tables;
 /// A catalog, and the tables that it names, each with the columns and the key that it says, in its
 /// order; the body of each function with a plan is well typed over the entries made before it; and
 /// the head of each routine lists what its body calls, which was made before it, but for the routine
-/// itself. Contracts see both as plain data.
+/// itself. Contracts see both as plain data. The names of the tables stand beside them, in their
+/// order.
 #[derive(Drop)]
 pub struct Database {
     alloc: Global,
     catalog: Catalog,
     tables: Tables,
+    names: Vec<Name>,
 }
 
 impl Model for Database {
@@ -53,6 +57,8 @@ impl Model for Database {
 
     ghost coded = { coded_database };
 
+    ghost use Rattle.std.specs.Prelude.{◌≡◌};
+    ghost use Rattle.row_types.specs.Tables.{names_of};
     ghost use Rattle.psm_effects.specs.Conclusions.{database};
     ghost use Rattle.psm_effects.specs.Shapes.{IsWhole};
     ghost use Rattle.listed_calls.specs.Kept.{CallsListed};
@@ -61,7 +67,7 @@ impl Model for Database {
     ghost view = { λ d. database d.catalog d.tables };
 
     ghost invariant = { λ d. IsWhole (database d.catalog d.tables) × (HasTypedBodies d.catalog ×
-        CallsListed d.catalog) };
+        (CallsListed d.catalog × (d.names.items ≡ names_of d.tables.tables))) };
 }
 
 // The reply to a fault.
@@ -92,6 +98,7 @@ impl Database {
             alloc,
             catalog: Catalog::new(alloc),
             tables: Tables::new(alloc),
+            names: Vec::new(alloc),
         }
     }
 
@@ -110,6 +117,7 @@ impl Database {
             alloc: _,
             catalog,
             tables,
+            names: _,
         } = self;
         (catalog, tables)
     }
@@ -145,6 +153,15 @@ impl Database {
         run_plan(self.alloc, prepared, &self.tables, steps)
     }
 
+    /// All tables in the order of their making, each with its rows in the order of their keys.
+    pub fn dump(&self) -> Result<Reply, NoMemory>
+        ensures { IfOk result (λ r. r ≡ dump_text self.now) }
+    {
+        let mut dump = Dump::new(self.alloc);
+        add_tables(&mut dump, &self.names, &self.tables)?;
+        dump.into_reply()
+    }
+
     /// Does a statement with so many turns, and answers its reply. A statement with
     /// faults in this catalog changes nothing, and its reply is the least of them; one of a form
     /// that is not run changes nothing, and its reply says so at its anchor. Without memory nothing
@@ -165,6 +182,7 @@ impl Database {
                         budget,
                         &mut self.catalog,
                         &mut self.tables,
+                        &mut self.names,
                     )
                 } else {
                     drop(found);
@@ -186,7 +204,13 @@ impl Database {
     {
         let _entries = self.catalog.len();
         match bind_statement(self.alloc, stmt, &self.catalog) {
-            Ok(found) => check_bound(self.alloc, found, &mut self.catalog, &mut self.tables),
+            Ok(found) => check_bound(
+                self.alloc,
+                found,
+                &mut self.catalog,
+                &mut self.tables,
+                &mut self.names,
+            ),
             Err(NameFault::Fault(fault)) => name_fault(self.alloc, fault),
             Err(NameFault::NoMemory) => Err(NoMemory),
         }

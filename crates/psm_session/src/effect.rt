@@ -1,19 +1,19 @@
 //! What a bound statement does.
 
 ghost use Rattle.std.specs.Prelude.{◌≡◌, true, IfOk, OnErr};
+ghost use Rattle.row_types.specs.Tables.{names_of};
 ghost use Rattle.bind_statements.specs.Binds.{BoundFits, StatementFits};
 ghost use Rattle.viewing_laws.specs.Standing.{CallsStandBefore};
 ghost use Rattle.psm_effects.specs.Conclusions.{database, IsEffect};
 ghost use Rattle.psm_effects.specs.Shapes.{IsWhole};
 ghost use Rattle.psm_session.specs.Effects.{is_run as is_run_by, effect, checked};
 
+use crate::names::{make, take_out};
 use bind_direct::{Bound, BoundStatement};
 use catalog_store::Catalog;
-use psm_effects::{
-    create, drop_object, run_delete, run_insert, run_query, run_routine, run_update,
-};
+use psm_effects::{run_delete, run_insert, run_query, run_routine, run_update};
 use reply_text::{Reply, done_reply};
-use sql_values::NoMemory;
+use sql_values::{Name, NoMemory};
 use std::alloc::Global;
 use std::mem::drop;
 use table_store::Tables;
@@ -29,7 +29,8 @@ pub(crate) fn is_run(stmt: &Bound) -> bool
 }
 
 /// Does a bound statement with so many turns, by plans where it is said that they answer it, and
-/// answers its reply. Without memory nothing changes. The tables stay those of the catalog.
+/// answers its reply. Without memory nothing changes. The tables stay those of the catalog, and the
+/// names those of the tables.
 pub(crate) fn run_bound(
     alloc: Global,
     stmt: Bound,
@@ -37,18 +38,21 @@ pub(crate) fn run_bound(
     budget: u64,
     catalog: &mut Catalog,
     tables: &mut Tables,
+    names: &mut Vec<Name>,
 ) -> Result<Reply, NoMemory>
     requires fits { BoundFits catalog.old by_plan stmt }
     requires calls { CallsStandBefore catalog.old }
     requires whole { IsWhole (database catalog.old tables.old) }
+    requires names { names.old.items ≡ names_of tables.old.tables }
     ensures ok { IfOk result (λ r. IsEffect (effect budget stmt (database catalog.old tables.old)) r
         (database catalog.new tables.new)) }
     ensures err { OnErr result (database catalog.new tables.new ≡ database catalog.old tables.old) }
     ensures whole { IsWhole (database catalog.new tables.new) }
+    ensures names { names.new.items ≡ names_of tables.new.tables }
 {
     match stmt {
-        Bound::Create(name, object) => create(alloc, name, object, catalog, tables),
-        Bound::Drop(name) => drop_object(alloc, &name, catalog, tables),
+        Bound::Create(name, object) => make(alloc, name, object, catalog, tables, names),
+        Bound::Drop(name) => take_out(alloc, &name, catalog, tables, names),
         Bound::Insert(insert, listed) => {
             let reply = run_insert(alloc, &insert, &listed, by_plan, budget, catalog, tables);
             drop(insert);
@@ -83,24 +87,28 @@ pub(crate) fn run_bound(
 }
 
 /// Checks a bound statement alone: a definition is carried out, and all else leaves the database.
-/// Without memory nothing changes. The tables stay those of the catalog.
+/// Without memory nothing changes. The tables stay those of the catalog, and the names those of the
+/// tables.
 pub(crate) fn check_bound(
     alloc: Global,
     stmt: BoundStatement,
     catalog: &mut Catalog,
     tables: &mut Tables,
+    names: &mut Vec<Name>,
 ) -> Result<Reply, NoMemory>
     requires fits { StatementFits catalog.old stmt }
     requires whole { IsWhole (database catalog.old tables.old) }
+    requires names { names.old.items ≡ names_of tables.old.tables }
     ensures ok { IfOk result (λ r. IsEffect (checked stmt.bound (database catalog.old tables.old)) r
         (database catalog.new tables.new)) }
     ensures err { OnErr result (database catalog.new tables.new ≡ database catalog.old tables.old) }
     ensures whole { IsWhole (database catalog.new tables.new) }
+    ensures names { names.new.items ≡ names_of tables.new.tables }
 {
     let BoundStatement { bound, by_plan: _ } = stmt;
     match bound {
-        Bound::Create(name, object) => create(alloc, name, object, catalog, tables),
-        Bound::Drop(name) => drop_object(alloc, &name, catalog, tables),
+        Bound::Create(name, object) => make(alloc, name, object, catalog, tables, names),
+        Bound::Drop(name) => take_out(alloc, &name, catalog, tables, names),
         Bound::Insert(insert, listed) => {
             drop(insert);
             drop(listed);

@@ -2,7 +2,9 @@
 #![tactic(auto)]
 
 mod database;
+mod dump;
 mod effect;
+mod names;
 mod next;
 mod typing;
 

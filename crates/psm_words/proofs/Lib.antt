@@ -1,3 +1,5 @@
 pub mod Reading
+pub mod Rows
 pub mod Walking
+pub mod Ends
 pub mod Laws

@@ -1,370 +1,232 @@
--- What clap's walk over the words after `run` finds: words that are taken give the budget a value
--- that its parser passes.
+-- What clap's walk over the words after a subcommand finds: words without fault leave rows whose
+-- first value passes.
 use Rattle.std.proofs.Common.{◌≡◌, ◌∙◌, ℕ, Bool, cond, true, false, zero, suc, refl, ap}
-use Rattle.std.proofs.Common.{List, [], ◌∷◌, ◌++◌, drop, length, Option, Some, None, is_some}
-use Rattle.std.specs.Prelude.{◌&&◌, ◌||◌, codes, fold, if◌then◌else◌, nat_le, option_and_then}
-use Rattle.std.specs.Prelude.{◌^◌, encode_utf8, find, nat_lt, slice_get}
-use Rattle.std.specs.List.{list_all}
+use Rattle.std.proofs.Common.{List, [], ◌∷◌, drop, length, Option, Some, None, is_some}
+use Rattle.std.specs.Prelude.{◌&&◌, IfSome, encode_utf8, fold, if◌then◌else◌, not, slice_get}
 use Rattle.std.specs.Option.{option_map_or}
 use Rattle.std.specs.Str.{bytes_eq, chars}
-use Rattle.std.specs.Str.Parse.{digits_value, without_leading_plus}
-use Rattle.clap.proofs.WalkLemmas.{both}
-use Rattle.clap.specs.Faults.{flag_word_fault, level_fault, long_fault, option_fault}
-use Rattle.clap.specs.Faults.{other_fault, react_fault, settle_fault, step_fault, turn_fault}
-use Rattle.clap.specs.Faults.{check_fault, defaults_fault, use_fault, walk_fault, word_fault}
+use Rattle.clap.specs.Faults.{bundle_fault, bundle_step_fault, flag_word_fault, flags_fault}
+use Rattle.clap.specs.Faults.{long_fault, option_fault, other_fault, positional_fault, react_fault}
+use Rattle.clap.specs.Faults.{settle_fault, short_fault, step_fault, stray_fault, turn_fault}
+use Rattle.clap.specs.Faults.{use_fault, walk_fault, word_fault}
 use Rattle.clap.specs.Kinds.{Kinds, or_else}
 use Rattle.clap.specs.Lexer.{long_of, short_of}
-use Rattle.clap.specs.Simple.{Shape, built_leaf, filled, inherited, marked_built}
-use Rattle.clap.specs.Simple.{with_leaf_noted}
-use Rattle.clap.specs.ValueTests.{accepts, is_numeral}
+use Rattle.clap.specs.Simple.{Shape}
 use Rattle.clap.specs.Walk.{Held, Outcome, Row, Rule, Step, Text, Waiting, Walk, after_flag}
-use Rattle.clap.specs.Walk.{after_step, arg_by_id, arg_by_long, at_row, bundle, bundle_met}
-use Rattle.clap.specs.Walk.{bundle_step, default_rows, done, finished, reading_by, with_default}
-use Rattle.clap.specs.Walk.{has_long, has_row, idle, long_met, long_or_other, more_values}
-use Rattle.clap.specs.Walk.{next, nothing_held, option, option_met, option_word, plain, plain_word}
-use Rattle.clap.specs.Walk.{positional, reacted, refused, rows_after, settled, settled_rows}
-use Rattle.clap.specs.Walk.{short_or_plain, subcommand, subcommand_or_other}
-use Rattle.clap.specs.Walk.{trailing, used, used_by_id, value, waits, walk, walk_from, walked}
-use Rattle.clap.specs.Walk.{walked_from, with_values, without, word_met}
-use Rattle.clap.specs.declared.builder.value_parser.Reading.{Reading}
-use Rattle.clap.specs.declared.builder.value_parser.ValueParser.TheVariants.{Unsigned}
-use Rattle.clap.specs.declared.error.kind.ErrorKind.{ErrorKind}
-use Rattle.clap.specs.declared.parser.matches.ValueSource.{ValueSource}
-use Rattle.clap.specs.declared.parser.matches.ValueSource.TheVariants.{CommandLine}
-use Rattle.psm_words.specs.Words.{budget, budget_of, check, most_turns, number_of, psm, run}
-
--- ---- the first of several steps that may fail
-
-pub first : (a b : Kinds) → or_else a b ≡ [] → a ≡ []
-first [] b none = refl
-first (k ∷ ks) b none = cc
-
-pub second : (a b : Kinds) → or_else a b ≡ [] → b ≡ []
-second [] b none = none
-second (k ∷ ks) b none = cc
-
--- ---- what building leaves
-
--- the option, alone in a list,
-abbrev the_option : Rule
-the_option = filled budget
-
-abbrev pub options : List Rule
-options = the_option ∷ []
-
--- and the subcommands
-abbrev pub run_built : Shape
-run_built = built_leaf (inherited (with_leaf_noted (marked_built psm.top)) run.top)
-
-abbrev pub check_built : Shape
-check_built = built_leaf (inherited (with_leaf_noted (marked_built psm.top)) check.top)
-
--- ---- rows whose first value passes
-
--- there is a first value, and the parser passes it
-abbrev passes_first : List Text → Bool
-passes_first [] = false
-passes_first (v ∷ vs) = accepts false (Unsigned 0 most_turns) v
-
--- so it is with each row
-abbrev all_pass : List Row → Bool
-all_pass rows = list_all (λ r. passes_first r.values) rows
-
-and_true : (a b : Bool) → a ≡ true → b ≡ true → (a && b) ≡ true
-and_true true b p q = q
-and_true false b p q = cc
-
-longer : (xs ys : List Text) → passes_first xs ≡ true → passes_first (xs ++ ys) ≡ true
-longer [] ys p = cc
-longer (x ∷ xs) ys p = p
-
-joined : (a b : List Row) → all_pass a ≡ true → all_pass b ≡ true → all_pass (a ++ b) ≡ true
-joined [] b p q = q
-joined (r ∷ a) b p q =
-    let parts = both _ _ p in and_true _ _ parts.0 (joined a b parts.1 q)
-
--- a change of the rows of an id that keeps it of a row keeps it of all
-changed : (id : Text) (change : Row → List Row) (missing : List Row) (rows : List Row) →
-    ((r : Row) → passes_first r.values ≡ true → all_pass (change r) ≡ true)
-    → all_pass missing ≡ true → all_pass rows ≡ true
-    → all_pass (at_row id change missing rows) ≡ true
-changed id change missing [] f m p = m
-changed id change missing (r ∷ rs) f m p =
-    let parts = both _ _ p in
-    go (bytes_eq r.id id) (f r parts.0) parts.0 parts.1
-    (changed id change missing rs f m parts.1)
-  where
-    go : (b : Bool) → all_pass (change r) ≡ true → passes_first r.values ≡ true →
-        all_pass rs ≡ true → all_pass (at_row id change missing rs) ≡ true → all_pass
-        (cond b (change r ++ rs) (r ∷ at_row id change missing rs)) ≡ true
-    go true new old rest later = joined (change r) rs new rest
-    go false new old rest later = and_true _ _ old later
-
--- values that are given keep it
-given : (id : Text) (how : Reading) (s : ValueSource) (values : List Text) (rows : List Row) →
-    passes_first values ≡ true → all_pass rows ≡ true
-    → all_pass (with_values id how s values rows) ≡ true
-given id how s values rows v p = changed id (more_values s values) _ rows
-    (λ r old. and_true _ _ (longer r.values values old) refl) (and_true _ _ v refl) p
-
--- ---- one use of the option
-
-accepted : (b : Bool) (k : ErrorKind) → (if b then [] else k ∷ []) ≡ [] → b ≡ true
-accepted true k none = refl
-accepted false k none = cc
-
--- a use without fault keeps it,
-used_passes : (again : Bool) (values : List Text) (rows : List Row) →
-    use_fault again the_option values rows ≡ [] → all_pass rows ≡ true
-    → all_pass (used the_option values rows) ≡ true
-used_passes again [] rows none p = cc
-used_passes again (v ∷ vs) rows none p =
-    let values = second _ _ (second _ _ none) in
-    given the_option.id (reading_by the_option) CommandLine (v ∷ vs) (without the_option.id rows)
-    (accepted _ _ (first _ _ values))
-    (changed the_option.id (λ _. []) [] rows (λ r old. refl) refl p)
-
--- and so does the end of a use that waited for its value
-settled_passes : (again : Bool) (o : Option (Text × List Text)) (rows : List Row) →
-    option_map_or (λ p. option_map_or (λ a. use_fault again a p.1 rows)
-    (arg_by_id options p.0) []) o [] ≡ []
-    → all_pass rows ≡ true → all_pass (settled_rows options o rows) ≡ true
-settled_passes again None rows none p = p
-settled_passes again (Some w) rows none p = go (bytes_eq the_option.id w.0) none
-  where
-    go : (b : Bool) → option_map_or (λ a. use_fault again a w.1 rows)
-        (cond b (Some the_option) None) [] ≡ []
-        → all_pass (used_by_id (cond b (Some the_option) None) w.1 rows) ≡ true
-    go true none = used_passes again w.1 rows none p
-    go false none = p
-
-reacted_passes : (again : Bool) (values : List Text) (h : Held) →
-    react_fault options again the_option values h ≡ [] → all_pass h.rows ≡ true
-    → all_pass (reacted options the_option values h).rows ≡ true
-reacted_passes again values h none p =
-    used_passes again values (settled options h).rows (second _ _ none)
-    (settled_passes again h.pending h.rows (first _ _ none) p)
-
-option_passes : (again : Bool) (o : Option Text) (h : Held) →
-    option_fault options again the_option o h ≡ [] → all_pass h.rows ≡ true
-    → all_pass (option_met options the_option o h).0.rows ≡ true
-option_passes again None h none p = settled_passes again h.pending h.rows none p
-option_passes again (Some v) h none p = reacted_passes again (v ∷ []) h none p
-
-long_passes : (again : Bool) (b : Bool) (o : Option Text) (h : Held) →
-    long_fault options again (cond b (Some the_option) None) o h ≡ [] → all_pass h.rows ≡ true
-    → all_pass (long_met options (cond b (Some the_option) None) o h).0.rows ≡ true
-long_passes again true o h none p = option_passes again o h none p
-long_passes again false o h none p = p
-
--- ---- one word
-
--- a bundle of short flags gives the option no row,
-bundle_rows : (k : ℕ) (flags : Text) (skip : ℕ) (so_far : Outcome) (h : Held) →
-    (bundle_met options k flags skip so_far h).0.rows ≡ h.rows
-unfolding bundle_met
-bundle_rows zero flags skip so_far h = refl
-bundle_rows (suc k) flags skip so_far h = go (slice_get (chars flags) 0) skip
-    (λ rest skip. bundle_rows k rest skip so_far h)
-  where
-    go : (o : Option ℕ) (skip : ℕ) → ((rest : Text) (skip : ℕ) →
-        (bundle_met options k rest skip so_far h).0.rows ≡ h.rows)
-        → (bundle_step options o flags skip so_far h (bundle_met options k)).0.rows ≡ h.rows
-    go None skip later = refl
-    go (Some x) zero later = refl
-    go (Some x) (suc skip) later = later (drop (length (encode_utf8 x)) flags) skip
-
--- nor does a word that is no flag give it a row
-plain_rows : (waiting : Waiting) (word : Text) (h : Held) →
-    (plain_word options waiting word h).0.rows ≡ h.rows
-plain_rows idle word h = refl
-plain_rows positional word h = refl
-plain_rows (option id) word h = go (arg_by_id options id)
-  where
-    go : (o : Option Rule) → (option_word o id word h).0.rows ≡ h.rows
-    go None = refl
-    go (Some a) = refl
+use Rattle.clap.specs.Walk.{after_step, arg_by_id, arg_by_index, arg_by_long, arg_by_short}
+use Rattle.clap.specs.Walk.{attached_value, bundle, bundle_met, bundle_step, done, flag_met}
+use Rattle.clap.specs.Walk.{has_long, has_short, idle, is_pending, long_met, long_or_other, next}
+use Rattle.clap.specs.Walk.{option, option_met, option_word, plain, plain_word, positional, pushed}
+use Rattle.clap.specs.Walk.{reacted, refused, settled, settled_rows, short_met, short_or_plain}
+use Rattle.clap.specs.Walk.{subcommand, subcommand_or_other, takes_several, takes_values}
+use Rattle.clap.specs.Walk.{to_positional, trailing, used_by_id, value, waits, walked, walked_from}
+use Rattle.clap.specs.Walk.{word_met}
+use Rattle.clap.specs.declared.error.kind.ErrorKind.TheVariants.{TooManyValues}
+use Rattle.psm_words.proofs.Rows.{AllFit, Fits, all_pass, first, found, second, used_passes}
 
 -- what comes of a flag changes no row further
-flag_rows : (waiting : Waiting) (word : Text) (h : Held) (o : Outcome) →
-    (after_flag options waiting word h o).0.rows ≡ h.rows
-flag_rows waiting word h done = refl
-flag_rows waiting word h (waits id) = refl
-flag_rows waiting word h plain = plain_rows waiting word h
-flag_rows waiting word h refused = plain_rows waiting word h
+module _ (c : List Rule) where
+  plain_rows : (waiting : Waiting) (word : Text) (h : Held) →
+      (plain_word c waiting word h).0.rows ≡ h.rows
+  plain_rows idle word h = refl
+  plain_rows positional word h = refl
+  plain_rows (option id) word h = go (arg_by_id c id)
+    where
+      go : (f : Option Rule) → (option_word f id word h).0.rows ≡ h.rows
+      go None = refl
+      go (Some a) = refl
 
-same_pass : (a b : List Row) → a ≡ b → all_pass b ≡ true → all_pass a ≡ true
-same_pass a b same p = ap all_pass same ∙ p
+  flag_rows : (waiting : Waiting) (word : Text) (h : Held) (o : Outcome) →
+      (after_flag c waiting word h o).0.rows ≡ h.rows
+  flag_rows waiting word h done = refl
+  flag_rows waiting word h (waits id) = refl
+  flag_rows waiting word h plain = plain_rows waiting word h
+  flag_rows waiting word h refused = plain_rows waiting word h
 
-flag_passes : (again : Bool) (waiting : Waiting) (word : Text) (o : Option (Text × Option Text))
-    (h : Held) → flag_word_fault options again o word h ≡ [] → all_pass h.rows ≡ true
-    → all_pass (long_or_other options waiting word o h).0.rows ≡ true
-flag_passes again waiting word (Some w) h none p =
-    let met = long_met options (arg_by_long options w.0) w.1 h in
-    same_pass (after_flag options waiting word met.0 met.1).0.rows met.0.rows
-    (flag_rows waiting word met.0 met.1)
-    (long_passes again (has_long the_option w.0) w.1 h none p)
-flag_passes again waiting word None h none p = go (short_of word)
-  where
-    go : (o : Option Text) → all_pass (short_or_plain options waiting word o h).0.rows ≡ true
-    go None =
-        same_pass (plain_word options waiting word h).0.rows h.rows (plain_rows waiting word h) p
-    go (Some flags) =
-        let met = bundle options flags h in
-        same_pass (after_flag options waiting word met.0 met.1).0.rows met.0.rows
-        (flag_rows waiting word met.0 met.1)
-        (same_pass met.0.rows h.rows
-        (bundle_rows (length flags) flags h.skip plain (record h { skip = 0 })) p)
+module _ (o : Rule) (c : List Rule) (fits : AllFit o c) (again : Bool) where
+  same_pass : (a b : List Row) → a ≡ b → all_pass o b ≡ true → all_pass o a ≡ true
+  same_pass a b same p = ap (all_pass o) same ∙ p
 
-other_passes : (waiting : Waiting) (position : ℕ) (word : Text) (h : Held) →
-    other_fault run_built None word h ≡ [] → all_pass h.rows ≡ true
-    → all_pass (subcommand_or_other options None waiting position word h).0.rows ≡ true
-other_passes waiting position word h none p = go (bytes_eq word (45 ∷ 45 ∷ [])) none
-  where
-    go : (b : Bool) → (if b then [] else flag_word_fault options run_built.args_override_self
-        (long_of word) word h) ≡ []
-        → all_pass (if b then (h, trailing position)
-        else long_or_other options waiting word (long_of word) h).0.rows ≡ true
-    go true none = p
-    go false none = flag_passes run_built.args_override_self waiting word (long_of word) h none p
+  -- ---- one use
 
-word_passes : (is_trailing : Bool) (waiting : Waiting) (position : ℕ) (word : Text) (h : Held) →
-    word_fault run_built [] is_trailing waiting word h ≡ [] → all_pass h.rows ≡ true
-    → all_pass (word_met options [] is_trailing waiting position word h).0.rows ≡ true
-word_passes true waiting position word h none p = p
-word_passes false idle position word h none p = other_passes idle position word h none p
-word_passes false positional position word h none p =
-    other_passes positional position word h none p
-word_passes false (option id) position word h none p =
-    other_passes (option id) position word h none p
+  -- the end of a use that waited for its value keeps it,
+  pub settled_passes : (w : Option (Text × List Text)) (rows : List Row) →
+      option_map_or (λ p. option_map_or (λ a. use_fault again a p.1 rows)
+      (arg_by_id c p.0) []) w [] ≡ []
+      → all_pass o rows ≡ true → all_pass o (settled_rows c w rows) ≡ true
+  settled_passes None rows none p = p
+  settled_passes (Some w) rows none p =
+      go (arg_by_id c w.0) (found o (λ a. bytes_eq a.id w.0) c fits) none
+    where
+      go : (f : Option Rule) → IfSome f (Fits o) →
+          option_map_or (λ a. use_fault again a w.1 rows) f [] ≡ []
+          → all_pass o (used_by_id f w.1 rows) ≡ true
+      go None fit none = p
+      go (Some a) fit none = used_passes o again a w.1 rows fit none p
 
-step_held : (word : Text) (w : Walk) (h : Held) (step : Step) →
-    (after_step options word w h step).held ≡ h
-step_held word w h (next waiting) = refl
-step_held word w h (trailing position) = refl
-step_held word w h (subcommand name) = refl
-step_held word w h value = refl
+  -- and so does a use,
+  reacted_passes : (a : Rule) → Fits o a → (values : List Text) (h : Held) →
+      react_fault c again a values h ≡ [] → all_pass o h.rows ≡ true
+      → all_pass o (reacted c a values h).rows ≡ true
+  reacted_passes a fit values h none p =
+      used_passes o again a values (settled c h).rows fit (second _ _ none)
+      (settled_passes h.pending h.rows (first _ _ none) p)
 
--- so one word without fault keeps it
-turn_passes : (w : Walk) (word : Text) → turn_fault run_built [] w word ≡ [] →
-    all_pass w.held.rows ≡ true → all_pass (walked options [] w word).held.rows ≡ true
-unfolding walked
-turn_passes w word none p = go w.stopped none
-  where
-    go : (o : Option (Text × List Text)) →
-        (if is_some o then [] else or_else
-        (word_fault run_built [] w.is_trailing w.waiting word w.held)
-        (step_fault run_built w.position
-        (word_met options [] w.is_trailing w.waiting w.position word w.held).0
-        (word_met options [] w.is_trailing w.waiting w.position word w.held).1)) ≡ []
-        → all_pass (walked_from options [] o w word).held.rows ≡ true
-    go (Some stop) none = p
-    go None none =
-        let met = word_met options [] w.is_trailing w.waiting w.position word w.held in
-        same_pass (after_step options word w met.0 met.1).held.rows met.0.rows
-        (ap (λ (h : Held). h.rows) (step_held word w met.0 met.1))
-        (word_passes w.is_trailing w.waiting w.position word w.held
-        (first (word_fault run_built [] w.is_trailing w.waiting word w.held)
-        (step_fault run_built w.position met.0 met.1) none) p)
+  -- one with a value,
+  option_passes : (a : Rule) → Fits o a → (v : Option Text) (h : Held) →
+      option_fault c again a v h ≡ [] → all_pass o h.rows ≡ true
+      → all_pass o (option_met c a v h).0.rows ≡ true
+  option_passes a fit None h none p = settled_passes h.pending h.rows none p
+  option_passes a fit (Some v) h none p = reacted_passes a fit (v ∷ []) h none p
 
--- ---- all the words
+  -- by its long name
+  long_passes : (f : Option Rule) → IfSome f (Fits o) → (v : Option Text) (h : Held) →
+      long_fault c again f v h ≡ [] → all_pass o h.rows ≡ true
+      → all_pass o (long_met c f v h).0.rows ≡ true
+  long_passes None fit v h none p = p
+  long_passes (Some a) fit v h none p = go (takes_values a) v none
+    where
+      go : (b : Bool) (v : Option Text) → cond b (option_fault c again a v h)
+          (cond (is_some v) (TooManyValues ∷ []) (react_fault c again a [] h)) ≡ []
+          → all_pass o (cond b (option_met c a v h) (flag_met c a v h)).0.rows ≡ true
+      go true v none = option_passes a fit v h none p
+      go false None none = reacted_passes a fit [] h none p
+      go false (Some v) none = p
 
--- words without fault keep it
-words_pass : (w : Walk) (words : List Text) → walk_fault run_built [] w words ≡ [] →
-    all_pass w.held.rows ≡ true
-    → all_pass (fold (walked options []) w words).held.rows ≡ true
-unfolding walk_fault
-words_pass w [] none p = p
-words_pass w (word ∷ words) none p = words_pass (walked options [] w word) words
-    (second _ _ none) (turn_passes w word (first _ _ none) p)
+  -- or by its short one
+  short_passes : (f : Option Rule) → IfSome f (Fits o) → (rest : Text) (h : Held)
+      (fault : Held → Kinds) (later : Held → Held × Outcome)
+      → ((h : Held) → fault h ≡ [] → all_pass o h.rows ≡ true
+      → all_pass o (later h).0.rows ≡ true)
+      → short_fault c again f rest h fault ≡ [] → all_pass o h.rows ≡ true
+      → all_pass o (short_met c f rest h later).0.rows ≡ true
+  short_passes None fit rest h fault later keeps none p = p
+  short_passes (Some a) fit rest h fault later keeps none p = go (takes_values a) none
+    where
+      go : (b : Bool) → cond b (option_fault c again a (attached_value rest) h)
+          (or_else (react_fault c again a [] h) (fault (reacted c a [] h))) ≡ []
+          → all_pass o (cond b (option_met c a (attached_value rest) h)
+          (later (reacted c a [] h))).0.rows ≡ true
+      go true none = option_passes a fit (attached_value rest) h none p
+      go false none = keeps (reacted c a [] h) (second _ _ none)
+          (reacted_passes a fit [] h (first _ _ none) p)
 
--- the option has a row once its default is given
-row_given : (id : Text) (how : Reading) (s : ValueSource) (values : List Text) (rows : List Row) →
-    bytes_eq id id ≡ true → has_row id (with_values id how s values rows) ≡ true
-row_given id how s values [] same = rw same refl
-row_given id how s values (r ∷ rs) same =
-    go (bytes_eq r.id id) refl (row_given id how s values rs same)
-  where
-    go : (b : Bool) → bytes_eq r.id id ≡ b → has_row id (with_values id how s values rs) ≡ true →
-        has_row id (cond b (more_values s values r ++ rs)
-        (r ∷ with_values id how s values rs)) ≡ true
-    go true is later = rw is refl
-    go false is later = rw is later
+  -- ---- one word
 
--- the default's row
-abbrev defaulted : List Row → List Row
-defaulted rows = default_rows the_option.id (reading_by the_option) the_option.defaults rows
+  bundle_passes : (k : ℕ) (flags : Text) (skip : ℕ) (so_far : Outcome) (h : Held) →
+      flags_fault c again k flags skip h ≡ [] → all_pass o h.rows ≡ true
+      → all_pass o (bundle_met c k flags skip so_far h).0.rows ≡ true
+  unfolding bundle_met flags_fault
+  bundle_passes zero flags skip so_far h none p = p
+  bundle_passes (suc k) flags skip so_far h none p = go (slice_get (chars flags) 0) skip
+      (λ flags skip so_far h none p. bundle_passes k flags skip so_far h none p) none
+    where
+      go : (x : Option ℕ) (skip : ℕ) → ((flags : Text) (skip : ℕ) (so_far : Outcome) (h : Held)
+          → flags_fault c again k flags skip h ≡ [] → all_pass o h.rows ≡ true
+          → all_pass o (bundle_met c k flags skip so_far h).0.rows ≡ true)
+          → bundle_step_fault c again x flags skip h (flags_fault c again k) ≡ []
+          → all_pass o (bundle_step c x flags skip so_far h (bundle_met c k)).0.rows ≡ true
+      go None skip later none = p
+      go (Some x) zero later none =
+          let rest = drop (length (encode_utf8 x)) flags in
+          short_passes (arg_by_short c x)
+          (found o (λ a. not (is_some a.index) && has_short a x) c fits) rest h
+          (flags_fault c again k rest 0) (bundle_met c k rest 0 done)
+          (λ h none p. later rest 0 done h none p) none p
+      go (Some x) (suc skip) later none =
+          later (drop (length (encode_utf8 x)) flags) skip so_far h none p
 
--- at the end each row passes, and the option has one
-finished_passes : (rows : List Row) → all_pass rows ≡ true →
-    (all_pass (fold with_default rows options) ≡ true)
-    × (has_row (codes "budget") (fold with_default rows options) ≡ true)
-finished_passes rows p = go (has_row (codes "budget") rows) refl
-  where
-    go : (b : Bool) → has_row (codes "budget") rows ≡ b →
-        (all_pass (if b then rows else defaulted rows) ≡ true)
-        × (has_row (codes "budget") (if b then rows else defaulted rows) ≡ true)
-    go true has = (p, has)
-    go false has = (
-      given _ _ _ (codes "1000000" ∷ []) rows refl p,
-      row_given (codes "budget") _ _ (codes "1000000" ∷ []) rows refl,
-    )
+  flag_passes : (waiting : Waiting) (word : Text) (w : Option (Text × Option Text)) (h : Held) →
+      flag_word_fault c again w word h ≡ [] → all_pass o h.rows ≡ true
+      → all_pass o (long_or_other c waiting word w h).0.rows ≡ true
+  flag_passes waiting word (Some w) h none p =
+      let met = long_met c (arg_by_long c w.0) w.1 h in
+      same_pass (after_flag c waiting word met.0 met.1).0.rows met.0.rows
+      (flag_rows c waiting word met.0 met.1)
+      (long_passes (arg_by_long c w.0)
+      (found o (λ a. not (is_some a.index) && has_long a w.0) c fits) w.1 h none p)
+  flag_passes waiting word None h none p = go (short_of word) none
+    where
+      go : (s : Option Text) → option_map_or (λ flags. bundle_fault c again flags h) s [] ≡ [] →
+          all_pass o (short_or_plain c waiting word s h).0.rows ≡ true
+      go None none = same_pass (plain_word c waiting word h).0.rows h.rows
+          (plain_rows c waiting word h) p
+      go (Some flags) none =
+          let met = bundle c flags h in
+          same_pass (after_flag c waiting word met.0 met.1).0.rows met.0.rows
+          (flag_rows c waiting word met.0 met.1)
+          (bundle_passes (length flags) flags h.skip plain (record h { skip = 0 }) none p)
 
-chosen : (b c : Bool) (n : ℕ) → b ≡ true → c ≡ true →
-    is_some (if b && c then Some n else None) ≡ true
-chosen true true n p q = refl
-chosen true false n p q = cc
-chosen false c n p q = cc
+  -- the word goes to a positional
+  positional_passes : (word : Text) (w : Walk) (h : Held) (stray : Kinds) (f : Option Rule) →
+      option_map_or (λ a. positional_fault c again a h) f stray ≡ [] → all_pass o h.rows ≡ true
+      → all_pass o (to_positional c f word w h).held.rows ≡ true
+  positional_passes word w h stray None none p = p
+  positional_passes word w h stray (Some a) none p =
+      go (is_pending a h.pending && takes_several a) none
+    where
+      go : (b : Bool) → cond b [] (settle_fault c again h) ≡ [] →
+          all_pass o (pushed a.id word (cond b h (settled c h))).rows ≡ true
+      go true none = p
+      go false none = settled_passes h.pending h.rows none p
 
--- a text that the parser passes is a number
-number_accepted : (v : Text) → accepts false (Unsigned 0 most_turns) v ≡ true →
-    is_some (number_of v) ≡ true
-number_accepted v is =
-    let ds = without_leading_plus v in
-    let n = digits_value 10 ds in
-    let a = both (is_numeral ds) (nat_lt n (2 ^ 64) && (nat_le 0 n && nat_le n most_turns)) is in
-    let b = both (nat_lt n (2 ^ 64)) (nat_le 0 n && nat_le n most_turns) a.1 in
-    let c = both (nat_le 0 n) (nat_le n most_turns) b.1 in
-    chosen (is_numeral ds) (nat_le n most_turns) n a.0 c.1
+-- ---- the words after a subcommand that has none of its own
 
-first_passes : (values : List Text) → passes_first values ≡ true →
-    is_some (option_and_then number_of (slice_get values 0)) ≡ true
-first_passes [] p = cc
-first_passes (v ∷ vs) p = number_accepted v p
+module _ (o : Rule) (s : Shape) (fits : AllFit o s.rules) where
+  other_passes : (waiting : Waiting) (position : ℕ) (word : Text) (h : Held) →
+      other_fault s None word h ≡ [] → all_pass o h.rows ≡ true
+      → all_pass o (subcommand_or_other s.rules None waiting position word h).0.rows ≡ true
+  other_passes waiting position word h none p = go (bytes_eq word (45 ∷ 45 ∷ [])) none
+    where
+      go : (b : Bool) → (if b then [] else flag_word_fault s.rules s.args_override_self
+          (long_of word) word h) ≡ []
+          → all_pass o (if b then (h, trailing position)
+          else long_or_other s.rules waiting word (long_of word) h).0.rows ≡ true
+      go true none = p
+      go false none =
+          flag_passes o s.rules fits s.args_override_self waiting word (long_of word) h none p
 
--- so such rows have a budget
-budget_passes : (rows : List Row) → all_pass rows ≡ true →
-    has_row (codes "budget") rows ≡ true → is_some (budget_of rows) ≡ true
-budget_passes [] p has = cc
-budget_passes (r ∷ rs) p has =
-    let parts = both _ _ p in
-    go (bytes_eq r.id (codes "budget")) has (first_passes r.values parts.0)
-    (budget_passes rs parts.1)
-  where
-    go : (b : Bool) → (b || has_row (codes "budget") rs) ≡ true →
-        is_some (option_and_then number_of (slice_get r.values 0)) ≡ true
-        → (has_row (codes "budget") rs ≡ true → is_some (budget_of rs) ≡ true)
-        → is_some (option_and_then number_of (option_and_then (λ (x : Row). slice_get x.values 0)
-        (cond b (Some r) (find (λ (x : Row). bytes_eq x.id (codes "budget")) rs)))) ≡ true
-    go true has here later = here
-    go false has here later = later has
+  word_passes : (is_trailing : Bool) (waiting : Waiting) (position : ℕ) (word : Text) (h : Held) →
+      word_fault s [] is_trailing waiting word h ≡ [] → all_pass o h.rows ≡ true
+      → all_pass o (word_met s.rules [] is_trailing waiting position word h).0.rows ≡ true
+  word_passes true waiting position word h none p = p
+  word_passes false idle position word h none p = other_passes idle position word h none p
+  word_passes false positional position word h none p =
+      other_passes positional position word h none p
+  word_passes false (option id) position word h none p =
+      other_passes (option id) position word h none p
 
--- words that `run` takes have a budget
-pub run_has_budget : (words : List Text) →
-    level_fault run_built [] nothing_held words false [] ≡ []
-    → is_some (budget_of (rows_after run_built.rules [] words)) ≡ true
-run_has_budget words none =
-    let end = (walk options [] nothing_held words).held in
-    let again = run_built.args_override_self in
-    let walking = walk_fault run_built [] (walk_from nothing_held) words in
-    let settling = settle_fault options again end in
-    let ending = or_else (defaults_fault (settled options end).rows options)
-    (check_fault run_built (finished options end) false) in
-    let rest = second [] (or_else settling ending)
-    (second walking (or_else [] (or_else settling ending)) none) in
-    let walked_pass = words_pass (walk_from nothing_held) words
-    (first walking (or_else [] (or_else settling ending)) none) refl in
-    let rows_pass = settled_passes again end.pending end.rows (first settling ending rest)
-    walked_pass in
-    let done = finished_passes (settled options end).rows rows_pass in
-    budget_passes (fold with_default (settled options end).rows options) done.0 done.1
+  step_passes : (word : Text) (w : Walk) (h : Held) (step : Step) →
+      step_fault s w.position h step ≡ [] → all_pass o h.rows ≡ true
+      → all_pass o (after_step s.rules word w h step).held.rows ≡ true
+  step_passes word w h (next waiting) none p = p
+  step_passes word w h (trailing position) none p = p
+  step_passes word w h (subcommand name) none p = p
+  step_passes word w h value none p = positional_passes o s.rules fits s.args_override_self word w
+      h (stray_fault s) (arg_by_index s.rules w.position) none p
+
+  -- so one word without fault keeps it
+  turn_passes : (w : Walk) (word : Text) → turn_fault s [] w word ≡ [] →
+      all_pass o w.held.rows ≡ true → all_pass o (walked s.rules [] w word).held.rows ≡ true
+  unfolding walked
+  turn_passes w word none p = go w.stopped none
+    where
+      go : (x : Option (Text × List Text)) → (if is_some x then [] else or_else
+          (word_fault s [] w.is_trailing w.waiting word w.held) (step_fault s w.position
+          (word_met s.rules [] w.is_trailing w.waiting w.position word w.held).0
+          (word_met s.rules [] w.is_trailing w.waiting w.position word w.held).1)) ≡ []
+          → all_pass o (walked_from s.rules [] x w word).held.rows ≡ true
+      go (Some stop) none = p
+      go None none =
+          let met = word_met s.rules [] w.is_trailing w.waiting w.position word w.held in
+          step_passes word w met.0 met.1 (second _ _ none)
+          (word_passes w.is_trailing w.waiting w.position word w.held (first _ _ none) p)
+
+  -- and so do all the words
+  pub words_pass : (w : Walk) (words : List Text) → walk_fault s [] w words ≡ [] →
+      all_pass o w.held.rows ≡ true
+      → all_pass o (fold (walked s.rules []) w words).held.rows ≡ true
+  unfolding walk_fault
+  words_pass w [] none p = p
+  words_pass w (word ∷ words) none p = words_pass (walked s.rules [] w word) words
+      (second _ _ none) (turn_passes w word (first _ _ none) p)

@@ -8,6 +8,6 @@ mod command;
 mod made;
 mod read;
 
-pub use command::Command;
+pub use command::{Command, DEFAULT_BUDGET, DemoOptions, RunOptions};
 pub use made::psm_command;
 pub use read::read_words;

@@ -95,11 +95,12 @@ abbrev pub information_planned : Catalog → BoundInformation → Bool
 information_planned known (information.Statement rs) = true
 information_planned known (information.Condition n rs) = planned_expr (tree_of known n)
 
--- GET DIAGNOSTICS is in form where it reads the stacked area
+-- items are read in form where their area is the stacked one
 abbrev pub reads_formed : Catalog → BoundArea → BoundInformation → Bool
 reads_formed known area.Current i = false
 reads_formed known area.Stacked i = information_planned known i
 
+-- GET DIAGNOSTICS is in form as its area and its items are
 abbrev pub get_formed : Catalog → BoundDiagnostics → Bool
 get_formed known d = reads_formed known d.area d.information
 

@@ -2,9 +2,9 @@
 use Rattle.std.proofs.Common.{◌≡◌, [], ◌∷◌, Option, Some, None, refl}
 use Rattle.sql_conditions.specs.Conditions.{Area}
 use Rattle.rel_algebra.specs.States.{state_in}
-use Rattle.regions.specs.Doing.{Doing}
-use Rattle.regions.specs.Handlers.{Handling, Scope, Scopes, act_by, act_or, best, best_here}
-use Rattle.regions.specs.Handlers.{of_scope, or_else, RaisesByBest, raising, with_best}
+use Rattle.rel_algebra.specs.BodyDoing.{Doing}
+use Rattle.rel_algebra.specs.BodyHandlers.{Handling, Scope, Scopes, act_by, act_or, best, best_here}
+use Rattle.rel_algebra.specs.BodyHandlers.{of_scope, or_else, RaisesByBest, raising, with_best}
 
 one_scope : (s : Scope) (m : Option Handling) (outer : Scopes) (area : Area) (rest : Doing) → rest
     ≡ act_or (best (state_in area) outer) area →

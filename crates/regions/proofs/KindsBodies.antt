@@ -25,20 +25,20 @@ use Rattle.rel_algebra.proofs.KindRows.{KindsGrow, first_kinds_columns, kinds_gr
 use Rattle.rel_algebra.proofs.KindRows.{kinds_grow_same, kinds_grow_trans, kinds_grown_column}
 use Rattle.rel_algebra.proofs.KindTrees.{FoldIs}
 use Rattle.rel_algebra.proofs.KindWords.{if_values_has}
-use Rattle.regions.specs.Bodies.{word_of, Target, Perhaps, Without, With, StatementItem, Number}
-use Rattle.regions.specs.Bodies.{RowCount, StatementRead, ConditionRead}
-use Rattle.regions.specs.BodyMeaning.{statement_targets, condition_targets}
-use Rattle.regions.specs.BodyChain.{reading, emitted}
-use Rattle.regions.specs.BodyChain.{column_at, with_column, with_columns}
-use Rattle.regions.specs.BodyChain.{target_stores, emit_set, emit_return, assigns, assigns_if}
-use Rattle.regions.specs.BodyChain.{into_by, push, not_active_cell, not_stacked_cell, one_raise}
-use Rattle.regions.specs.BodyChain.{perhaps_emitted, again, emit_signal}
-use Rattle.regions.specs.BodyChain.{emit_again, statement_cell, statement_cells, item_cell}
-use Rattle.regions.specs.BodyChain.{emit_statement_items, condition_cells, emit_condition_items}
-use Rattle.regions.specs.Dispatch.{Env, Codes, store_if}
+use Rattle.rel_algebra.specs.Bodies.{word_of, Target, Perhaps, Without, With, StatementItem, Number}
+use Rattle.rel_algebra.specs.Bodies.{RowCount, StatementRead, ConditionRead}
+use Rattle.rel_algebra.specs.BodyMeaning.{statement_targets, condition_targets}
+use Rattle.rel_algebra.specs.BodyChain.{reading, emitted}
+use Rattle.rel_algebra.specs.BodyChain.{column_at, with_column, with_columns}
+use Rattle.rel_algebra.specs.BodyChain.{target_stores, emit_set, emit_return, assigns, assigns_if}
+use Rattle.rel_algebra.specs.BodyChain.{into_by, push, not_active_cell, not_stacked_cell, one_raise}
+use Rattle.rel_algebra.specs.BodyChain.{perhaps_emitted, again, emit_signal}
+use Rattle.rel_algebra.specs.BodyChain.{emit_again, statement_cell, statement_cells, item_cell}
+use Rattle.rel_algebra.specs.BodyChain.{emit_statement_items, condition_cells, emit_condition_items}
+use Rattle.rel_algebra.specs.BodyDispatch.{Env, Codes, store_if}
 use Rattle.regions.specs.Kinds.{AllTaken, EachTaken, Taken}
-use Rattle.regions.specs.Leaves.{QueryLeaf, ValueLeaf}
-use Rattle.regions.specs.Steps.{two, col, tag}
+use Rattle.rel_algebra.specs.Leaves.{QueryLeaf, ValueLeaf}
+use Rattle.rel_algebra.specs.BodySteps.{two, col, tag}
 use Rattle.regions.proofs.KindsHeld.{Gives, PerhapsGives, Selects, Sets}
 use Rattle.regions.proofs.KindsHandled.{CodesAre, EmitIs, if_store, one_goes}
 use Rattle.regions.proofs.KindsHandled.{raise_goes}

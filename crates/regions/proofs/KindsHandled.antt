@@ -17,15 +17,15 @@ use Rattle.rel_algebra.proofs.Laws.{and_true}
 use Rattle.rel_algebra.proofs.KindNodes.{after_grow, kinds_wider}
 use Rattle.rel_algebra.proofs.KindRows.{KindsGrow, first_kinds_columns, kinds_grow_by}
 use Rattle.rel_algebra.proofs.KindRows.{kinds_grow_trans}
-use Rattle.regions.specs.Bodies.{HandlerType, Continue, Exit, Undo}
-use Rattle.regions.specs.BodyChain.{Rest, one_raise, one_step, with_column}
-use Rattle.regions.specs.Dispatch.{Env, Emit, Coded, Codes, count, is_value, area_in}
-use Rattle.regions.specs.Dispatch.{named_tests, general_tests, arm, named_arms, general_arms}
-use Rattle.regions.specs.Dispatch.{scope_arms, aimed, dispatch, code_or, judging, raising_to}
-use Rattle.regions.specs.Dispatch.{store_if, action_env, if_continue, scope_actions}
-use Rattle.regions.specs.Dispatch.{actions, has_continue, tags, joins, handled}
+use Rattle.rel_algebra.specs.Bodies.{HandlerType, Continue, Exit, Undo}
+use Rattle.rel_algebra.specs.BodyChain.{Rest, one_raise, one_step, with_column}
+use Rattle.rel_algebra.specs.BodyDispatch.{Env, Emit, Coded, Codes, count, is_value, area_in}
+use Rattle.rel_algebra.specs.BodyDispatch.{named_tests, general_tests, arm, named_arms, general_arms}
+use Rattle.rel_algebra.specs.BodyDispatch.{scope_arms, aimed, dispatch, code_or, judging, raising_to}
+use Rattle.rel_algebra.specs.BodyDispatch.{store_if, action_env, if_continue, scope_actions}
+use Rattle.rel_algebra.specs.BodyDispatch.{actions, has_continue, tags, joins, handled}
 use Rattle.regions.specs.Kinds.{type_kinds}
-use Rattle.regions.specs.Steps.{Step, grow, Store, store, case_of, only, col, tag}
+use Rattle.rel_algebra.specs.BodySteps.{Step, grow, Store, store, case_of, only, col, tag}
 use Rattle.regions.proofs.KindsSteps.{Around, Goes, Good, Is, Stands, StepIs, StoreIs}
 use Rattle.regions.proofs.KindsSteps.{StoresAre, after, case_is, code_store, goes_append}
 use Rattle.regions.proofs.KindsSteps.{joined_takes, kind_grows, more_are, one_after, one_good}

@@ -7,15 +7,15 @@ use Rattle.rel_algebra.specs.Kinds.{BooleanKind, DataKind, IntegerKind, Kinds, T
 use Rattle.rel_algebra.specs.Kinds.{table_widths, type_kind}
 use Rattle.rel_algebra.proofs.KindNodes.{KindsAgree, KindsRead, PlanIs, Yields}
 use Rattle.rel_algebra.proofs.KindTrees.{FoldIs}
-use Rattle.regions.specs.Bodies.{Perhaps, Without, With, Variables, NoVariable, MoreVariables}
-use Rattle.regions.specs.Bodies.{Target, Stmt, Compound, If, SearchedCase, SimpleCase, Set}
-use Rattle.regions.specs.Bodies.{SelectInto, Signal, Resignal, GetStatementItems}
-use Rattle.regions.specs.Bodies.{GetConditionItems, Leave, Return, Stmts, NoStmt, MoreStmts}
-use Rattle.regions.specs.Bodies.{Branches, NoBranch, MoreBranches, Handlers, NoHandler}
-use Rattle.regions.specs.Bodies.{MoreHandlers, Routine, Body}
-use Rattle.regions.specs.BodyMeaning.{statement_targets, condition_targets}
+use Rattle.rel_algebra.specs.Bodies.{Perhaps, Without, With, Variables, NoVariable, MoreVariables}
+use Rattle.rel_algebra.specs.Bodies.{Target, Stmt, Compound, If, SearchedCase, SimpleCase, Set}
+use Rattle.rel_algebra.specs.Bodies.{SelectInto, Signal, Resignal, GetStatementItems}
+use Rattle.rel_algebra.specs.Bodies.{GetConditionItems, Leave, Return, Stmts, NoStmt, MoreStmts}
+use Rattle.rel_algebra.specs.Bodies.{Branches, NoBranch, MoreBranches, Handlers, NoHandler}
+use Rattle.rel_algebra.specs.Bodies.{MoreHandlers, Routine, Body}
+use Rattle.rel_algebra.specs.BodyMeaning.{statement_targets, condition_targets}
 use Rattle.regions.specs.Kinds.{AllTaken, EachTaken, Tables, Taken, type_kinds}
-use Rattle.regions.specs.Leaves.{QueryLeaf, ValueLeaf}
+use Rattle.rel_algebra.specs.Leaves.{QueryLeaf, ValueLeaf}
 
 -- an expression's columns and scalar, where the variables in sight have these kinds
 abbrev pub ValueKinds : Tables → Kinds → DataKind → ValueLeaf → Type 0

@@ -24,28 +24,28 @@ use Rattle.rel_algebra.proofs.KindRows.{KindsGrow, first_kinds_columns, kinds_gr
 use Rattle.rel_algebra.proofs.KindRows.{kinds_grow_by, kinds_grow_same, kinds_grow_trans}
 use Rattle.rel_algebra.proofs.KindRows.{kinds_grown_column, kinds_grown_columns}
 use Rattle.rel_algebra.proofs.KindWords.{HaveAll, agree_null, agree_turned, join_null, read_good}
-use Rattle.regions.specs.Bodies.{Without, With, Stmt, Compound, If, SearchedCase}
-use Rattle.regions.specs.Bodies.{SimpleCase, Set, SelectInto, Signal, Resignal, GetStatementItems}
-use Rattle.regions.specs.Bodies.{GetConditionItems, Leave, Return, Stmts, NoStmt, MoreStmts}
-use Rattle.regions.specs.Bodies.{Branches, NoBranch, MoreBranches, Variables, NoVariable}
-use Rattle.regions.specs.Bodies.{MoreVariables, Handlers, NoHandler, MoreHandlers, Body}
-use Rattle.regions.specs.BodyChain.{null_of, assigned_as, inline_with, Rest, reading, emitted}
-use Rattle.regions.specs.BodyChain.{with_column, with_variables, case_not_found_cell, and_on}
-use Rattle.regions.specs.BodyChain.{branching, not_found, equal_to, inside, ending_env, its_own}
-use Rattle.regions.specs.BodyChain.{ending, ending_width, whole_raise, variable_count}
-use Rattle.regions.specs.BodyChain.{has_default, null_scalars, emit, emit_all, emit_else}
-use Rattle.regions.specs.BodyChain.{emit_branches, emit_matching, emit_declares, coded, top}
-use Rattle.regions.specs.BodyChain.{raised_area, last_cell, first_cells, called_body, read_outward}
-use Rattle.regions.specs.BodyChain.{without_return_cell}
-use Rattle.regions.specs.Compounds.{scopes_in}
-use Rattle.regions.specs.Dispatch.{Env, Emit, Coded, Codes, count, judging, raising_to}
-use Rattle.regions.specs.Dispatch.{scope_arms, scope_actions, whatever, action_env, dispatch}
-use Rattle.regions.specs.Dispatch.{joins, handled}
+use Rattle.rel_algebra.specs.Bodies.{Without, With, Stmt, Compound, If, SearchedCase}
+use Rattle.rel_algebra.specs.Bodies.{SimpleCase, Set, SelectInto, Signal, Resignal, GetStatementItems}
+use Rattle.rel_algebra.specs.Bodies.{GetConditionItems, Leave, Return, Stmts, NoStmt, MoreStmts}
+use Rattle.rel_algebra.specs.Bodies.{Branches, NoBranch, MoreBranches, Variables, NoVariable}
+use Rattle.rel_algebra.specs.Bodies.{MoreVariables, Handlers, NoHandler, MoreHandlers, Body}
+use Rattle.rel_algebra.specs.BodyChain.{null_of, assigned_as, inline_with, Rest, reading, emitted}
+use Rattle.rel_algebra.specs.BodyChain.{with_column, with_variables, case_not_found_cell, and_on}
+use Rattle.rel_algebra.specs.BodyChain.{branching, not_found, equal_to, inside, ending_env, its_own}
+use Rattle.rel_algebra.specs.BodyChain.{ending, ending_width, whole_raise, variable_count}
+use Rattle.rel_algebra.specs.BodyChain.{has_default, null_scalars, emit, emit_all, emit_else}
+use Rattle.rel_algebra.specs.BodyChain.{emit_branches, emit_matching, emit_declares, coded, top}
+use Rattle.rel_algebra.specs.BodyChain.{raised_area, last_cell, first_cells, called_body, read_outward}
+use Rattle.rel_algebra.specs.BodyChain.{without_return_cell}
+use Rattle.rel_algebra.specs.BodyCompounds.{scopes_in}
+use Rattle.rel_algebra.specs.BodyDispatch.{Env, Emit, Coded, Codes, count, judging, raising_to}
+use Rattle.rel_algebra.specs.BodyDispatch.{scope_arms, scope_actions, whatever, action_env, dispatch}
+use Rattle.rel_algebra.specs.BodyDispatch.{joins, handled}
 use Rattle.regions.specs.Kinds.{type_kinds}
-use Rattle.regions.specs.Leaves.{ValueLeaf}
-use Rattle.regions.specs.Steps.{Step, grow, fat, store, jump, only, two, col, tag, case_of}
-use Rattle.regions.specs.Steps.{code_is, steps_tree}
-use Rattle.regions.proofs.Base.{both}
+use Rattle.rel_algebra.specs.Leaves.{ValueLeaf}
+use Rattle.rel_algebra.specs.BodySteps.{Step, grow, fat, store, jump, only, two, col, tag, case_of}
+use Rattle.rel_algebra.specs.BodySteps.{code_is, steps_tree}
+use Rattle.rel_algebra.proofs.BodyBase.{both}
 use Rattle.regions.proofs.KindsBodies.{Yielded, again_goes, condition_goes, into_goes, one_at}
 use Rattle.regions.proofs.KindsBodies.{one_long, return_goes, set_goes, signal_goes}
 use Rattle.regions.proofs.KindsBodies.{statement_goes}

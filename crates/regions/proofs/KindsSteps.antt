@@ -22,15 +22,15 @@ use Rattle.rel_algebra.proofs.KindNodes.{good_join, kinds_wider, on_each_is}
 use Rattle.rel_algebra.proofs.KindRows.{KindsGrow, first_kinds_columns}
 use Rattle.rel_algebra.proofs.KindRows.{kinds_grow_trans, kinds_grown_column}
 use Rattle.rel_algebra.proofs.KindWords.{Has, HaveAll, all_values_has, assigning_first_has, tested}
-use Rattle.regions.specs.BodyChain.{place_at, column_at, reading, emitted, with_column}
-use Rattle.regions.specs.BodyChain.{with_columns}
-use Rattle.regions.specs.Dispatch.{Env}
+use Rattle.rel_algebra.specs.BodyChain.{place_at, column_at, reading, emitted, with_column}
+use Rattle.rel_algebra.specs.BodyChain.{with_columns}
+use Rattle.rel_algebra.specs.BodyDispatch.{Env}
 use Rattle.regions.specs.Kinds.{Tables, type_kinds}
-use Rattle.regions.specs.Leaves.{ValueLeaf}
-use Rattle.regions.specs.Steps.{asked_when, Step, grow, fat, Store, store, steps_tree, is_sure}
-use Rattle.regions.specs.Steps.{asked_at, code_is, case_of, guarded, placed, acts, jump, only, two}
-use Rattle.regions.specs.Steps.{col, tag}
-use Rattle.regions.proofs.Base.{both}
+use Rattle.rel_algebra.specs.Leaves.{ValueLeaf}
+use Rattle.rel_algebra.specs.BodySteps.{asked_when, Step, grow, fat, Store, store, steps_tree, is_sure}
+use Rattle.rel_algebra.specs.BodySteps.{asked_at, code_is, case_of, guarded, placed, acts, jump, only, two}
+use Rattle.rel_algebra.specs.BodySteps.{col, tag}
+use Rattle.rel_algebra.proofs.BodyBase.{both}
 use Rattle.regions.proofs.KindsHeld.{ValueKinds}
 
 -- the kinds of the tables, of the rows outside and of the arguments, and the type of the result

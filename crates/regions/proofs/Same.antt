@@ -15,11 +15,12 @@ use Rattle.rel_algebra.specs.World.{World, Ends, Eval, Raises, unit_of, with_tab
 use Rattle.rel_algebra.specs.Doing as doing
 use Rattle.rel_algebra.specs.Handlers as handlers
 use Rattle.regions.specs.Tree.{Target}
-use Rattle.regions.specs.Doing.{Frame, Outcome, Next, Leaving, Returning, Exiting, Raising, End}
-use Rattle.regions.specs.Doing.{Doing, ends, in_turn, next_or, outside, storing, take_values}
-use Rattle.regions.specs.Handlers.{Handling, Scope, Scopes, act_by, best_here, covers_it, names_it}
-use Rattle.regions.specs.Handlers.{first_with, or_else, raising, unhandled, with_best, with_end}
-use Rattle.regions.specs.Handlers.{with_value}
+use Rattle.rel_algebra.specs.BodyDoing.{Frame, Outcome, Next, Leaving, Returning, Exiting, Raising}
+use Rattle.rel_algebra.specs.BodyDoing.{End, Doing, ends, in_turn, next_or, outside, storing}
+use Rattle.rel_algebra.specs.BodyDoing.{take_values}
+use Rattle.rel_algebra.specs.BodyHandlers.{Handling, Scope, Scopes, act_by, best_here, covers_it}
+use Rattle.rel_algebra.specs.BodyHandlers.{names_it, first_with, or_else, raising, unhandled}
+use Rattle.rel_algebra.specs.BodyHandlers.{with_best, with_end, with_value}
 use Rattle.regions.proofs.Exceptions.{Excepts, Fails, ending_fails, fails_after}
 
 -- the same outcome among all outcomes

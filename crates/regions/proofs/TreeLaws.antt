@@ -3,10 +3,10 @@
 use Rattle.regions.specs.Theorem.{CallsByRegion, Inlines, InlinesWith, Regions, WellFormedInlines}
 use Rattle.regions.specs.Tree.{Body}
 use Rattle.regions.specs.TreeBodies.{routine_body}
-use Rattle.regions.proofs.Calls as calls
-use Rattle.regions.proofs.Chain as chain
-use Rattle.regions.proofs.Fits.{well_formed}
-use Rattle.regions.proofs.Removals.{chain_over_unit, chain_removable}
+use Rattle.rel_algebra.proofs.BodyCalls as calls
+use Rattle.rel_algebra.proofs.BodyChain as chain
+use Rattle.rel_algebra.proofs.BodyFits.{well_formed}
+use Rattle.rel_algebra.proofs.BodyRemovals.{chain_over_unit, chain_removable}
 use Rattle.regions.proofs.Trees.{routine_fits, routine_removable, routine_right}
 
 pub inlines_with : InlinesWith

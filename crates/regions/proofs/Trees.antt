@@ -1,6 +1,6 @@
 -- The leaves of trees over expressions and queries are right, can be removed, and fit.
-use Rattle.std.proofs.Common.{ℕ, zero, suc, ◌+◌, false, List, ◌∷◌, length, Option}
-use Rattle.std.proofs.Common.{Some, None, ◌∙◌, subst}
+use Rattle.std.proofs.Common.{ℕ, zero, suc, ◌+◌, false, List, ◌∷◌, length, Option, Some, None, ◌∙◌}
+use Rattle.std.proofs.Common.{subst}
 use Rattle.row_types.specs.declared.cell.Cell.{Cell}
 use Rattle.rel_algebra.specs.Emit.{Env, Folded, folded, folded_env}
 use Rattle.rel_algebra.specs.Joins.{query_width}
@@ -13,11 +13,10 @@ use Rattle.rel_algebra.proofs.Laws.{Even, FoldedRight, WideEnd, all_count, answe
 use Rattle.rel_algebra.proofs.Laws.{expr_ok, expr_right, fold_fits, fold_ok, nested_folded}
 use Rattle.rel_algebra.proofs.Laws.{nested_removable, plan_width, plans, query_fits, query_folds}
 use Rattle.rel_algebra.proofs.Laws.{query_means, query_ok, query_plans}
-use Rattle.regions.specs.Leaves.{QueryLeaf, ValueLeaf, Widths}
+use Rattle.rel_algebra.specs.Leaves.{QueryLeaf, ValueLeaf, Widths}
 use Rattle.regions.specs.Theorem.{AllEach, BranchesEach, Each, ExprPlanned, ExprShaped, ExprSimple}
-use Rattle.regions.specs.Theorem.{HandlersEach, PerhapsEach, QueryPlanned, QueryShaped}
-use Rattle.regions.specs.Theorem.{QuerySimple, RoutineFormed, RoutineShaped, RoutineSimple}
-use Rattle.regions.specs.Theorem.{VariablesEach}
+use Rattle.regions.specs.Theorem.{HandlersEach, PerhapsEach, QueryPlanned, QueryShaped, QuerySimple}
+use Rattle.regions.specs.Theorem.{RoutineFormed, RoutineShaped, RoutineSimple, VariablesEach}
 use Rattle.regions.specs.Tree.{Target, Perhaps, Without, With, Variables, NoVariable, MoreVariables}
 use Rattle.regions.specs.Tree.{Stmt, Compound, If, SearchedCase, SimpleCase, Set, SelectInto}
 use Rattle.regions.specs.Tree.{Signal, Resignal, GetStatementItems, GetConditionItems, Leave}
@@ -26,10 +25,10 @@ use Rattle.regions.specs.Tree.{Handlers, NoHandler, MoreHandlers, Routine, Body}
 use Rattle.regions.specs.TreeBodies.{branches_body, handlers_body, perhaps_body, query_leaf}
 use Rattle.regions.specs.TreeBodies.{routine_body, stmt_body, stmts_body, value_leaf}
 use Rattle.regions.specs.TreeBodies.{variables_body}
-use Rattle.regions.proofs.Held.{AllHold, BranchesHold, CountIs, Folds, HandlersHold, Holds}
-use Rattle.regions.proofs.Held.{PerhapsHolds, QueryFits, QueryRemovable, QueryRight}
-use Rattle.regions.proofs.Held.{RoutineFits, RoutineRemovable, RoutineRight, ValueFits}
-use Rattle.regions.proofs.Held.{ValueRemovable, ValueRight, VariablesHold}
+use Rattle.rel_algebra.proofs.BodyHeld.{AllHold, BranchesHold, CountIs, Folds, HandlersHold, Holds}
+use Rattle.rel_algebra.proofs.BodyHeld.{PerhapsHolds, QueryFits, QueryRemovable, QueryRight}
+use Rattle.rel_algebra.proofs.BodyHeld.{RoutineFits, RoutineRemovable, RoutineRight, ValueFits}
+use Rattle.rel_algebra.proofs.BodyHeld.{ValueRemovable, ValueRight, VariablesHold}
 
 -- ---- each leaf
 

@@ -13,11 +13,11 @@ use Rattle.rel_algebra.specs.World.{World, Ends, Eval}
 use Rattle.rel_algebra.specs.Doing as doing
 use Rattle.rel_algebra.specs.Handlers as handlers
 use Rattle.rel_algebra.specs.Compounds as whole
-use Rattle.regions.specs.Doing.{Frame, Outcome, Next, Leaving, Returning, Exiting, Raising, End}
-use Rattle.regions.specs.Doing.{Doing, ends, left_by}
-use Rattle.regions.specs.Handlers.{Handling, Scopes, best_here, raising, with_best}
-use Rattle.regions.specs.Compounds.{compound, declared_or, exited, exited_or, left, left_or, listed}
-use Rattle.regions.specs.Compounds.{scope_in, scopes_in, sealed, sealed_or}
+use Rattle.rel_algebra.specs.BodyDoing.{Frame, Outcome, Next, Leaving, Returning, Exiting, Raising}
+use Rattle.rel_algebra.specs.BodyDoing.{End, Doing, ends, left_by}
+use Rattle.rel_algebra.specs.BodyHandlers.{Handling, Scopes, best_here, raising, with_best}
+use Rattle.rel_algebra.specs.BodyCompounds.{compound, declared_or, exited, exited_or, left, left_or}
+use Rattle.rel_algebra.specs.BodyCompounds.{listed, scope_in, scopes_in, sealed, sealed_or}
 use Rattle.regions.proofs.Exceptions.{Excepts, Fails}
 use Rattle.regions.proofs.Same.{Does, Same, SameFound, SameHandlings, SameScopes, Told, acting_same}
 use Rattle.regions.proofs.Same.{best_same, ends_same, failing_same, goes_on, outcome_of}

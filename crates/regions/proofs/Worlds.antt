@@ -34,9 +34,9 @@ use Rattle.regions.specs.Tree.{Compound, If, SearchedCase, SimpleCase, Set, Sele
 use Rattle.regions.specs.Tree.{Resignal, GetStatementItems, GetConditionItems, Leave, Return, Stmts}
 use Rattle.regions.specs.Tree.{NoStmt, MoreStmts, Branches, NoBranch, MoreBranches, Handlers}
 use Rattle.regions.specs.Tree.{NoHandler, MoreHandlers, Routine, Body}
-use Rattle.regions.specs.Doing.{Frame, Outcome, Next, Leaving, Returning, Exiting, Raising, Doing}
-use Rattle.regions.specs.Doing.{ends, storing, take_values}
-use Rattle.regions.specs.Handlers.{Scopes, with_value, with_end}
+use Rattle.rel_algebra.specs.BodyDoing.{Frame, Outcome, Next, Leaving, Returning, Exiting, Raising}
+use Rattle.rel_algebra.specs.BodyDoing.{Doing, ends, storing, take_values}
+use Rattle.rel_algebra.specs.BodyHandlers.{Scopes, with_value, with_end}
 use Rattle.regions.specs.Meaning.{Context, inside_scopes, in_action, seen, value_in, one_row}
 use Rattle.regions.specs.Meaning.{perhaps_in, with_text, or_empty, again_as, resignalling}
 use Rattle.regions.specs.Meaning.{statement_item, statement_targets, statement_values}
@@ -46,8 +46,8 @@ use Rattle.regions.specs.Meaning.{does_branches, does_matching, declare, handlin
 use Rattle.regions.specs.Meaning.{call, no_context}
 use Rattle.regions.specs.Theorem.{AllEach, BranchesEach, Each, ExprPlanned, HandlersEach}
 use Rattle.regions.specs.Theorem.{PerhapsEach, QueryPlanned, RoutineEach, VariablesEach}
-use Rattle.regions.specs.Worlds.{stmt_of, stmts_of, branches_of, handlers_of, routine_of}
-use Rattle.regions.specs.Worlds.{BodyPlans, FormIsPure, tables_of}
+use Rattle.regions.specs.Worlds.{stmt_of, stmts_of, branches_of, handlers_of, routine_of, BodyPlans}
+use Rattle.regions.specs.Worlds.{FormIsPure, tables_of}
 use Rattle.regions.proofs.Exceptions.{Fails, ending_fails, fails_after, ev_fails, answer_fails}
 use Rattle.regions.proofs.Given.{answer_same}
 use Rattle.regions.proofs.Same.{Does, Gives, Same, SameHandlings, SameScopes, called_same}

@@ -24,8 +24,8 @@ use Rattle.rel_algebra.specs.Plan.{PlanTree, Scalar, Scalars, den, extend, keep,
 use Rattle.rel_algebra.specs.Plan.{argument, word, more, case_word, or_word, strict, on_condition}
 use Rattle.rel_algebra.specs.OnConditions.{matches_word}
 use Rattle.regions.specs.Kinds.{RoutineTyped}
-use Rattle.regions.specs.Steps.{case_of, code_is, col, only, tag, two}
-use Rattle.regions.specs.Dispatch.{is_value}
+use Rattle.rel_algebra.specs.BodySteps.{case_of, code_is, col, only, tag, two}
+use Rattle.rel_algebra.specs.BodyDispatch.{is_value}
 use Rattle.regions.specs.Inline.{null_of, raised_area, without_return_cell, inline}
 use Rattle.rel_algebra.specs.PlanExamples.{tables, t_name, d_name, table_kinds}
 use Rattle.rel_algebra.specs.Removal.{all_removable, is_region, tree_within}

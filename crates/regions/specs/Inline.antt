@@ -4,22 +4,23 @@ use Rattle.sql_values.specs.declared.value.SqlType.{SqlType}
 use Rattle.rel_algebra.specs.Emit.{Emitted}
 use Rattle.rel_algebra.specs.Plan.{PlanTree, Scalar, Scalars}
 use Rattle.rel_algebra.specs.Tree.{Expr, Query}
-use Rattle.regions.specs.BodyChain as body
-pub use Rattle.regions.specs.BodyChain.{place_at, column_at, reading, with_column, with_columns}
-pub use Rattle.regions.specs.BodyChain.{target_stores, one_step, assigns, assigns_if, into_folded}
-pub use Rattle.regions.specs.BodyChain.{into_asked, into_by, raising_step, one_raise, push, text_of}
-pub use Rattle.regions.specs.BodyChain.{pushing, not_active_cell, not_stacked_cell}
-pub use Rattle.regions.specs.BodyChain.{case_not_found_cell, without_return_cell, statement_cell}
-pub use Rattle.regions.specs.BodyChain.{statement_cells, emit_statement_items, item_cell}
-pub use Rattle.regions.specs.BodyChain.{condition_cells, Rest, and_on, branching, not_found, tested}
-pub use Rattle.regions.specs.BodyChain.{equal_to, set_at, with_variables, exits_in, out_in, inside}
-pub use Rattle.regions.specs.BodyChain.{ending_env, its_own, ending, ending_width, sealed_step}
-pub use Rattle.regions.specs.BodyChain.{whole_raise, compounded, null_of, assigned_as, null_scalars}
-pub use Rattle.regions.specs.BodyChain.{top, raised_area, last_cell, first_cells, arguments}
-pub use Rattle.regions.specs.BodyChain.{outer_columns}
-use Rattle.regions.specs.Dispatch.{Env, Emit, Coded, Codes}
-pub use Rattle.regions.specs.Leaves.{Widths}
-use Rattle.regions.specs.Steps.{Step}
+use Rattle.rel_algebra.specs.BodyChain as body
+pub use Rattle.rel_algebra.specs.BodyChain.{place_at, column_at, reading, with_column, with_columns}
+pub use Rattle.rel_algebra.specs.BodyChain.{target_stores, one_step, assigns, assigns_if}
+pub use Rattle.rel_algebra.specs.BodyChain.{into_folded, into_asked, into_by, raising_step}
+pub use Rattle.rel_algebra.specs.BodyChain.{one_raise, push, text_of, pushing, not_active_cell}
+pub use Rattle.rel_algebra.specs.BodyChain.{not_stacked_cell, case_not_found_cell}
+pub use Rattle.rel_algebra.specs.BodyChain.{without_return_cell, statement_cell, statement_cells}
+pub use Rattle.rel_algebra.specs.BodyChain.{emit_statement_items, item_cell, condition_cells, Rest}
+pub use Rattle.rel_algebra.specs.BodyChain.{and_on, branching, not_found, tested, equal_to, set_at}
+pub use Rattle.rel_algebra.specs.BodyChain.{with_variables, exits_in, out_in, inside, ending_env}
+pub use Rattle.rel_algebra.specs.BodyChain.{its_own, ending, ending_width, sealed_step, whole_raise}
+pub use Rattle.rel_algebra.specs.BodyChain.{compounded, null_of, assigned_as, null_scalars, top}
+pub use Rattle.rel_algebra.specs.BodyChain.{raised_area, last_cell, first_cells, arguments}
+pub use Rattle.rel_algebra.specs.BodyChain.{outer_columns}
+use Rattle.rel_algebra.specs.BodyDispatch.{Env, Emit, Coded, Codes}
+pub use Rattle.rel_algebra.specs.Leaves.{Widths}
+use Rattle.rel_algebra.specs.BodySteps.{Step}
 use Rattle.regions.specs.Tree.{ConditionRead, Target, Perhaps, Variables, Stmt, Stmts, Branches}
 use Rattle.regions.specs.Tree.{Handlers, Routine}
 use Rattle.regions.specs.TreeBodies.{value_leaf, query_leaf, perhaps_body, variables_body}

@@ -8,7 +8,7 @@ use Rattle.rel_algebra.specs.Kinds.{scalars_good, scalars_kinds, table_widths, t
 use Rattle.rel_algebra.specs.Kinds.{tree_kinds, type_kind}
 use Rattle.rel_algebra.specs.Plan.{Scalars}
 use Rattle.rel_algebra.specs.Tree.{Expr}
-use Rattle.regions.specs.BodyMeaning.{statement_targets, condition_targets}
+use Rattle.rel_algebra.specs.BodyMeaning.{statement_targets, condition_targets}
 use Rattle.regions.specs.Inline.{inline_with}
 use Rattle.regions.specs.Theorem.{parameters_of}
 use Rattle.regions.specs.Tree.{Target, Perhaps, Without, With, Stmt, Compound, If, SearchedCase}

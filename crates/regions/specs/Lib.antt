@@ -1,15 +1,6 @@
-pub mod Leaves
-pub mod Bodies
-pub mod BodyMeaning
-pub mod BodyChain
 pub mod Tree
 pub mod TreeBodies
-pub mod Doing
-pub mod Handlers
-pub mod Compounds
 pub mod Meaning
-pub mod Steps
-pub mod Dispatch
 pub mod Inline
 pub mod Theorem
 pub mod Kinds

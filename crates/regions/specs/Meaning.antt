@@ -5,15 +5,15 @@ use Rattle.rel_algebra.specs.Endings.{Ending}
 use Rattle.rel_algebra.specs.Plain.{Inputs, ev}
 use Rattle.rel_algebra.specs.Tree.{Expr}
 use Rattle.row_types.specs.declared.cell.Cell.{Cell}
-use Rattle.regions.specs.BodyMeaning as body
-pub use Rattle.regions.specs.BodyMeaning.{Context, no_context, inside_scopes, in_action, seen}
-pub use Rattle.regions.specs.BodyMeaning.{one_row, with_text, signalling, resignalling, choose}
-pub use Rattle.regions.specs.BodyMeaning.{or_empty, again_as, statement_item, statement_targets}
-pub use Rattle.regions.specs.BodyMeaning.{statement_values, condition_targets, condition_values}
-pub use Rattle.regions.specs.BodyMeaning.{reading_into, getting_area, of_condition}
-pub use Rattle.regions.specs.BodyMeaning.{getting_condition, returned_or}
-use Rattle.regions.specs.Doing.{Frame, Doing}
-use Rattle.regions.specs.Handlers.{Handling, Scopes}
+use Rattle.rel_algebra.specs.BodyMeaning as body
+pub use Rattle.rel_algebra.specs.BodyMeaning.{Context, no_context, inside_scopes, in_action, seen}
+pub use Rattle.rel_algebra.specs.BodyMeaning.{one_row, with_text, signalling, resignalling, choose}
+pub use Rattle.rel_algebra.specs.BodyMeaning.{or_empty, again_as, statement_item, statement_targets}
+pub use Rattle.rel_algebra.specs.BodyMeaning.{statement_values, condition_targets, condition_values}
+pub use Rattle.rel_algebra.specs.BodyMeaning.{reading_into, getting_area, of_condition}
+pub use Rattle.rel_algebra.specs.BodyMeaning.{getting_condition, returned_or}
+use Rattle.rel_algebra.specs.BodyDoing.{Frame, Doing}
+use Rattle.rel_algebra.specs.BodyHandlers.{Handling, Scopes}
 use Rattle.regions.specs.Tree.{Perhaps, Variables, Stmt, Stmts, Branches, Handlers, Routine}
 use Rattle.regions.specs.TreeBodies.{perhaps_body, variables_body, stmt_body, stmts_body}
 use Rattle.regions.specs.TreeBodies.{branches_body, handlers_body, routine_body}

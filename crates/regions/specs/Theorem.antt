@@ -13,7 +13,7 @@ use Rattle.rel_algebra.specs.Simple.{Nested, Simple, SimpleQuery}
 use Rattle.rel_algebra.specs.Theorem.{Fits, one_cell}
 use Rattle.rel_algebra.specs.Tree.{Expr, Query}
 use Rattle.rel_algebra.specs.WellFormed.{Shaped, ShapedQuery, scalars_fit, tree_fits}
-pub use Rattle.regions.specs.Bodies.{HasTarget}
+pub use Rattle.rel_algebra.specs.Bodies.{HasTarget}
 pub use Rattle.regions.specs.Inline.{outer_columns, region}
 pub use Rattle.regions.specs.Meaning.{called_with}
 use Rattle.regions.specs.Inline.{Widths, inline, inline_with}

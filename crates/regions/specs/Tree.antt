@@ -7,7 +7,7 @@ pub use Rattle.rel_algebra.specs.Tree.{Target, HandlerType, Continue, Exit, Undo
 pub use Rattle.rel_algebra.specs.Tree.{With, StatementItem, Number, RowCount, StatementRead}
 pub use Rattle.rel_algebra.specs.Tree.{Variables, NoVariable, MoreVariables, ConditionItem}
 pub use Rattle.rel_algebra.specs.Tree.{ReturnedSqlstate, MessageText, ConditionRead}
-pub use Rattle.regions.specs.Bodies.{word_of}
+pub use Rattle.rel_algebra.specs.Bodies.{word_of}
 
 mutual
   -- A label stands by how many compound statements outwards it is; an action stands inside its

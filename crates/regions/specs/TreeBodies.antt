@@ -3,8 +3,8 @@
 use Rattle.rel_algebra.specs.Tree.{Expr, Query}
 use Rattle.rel_algebra.specs.Emit as plans
 use Rattle.rel_algebra.specs.Plain.{answer, ev}
-use Rattle.regions.specs.Bodies as body
-use Rattle.regions.specs.Leaves.{QueryLeaf, ValueLeaf}
+use Rattle.rel_algebra.specs.Bodies as body
+use Rattle.rel_algebra.specs.Leaves.{QueryLeaf, ValueLeaf}
 use Rattle.regions.specs.Tree.{Perhaps, Without, With, Variables, NoVariable, MoreVariables, Stmt}
 use Rattle.regions.specs.Tree.{Compound, If, SearchedCase, SimpleCase, Set, SelectInto, Signal}
 use Rattle.regions.specs.Tree.{Resignal, GetStatementItems, GetConditionItems, Leave, Return, Stmts}

@@ -2,7 +2,7 @@
 #![tactic(auto)]
 
 ghost use Rattle.regions.specs.Examples.{RoutinesWorked};
-ghost use Rattle.regions.specs.Handlers.{RaisesByBest};
+ghost use Rattle.rel_algebra.specs.BodyHandlers.{RaisesByBest};
 ghost use Rattle.regions.specs.Kinds.{KindedInlines};
 ghost use Rattle.regions.specs.Sizes.{SizesWorked};
 ghost use Rattle.regions.specs.Worlds.{BodyPlans, FormIsPure};

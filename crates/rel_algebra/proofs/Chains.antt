@@ -27,6 +27,8 @@ use Rattle.rel_algebra.proofs.Widths.{Even, EvenFrom, from_plan_width}
 use Rattle.rel_algebra.proofs.Within.{EnvIn, InputWithin, KeyWithin, PlaceIn, Within, WithinAll}
 use Rattle.rel_algebra.proofs.Within.{all_in, each_in, entered_in, expr_in, fold_in, from_in}
 use Rattle.rel_algebra.proofs.Within.{joined_in, key_in, query_in}
+pub use Rattle.rel_algebra.proofs.Reading.{Given}
+pub use Rattle.rel_algebra.proofs.FoldedParts.{InputRemovable}
 
 below_is : (m i : ℕ) (p : Place) → less i m ≡ true → below m i p ≡ p
 below_is zero i p h = never h
@@ -37,11 +39,6 @@ below_is (suc m) (suc i) p h = below_is m i p h
 base_is : (t : PlanTree) (n : ℕ) → tree_within t 0 ≡ true → tree_width t ≡ n →
     base_phase t ≡ Lower n
 base_is t n h w = ap (λ b. cond b (Lower (tree_width t)) Stuck) h ∙ ap Lower w
-
--- where p is true, parameters are arguments, and else columns of rows outside
-abbrev pub Given : Env → Bool → Type 0
-Given e true = (i : ℕ) → PlaceIn (e.params i) 0
-Given e false = (i : ℕ) → NotGiven (e.params i)
 
 none_in : (e : Env) (p : Bool) → Given e p → EnvIn e (Innermost 0) p 0
 none_in e true g = (λ d i l. never l, λ t. g)
@@ -608,10 +605,6 @@ keyed_removable (Select items from tests) S e p g s k h =
     selected_chain from tests items S e p g (simple_even_from from S p s.0) k.0 k.1 k.2
 keyed_removable (Grouped from tests zero items (a ∷ ags) NoExpr list) S e p g s k h = absurd cc
 keyed_removable _ S e p g s k h = absurd k
-
-abbrev pub InputRemovable : Option Folded → Type 0
-InputRemovable None = Unit {0}
-InputRemovable (Some a) = removable (aggregate a.aggregates) a.input ≡ true
 
 keyed_folded : (q : Query) (S : List ℕ → ℕ) (e : Env) (p : Bool) → Given e p → SimpleQuery q S p →
     KeyedQuery q S p → InputRemovable (folded q S e)

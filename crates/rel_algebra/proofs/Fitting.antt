@@ -27,11 +27,10 @@ use Rattle.rel_algebra.specs.Tree.{Returned, Grouped, In, Inner, LeftOuter, Link
 use Rattle.rel_algebra.specs.Tree.{MoreExprs, MoreLinks, MoreRows, NoExpr, NoLink, NoRow, Operate}
 use Rattle.rel_algebra.specs.Tree.{Or, Ordered, Query, Routine, Rows, Select, Single, Table, Values}
 use Rattle.rel_algebra.specs.Tree.{Variable, count, parameters_of}
-use Rattle.rel_algebra.specs.WellFormed.{Shaped, ShapedAll, ShapedBody, ShapedFrom}
-use Rattle.rel_algebra.specs.WellFormed.{ShapedLinks, ShapedQuery, ShapedRows, WellFormedPlans}
-use Rattle.rel_algebra.specs.WellFormed.{aggregates_fit, columns_fit, has_column, keys_fit}
-use Rattle.rel_algebra.specs.WellFormed.{kind_fits, lists_fit, nodes_fit, scalar_fits, scalars_fit}
-use Rattle.rel_algebra.specs.WellFormed.{tree_fits}
+use Rattle.rel_algebra.specs.WellFormed.{Shaped, ShapedAll, ShapedBody, ShapedFrom, ShapedLinks}
+use Rattle.rel_algebra.specs.WellFormed.{ShapedQuery, ShapedRows, WellFormedPlans, aggregates_fit}
+use Rattle.rel_algebra.specs.WellFormed.{columns_fit, has_column, keys_fit, kind_fits, lists_fit}
+use Rattle.rel_algebra.specs.WellFormed.{nodes_fit, scalar_fits, scalars_fit, tree_fits}
 use Rattle.rel_algebra.proofs.Counts.{EachCount, args_count, numbered_long, plain_width, rows_count}
 use Rattle.rel_algebra.proofs.FittingNodes.{EnvFits, Fit, FitAll, TestsFit, WaitingFits}
 use Rattle.rel_algebra.proofs.FittingNodes.{against_fits, all_true_fits, assigning_in_fits, at_join}
@@ -46,6 +45,7 @@ use Rattle.rel_algebra.proofs.FittingNodes.{waits_alone, waits_both}
 use Rattle.rel_algebra.proofs.Truths.{and_true, left_true, right_true}
 use Rattle.rel_algebra.proofs.Widths.{Even, EvenFrom, from_plan_width, places_long, plan_width}
 use Rattle.rel_algebra.proofs.Widths.{selected_width, width_join, width_more}
+pub use Rattle.rel_algebra.proofs.FoldedParts.{FoldedFits}
 
 -- Trees.
 abbrev pub ExprFits : Expr → Type 0
@@ -67,14 +67,6 @@ QueryFits q = (S : List ℕ → ℕ) (e : Env) (ws : List ℕ) (ps : ℕ) → Sh
 abbrev pub FromFits : From → Type 0
 FromFits x = (S : List ℕ → ℕ) (e : Env) (ws : List ℕ) (ps : ℕ) → ShapedFrom x S → EnvFits e ws ps →
     tree_fits (from_plan x S e) S ws ps ≡ true
-
--- what is folded, asked on rows of m columns
-abbrev pub FoldedFits : Option Folded → (List ℕ → ℕ) → ℕ → List ℕ → ℕ → Type 0
-FoldedFits None S m ws ps = Unit {0}
-FoldedFits (Some a) S m ws ps =
-    (aggregates_fit a.aggregates (tree_width a.input) ≡ true)
-    × (tree_fits a.input S (m ∷ ws) ps ≡ true) × FitAll (a.list m) S
-    (m + length a.aggregates) ws ps × (suc m ≤ m + length a.aggregates)
 
 abbrev pub FoldFits : Query → Type 0
 FoldFits q = (S : List ℕ → ℕ) (e : Env) (m : ℕ) (ws : List ℕ) (ps : ℕ) → ShapedQuery q S →

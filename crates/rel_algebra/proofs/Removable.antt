@@ -31,6 +31,7 @@ use Rattle.rel_algebra.proofs.Chains.{Given, InputRemovable, entered_given, fold
 use Rattle.rel_algebra.proofs.Chains.{lifted_given, nested_folded, nested_removable}
 use Rattle.rel_algebra.proofs.Moves.{NotGiven, below_free}
 use Rattle.rel_algebra.proofs.Within.{PlaceIn, below_in}
+pub use Rattle.rel_algebra.proofs.FoldedParts.{NodesOk, PartsOk}
 
 joined_ok : (a b : Nodes) → nodes_removable a ≡ true → nodes_removable b ≡ true →
     nodes_removable (joined_nodes a b) ≡ true
@@ -49,9 +50,6 @@ on_each_ok (apply_by when kind way inner a) t h k =
     let x = (not (is_anew way) || removable kind inner) && all_removable inner in
     on_each_ok a (apply when kind way inner t) (right_true x (nodes_removable a) h)
     (and_true x (all_removable t) (left_true x (nodes_removable a) h) k)
-
-abbrev pub NodesOk : Nodes → Type 0
-NodesOk nodes = nodes_removable nodes ≡ true
 
 abbrev pub ExprOk : Expr → Type 0
 ExprOk x = (S : List ℕ → ℕ) (p : Bool) (e : Env) (m : ℕ) → Simple x S p → Given e p →
@@ -72,10 +70,6 @@ QueryOk q = (S : List ℕ → ℕ) (p : Bool) (e : Env) → SimpleQuery q S p �
 abbrev pub FromOk : From → Type 0
 FromOk x = (S : List ℕ → ℕ) (p : Bool) (e : Env) → SimpleFrom x S p → Given e p →
     all_removable (from_plan x S e) ≡ true
-
-abbrev pub PartsOk : Option Folded → Type 0
-PartsOk None = Unit {0}
-PartsOk (Some a) = (all_removable a.input ≡ true) × ((j : ℕ) → NodesOk (a.list j).nodes)
 
 abbrev pub FoldOk : Query → Type 0
 FoldOk q = (S : List ℕ → ℕ) (p : Bool) (e : Env) → SimpleQuery q S p → Given e p →

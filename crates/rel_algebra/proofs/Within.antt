@@ -34,12 +34,7 @@ use Rattle.rel_algebra.specs.Tree.{MoreExprs, MoreLinks, MoreRows, NoExpr, NoLin
 use Rattle.rel_algebra.specs.Tree.{Or, Ordered, Query, Routine, Rows, Select, Single, Table, Values}
 use Rattle.rel_algebra.specs.Tree.{Variable, parameters_of}
 use Rattle.rel_algebra.proofs.Truths.{and_true, left_true, right_true}
-
--- Environments.
-abbrev pub PlaceIn : Place → ℕ → Type 0
-PlaceIn (at level i) n = less level n ≡ true
-PlaceIn (given i) n = Unit {0}
-PlaceIn nowhere n = Unit {0}
+pub use Rattle.rel_algebra.proofs.Reading.{PlaceIn}
 
 -- of the levels that are reached, and of the parameters where p is true, the places are within the
 -- n innermost rows

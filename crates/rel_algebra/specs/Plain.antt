@@ -10,7 +10,7 @@ use Rattle.sql_values.specs.Casts.{assigned}
 use Rattle.sql_values.specs.Values.{is_null, is_true}
 use Rattle.sql_values.specs.Operators.{applied}
 use Rattle.row_types.specs.Rows.{Row}
-use Rattle.row_types.specs.Tables.{Tables, rows_named}
+use Rattle.row_types.specs.Tables.{rows_named}
 use Rattle.rel_algebra.specs.Tree.{Expr, Literal, Column, Variable, Chain, Operate, And, Or, Case}
 use Rattle.rel_algebra.specs.Tree.{CaseOf, Coalesce, In, Exists, Single, Call, CallSelf, Links}
 use Rattle.rel_algebra.specs.Tree.{NoLink, MoreLinks, Exprs, NoExpr, MoreExprs, count, Routine}
@@ -22,58 +22,10 @@ use Rattle.rel_algebra.specs.Endings.{value_at, row_at}
 use Rattle.rel_algebra.specs.Groups.{groups}
 use Rattle.row_types.specs.Sorting.{in_order}
 use Rattle.rel_algebra.specs.Joins.{places, numbered, pairs, or_nulls, single_of, exists_of}
-use Rattle.rel_algebra.specs.Joins.{member_of, group_row, rows_width, from_width, table_width}
+use Rattle.rel_algebra.specs.Joins.{member_of, group_row, rows_width, from_width}
 use Rattle.rel_algebra.specs.Meaning.{assigned_first}
-
--- the tables, and the arguments of the whole query
-pub record Inputs : Type 0 where
-  -- by their names
-  pub tables : Tables
-  -- by number
-  pub args : List Value
-
--- how many columns each table has
-abbrev pub columns_in : Inputs → List ℕ → ℕ
-columns_in w = table_width w.tables
-
--- the rows outside, the innermost first, and the values of the parameters
-pub record Scope : Type 0 where
-  pub rows : List Row
-  pub params : List Value
-
--- with one row more inside
-abbrev pub within : Scope → Row → Scope
-within f r = record { rows = r ∷ f.rows; params = f.params }
-
--- each in turn; the first condition ends it
-abbrev pub each_of : {A B : Type 0} → (A → Ending (List B)) → List A → Ending (List B)
-each_of f [] = Ok []
-each_of f (x ∷ xs) = do
-  ys ← f x
-  zs ← each_of f xs
-  Ok (ys ++ zs)
-
--- a row that stands, or leaves
-abbrev pub kept_if : Bool → Row → List Row
-kept_if true r = r ∷ []
-kept_if false r = []
-
--- a list of one row
-abbrev pub one_row : Ending Row → Ending (List Row)
-one_row e = do
-  r ← e
-  Ok (r ∷ [])
-
--- the list, where the tests hold
-abbrev pub list_if : Bool → Ending Row → Ending (List Row)
-list_if true list = one_row list
-list_if false list = Ok []
-
--- a row's list, where its tests hold. 7.12 (where clause)
-abbrev pub list_where : Ending Bool → Ending Row → Ending (List Row)
-list_where tests list = do
-  b ← tests
-  list_if b list
+pub use Rattle.rel_algebra.specs.Scopes.{Inputs, columns_in, Scope, within, each_of, kept_if}
+pub use Rattle.rel_algebra.specs.Scopes.{one_row, list_if, list_where}
 
 -- a left row with its right rows
 abbrev pub joined_row : ℕ → (Row → Ending Bool) → List Row → Row → Ending (List Row)

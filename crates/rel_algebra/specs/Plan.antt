@@ -21,7 +21,7 @@ use Rattle.rel_algebra.specs.States.{no_data}
 use Rattle.rel_algebra.specs.OnConditions.{ConditionWord, condition_cell}
 use Rattle.sql_conditions.specs.Conditions.{area_of}
 use Rattle.sql_conditions.specs.declared.condition.EngineCondition.TheVariants.{SeveralRows}
-use Rattle.rel_algebra.specs.Plain.{Inputs}
+use Rattle.rel_algebra.specs.Scopes.{Inputs}
 
 -- What stands over operands. A strict operation takes all; the others do not look at what comes
 -- after they are decided.

@@ -3,38 +3,18 @@ use Rattle.std.specs.List.{All}
 use Rattle.std.specs.Prelude.{IsTrue, ◌≡◌, ℕ, zero, suc, true, List, [], ◌∷◌, length, map}
 use Rattle.rel_algebra.specs.Meaning.{answer as does, ask as asks, call as calls, carried}
 use Rattle.sql_values.specs.declared.value.Value.{Value}
-use Rattle.row_types.specs.Cells.{PlanRow, Whole}
 use Rattle.row_types.specs.Rows.{Row, well_kept}
-use Rattle.row_types.specs.Tables.{Tables, rows_named}
+use Rattle.row_types.specs.Tables.{Tables}
 use Rattle.row_types.specs.declared.cell.Cell.{Cell}
-use Rattle.row_types.specs.declared.cell.Cell.TheVariants.{Val}
-use Rattle.rel_algebra.specs.Emit.{Env, Place, at, below, given, nowhere, outward, plan, read}
+use Rattle.rel_algebra.specs.Emit.{Env, Place, at, below, given, nowhere, outward, plan}
 use Rattle.rel_algebra.specs.Emit.{routine_plan, top}
-use Rattle.rel_algebra.specs.Endings.{Ending, cell_end, row_at, value_at}
+use Rattle.rel_algebra.specs.Endings.{Ending, cell_end}
 use Rattle.rel_algebra.specs.Joins.{table_width}
 use Rattle.rel_algebra.specs.Plain.{Inputs, Scope, answer, columns_in, planned, planned_routine}
-use Rattle.rel_algebra.specs.Plan.{Sight, cell_of, collected, den, shown}
+use Rattle.rel_algebra.specs.Plan.{collected, den, shown}
 use Rattle.rel_algebra.specs.Tree.{Query, Routine, parameters_of}
 use Rattle.rel_algebra.specs.World.{Called, Frame, World, frame_of, no_frame, no_self}
-
--- each row has n values
-abbrev pub AllWide : ℕ → List Row → Type 0
-AllWide n [] = Unit {0}
-AllWide n (r ∷ rs) = (length r ≡ n) × AllWide n rs
-
--- the rows of each table have its columns
-abbrev pub Fits : Inputs → Type 0
-Fits w = (name : List ℕ) → AllWide (columns_in w name) (rows_named name w.tables)
-
--- what scalars read beside the row: the rows outside and the arguments
-abbrev pub outside : Inputs → List (List Cell) → Sight
-outside w o = record { rows = o; args = w.args }
-
--- where an environment says that a column or a parameter is read, there is its value
-abbrev pub Agrees : Env → Sight → Scope → Type 0
-Agrees e s f =
-    ((d i : ℕ) → cell_of (read (e.columns d i)) s ≡ Val (value_at (row_at f.rows d) i))
-    × ((i : ℕ) → cell_of (read (e.params i)) s ≡ Val (value_at f.params i))
+pub use Rattle.rel_algebra.specs.Agreement.{AllWide, Fits, outside, Agrees, one_cell}
 
 -- For all tables, rows outside, arguments, and environments that read the scope from them: what is
 -- collected of the plan's rows is the meaning, the same rows in the same order, or the same first
@@ -93,10 +73,6 @@ abbrev pub MeansAsked : Type 0
 MeansAsked = (q : Query) (w : World) → planned q ≡ true → Fits (inputs_of w no_frame) →
     asks q w ≡ carried (collected
     (den (plan q (table_width w.tables) (top 0)) (inputs_of w no_frame) [])) w
-
--- of one row of one cell
-abbrev pub one_cell : Cell → List PlanRow
-one_cell c = Whole (c ∷ []) ∷ []
 
 -- The plan of a function has one row of one cell, its value or its area, and a call ends so, in the
 -- world in which it began.

@@ -8,7 +8,7 @@ use Rattle.sql_conditions.specs.declared.condition.EngineCondition.TheVariants.{
 use Rattle.sql_conditions.specs.Conditions.{own, area_of}
 use Rattle.bind_faults.specs.declared.fault.FaultKind.TheVariants.{UnknownName}
 use Rattle.reply_text.specs.declared.fault.FaultText.TheVariants.{Name, TooDeep}
-use Rattle.reply_text.specs.Texts.{rows_text, done_text, area_text, fault_text}
+use Rattle.reply_text.specs.Texts.{rows_text, table_text, done_text, area_text, fault_text}
 
 -- A query without rows ends with 02000.
 pub no_row : rows_text [] ≡ codes "02000 rows 0\n"
@@ -19,6 +19,18 @@ pub two_rows : rows_text ((Null ∷ []) ∷ (Bool true ∷ Bool false ∷ Null �
     codes "NULL\nTRUE,FALSE,NULL\n00000 rows 2\n"
 unfolding digits fields_text escaped is_blank
 two_rows = refl
+
+-- a table of a dump without rows: there is no condition of no data
+pub empty_table : table_text (codes "T") [] ≡ codes "table T rows 0\n"
+unfolding digits
+empty_table = refl
+
+-- a table of a dump: its line, and a record for each row
+pub dumped_table : table_text (codes "A_1")
+    ((Bool true ∷ Str (codes "a'b") ∷ []) ∷ (Null ∷ Str (codes "a,b") ∷ []) ∷ []) ≡
+    codes "table A_1 rows 2\nTRUE,'a''b'\nNULL,\"'a,b'\"\n"
+unfolding digits fields_text escaped is_blank encode
+dumped_table = refl
 
 -- what changes no rows and returns none
 pub done : done_text [] None ≡ codes "00000\n"

@@ -56,6 +56,14 @@ count_text n = if n == 0 then codes "02000 rows 0\n" else codes "00000 rows " ++
 abbrev pub rows_text : List (List Value) → List ℕ
 rows_text rows = flat_map record_text rows ++ count_text (length rows)
 
+-- the line of a table in a dump: its name, and how many rows it has
+abbrev pub table_line : List ℕ → ℕ → List ℕ
+table_line name rows = codes "table " ++ name ++ codes " rows " ++ decimal rows ++ codes "\n"
+
+-- a table in a dump: its line, and a record for each row
+abbrev pub table_text : List ℕ → List (List Value) → List ℕ
+table_text name rows = table_line name (length rows) ++ flat_map record_text rows
+
 -- the values that a statement hands out: one record, where there are any
 abbrev pub values_text : List Value → List ℕ
 values_text [] = []

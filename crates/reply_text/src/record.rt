@@ -84,9 +84,15 @@ pub(crate) fn record_writer(alloc: Global) -> Writer<Vec<u8>>
     ensures between { IsBetween result }
     ensures text { written result ≡ [] }
 {
-    WriterBuilder::new()
-        .flexible(true)
-        .from_writer(Vec::new(alloc))
+    record_writer_after(Vec::new(alloc))
+}
+
+/// A writer of records that come after a text.
+pub(crate) fn record_writer_after(text: Vec<u8>) -> Writer<Vec<u8>>
+    ensures between { IsBetween result }
+    ensures text { written result ≡ text.items }
+{
+    WriterBuilder::new().flexible(true).from_writer(text)
 }
 
 /// Writes the record of these values.

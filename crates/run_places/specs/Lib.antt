@@ -17,3 +17,4 @@ pub mod Blocks
 pub mod Onward
 pub mod Defaults
 pub mod Getting
+pub mod Texts

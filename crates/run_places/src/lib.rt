@@ -14,6 +14,7 @@ mod raised;
 mod selecting;
 mod starting;
 mod starts;
+mod texts;
 mod widths;
 
 pub use callee::{Callee, named, procedure_named};
@@ -31,4 +32,5 @@ pub use run_outcomes::Scope;
 pub use selecting::one_row;
 pub use starting::start;
 pub use starts::{in_no_routine, in_routine};
+pub use texts::{again, message_of, text_of};
 pub use widths::source_width;

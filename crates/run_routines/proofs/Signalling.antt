@@ -22,7 +22,7 @@ use Rattle.run_outcomes.specs.declared.outcome.Outcome.{Outcome}
 use Rattle.run_places.specs.Ran.{Ran}
 use Rattle.run_places.proofs.Laws.{some_unit}
 use Rattle.run_places.proofs.Laws.{ends_with, underway, value_gives}
-use Rattle.run_routines.specs.Texts.{text_in}
+use Rattle.run_places.specs.Texts.{text_in}
 
 -- ---- the text
 

@@ -1,10 +1,11 @@
-use Rattle.std.proofs.Common.{arith, ap, sym, subst, ◌∙◌, ◌≡◌, length, [], inl, inr}
+use Rattle.std.proofs.Common.{arith, ap, sym, subst, ◌∙◌, ◌≡◌, ℕ, List, length, [], inl, inr}
 use Rattle.std.specs.Prelude.{Option}
+use Rattle.io_edges.specs.Causes.{Rose}
 use Rattle.io_edges.specs.TakenBytes.{TakenBytes, Takes}
 use Rattle.psm_effects.specs.Database.{Plain}
 use Rattle.psm_words.specs.declared.command.Command.{Command}
 use Rattle.program_status.specs.declared.status.Status.TheVariants as Status
-use Rattle.psm_program.specs.Whole.{SaysExceptions, LeavesTheOnlyRun, WritesFront}
+use Rattle.psm_program.specs.Whole.{IsCutShort, SaysExceptions, LeavesTheOnlyRun, WritesFront}
 use Rattle.io_edges.proofs.Laws.{Takes-nil}
 use Rattle.psm_program.proofs.OneRun.{exactly, nothing_written, only_run, front_of_none}
 use Rattle.psm_program.proofs.OneRun.{front_of_first, front_of_short}
@@ -130,4 +131,36 @@ returns-clause-front g c = λ e command taken.
           front_of_none _ _ (g.S.Source.left c.args.src.now) _ _ _ c.args.db.now (Takes-nil told) in
           subst (λ (o : Option TakenBytes). WritesFront command (g.S.Source.left c.args.src.now)
           told o c.args.db.now) (ap g.K.Sink.told (sym w.out-is)) mine
+    ]
+
+pub returns-clause-write_fault : goal.returns-clause-write_fault
+returns-clause-write_fault g c = λ e.
+    elim c.match-read_words.branch [
+      | in-Ok-Some w ↦
+          let r = w.run_source-status in
+          let k = w.in-Ok-Some.command in
+          let left = g.S.Source.left c.args.src.now in
+          let told = g.K.Sink.told c.args.out.now in
+          let failed = r.ensures.write_fault (sym w.status-is ∙ e) in
+          let read : IsCutShort k left (g.S.Source.left c.match-read_words.src) told
+          (g.K.Sink.told r.new.out) c.args.db.now r.new.db =
+          subst (λ (l : Option (List ℕ)). IsCutShort k left l told (g.K.Sink.told r.new.out)
+          c.args.db.now r.new.db) (ap g.S.Source.left (sym w.src-is)) failed.1 in
+          let written : IsCutShort k left (g.S.Source.left c.match-read_words.src) told
+          (g.K.Sink.told c.match-read_words.out) c.args.db.now r.new.db =
+          subst (λ (o : Option TakenBytes). IsCutShort k left
+          (g.S.Source.left c.match-read_words.src) told o c.args.db.now r.new.db)
+          (ap g.K.Sink.told (sym w.out-is)) read in (
+            subst (λ (n : ℕ). Rose (g.K.Sink.faults c.args.out.now) n)
+                (ap g.K.Sink.faults (sym w.out-is)) failed.0,
+            (
+              k,
+              sym w.in-Ok-Some.ensures.exact ∙ w.in-Ok-Some.field-0-is,
+              subst (λ (d : Plain). IsCutShort k left (g.S.Source.left c.match-read_words.src) told
+                  (g.K.Sink.told c.match-read_words.out) c.args.db.now d) (sym w.db-is) written,
+            ),
+          )
+      | in-Ok-None w ↦ absurd
+          (let bad : Status.Usage ≡ Status.WriteFault = sym w.status-is ∙ e in cc)
+      | in-Err w ↦ absurd (let bad : Status.NoMemory ≡ Status.WriteFault = sym w.status-is ∙ e in cc)
     ]

@@ -1,4 +1,5 @@
--- The tables stay those of the catalog, bodies stay well typed, and calls listed.
+-- The tables stay those of the catalog, bodies stay well typed, calls listed, and names those of the
+-- tables.
 use Rattle.psm_effects.specs.Conclusions.{database}
 use Rattle.psm_session.specs.Effects.{checked}
 use Rattle.psm_session.proofs.Calls.{checked-listed, left-listed, makes-listed}
@@ -20,9 +21,12 @@ invariant_of-self c =
             (database c.check_bound.new.catalog c.check_bound.new.tables)
             c.check_bound.ensures.ok c.check_bound.ensures.err c.self.invariant.1.0
             (checked-typed b.bound b.by_plan old found.fits makes c.self.invariant.1.0),
-        left-listed c.check_bound.result (checked b.bound old) old
-            (database c.check_bound.new.catalog c.check_bound.new.tables)
-            c.check_bound.ensures.ok c.check_bound.ensures.err c.self.invariant.1.1
-            (checked-listed b.bound b.by_plan old found.fits listed c.self.invariant.1.1),
+        (
+          left-listed c.check_bound.result (checked b.bound old) old
+              (database c.check_bound.new.catalog c.check_bound.new.tables)
+              c.check_bound.ensures.ok c.check_bound.ensures.err c.self.invariant.1.1.0
+              (checked-listed b.bound b.by_plan old found.fits listed c.self.invariant.1.1.0),
+          c.check_bound.ensures.names,
+        ),
       ),
     )

@@ -1,4 +1,5 @@
--- The tables stay those of the catalog, bodies stay well typed, and calls listed.
+-- The tables stay those of the catalog, bodies stay well typed, calls listed, and names those of the
+-- tables.
 use Rattle.psm_effects.specs.Conclusions.{database}
 use Rattle.psm_session.specs.Effects.{effect}
 use Rattle.psm_session.proofs.Calls.{effect-listed, left-listed, makes-listed}
@@ -20,9 +21,12 @@ invariant_of-self c =
             (database c.run_bound.new.catalog c.run_bound.new.tables)
             c.run_bound.ensures.ok c.run_bound.ensures.err c.self.invariant.1.0
             (effect-typed c.args.budget b.bound b.by_plan old found.fits makes c.self.invariant.1.0),
-        left-listed c.run_bound.result (effect c.args.budget b.bound old) old
-            (database c.run_bound.new.catalog c.run_bound.new.tables)
-            c.run_bound.ensures.ok c.run_bound.ensures.err c.self.invariant.1.1
-            (effect-listed c.args.budget b.bound b.by_plan old found.fits listed c.self.invariant.1.1),
+        (
+          left-listed c.run_bound.result (effect c.args.budget b.bound old) old
+              (database c.run_bound.new.catalog c.run_bound.new.tables)
+              c.run_bound.ensures.ok c.run_bound.ensures.err c.self.invariant.1.1.0
+              (effect-listed c.args.budget b.bound b.by_plan old found.fits listed c.self.invariant.1.1.0),
+          c.run_bound.ensures.names,
+        ),
       ),
     )
