@@ -24,6 +24,7 @@ JOINS = [
     ("join", two_tables, "SELECT t.k, u.k FROM t JOIN u ON t.a = u.a;\n"),
     ("LEFT JOIN", half_met, "SELECT t.k, u.k FROM t LEFT JOIN u ON t.a = u.a;\n"),
     ("chain of three tables", three_tables, "SELECT t.k, v.k FROM t JOIN u ON t.a = u.k JOIN v ON u.a = v.k;\n"),
+    ("chain of commas", three_tables, "SELECT t.k, v.k FROM t, u, v WHERE t.a = u.k AND u.a = v.k;\n"),
 ]
 
 BY_KEY = [

@@ -3,6 +3,7 @@ pub mod EmptyReads
 pub mod TakenBytes
 pub mod Course
 pub mod Sources
+pub mod Tries
 pub mod Sinks
 pub mod Events
 pub mod Examples

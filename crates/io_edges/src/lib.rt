@@ -11,9 +11,11 @@ mod sink;
 mod source;
 mod standard;
 mod sure;
+mod tries;
 
 pub use memory::{MemSink, MemSource};
 pub use sink::Sink;
 pub use source::{Failed, Source};
 pub use standard::{StdSink, StdSource};
 pub use sure::{SureSink, SureSource};
+pub use tries::TRIES_AGAIN;

@@ -1,12 +1,13 @@
 //! A source over a reader of std and a sink over a writer of std: the trusted edge. They count each
-//! error, and tell nothing of bytes.
+//! error, but for interruptions after which the call was made again, and tell nothing of bytes.
 ghost use Rattle.std.specs.Prelude.{◌≡◌, ◌+◌, None};
 ghost use Rattle.std.specs.Io.{ReadsAtMost};
-ghost use Rattle.std.specs.Io.KnownBytes.{ReadConsumes, WriteAppends};
+ghost use Rattle.std.specs.Io.KnownBytes.{ReadConsumes, WriteAppends, Keeps};
 ghost use Rattle.io_edges.specs.Causes.{HasCause, Counts};
 ghost use Rattle.io_edges.specs.TakenBytes.{WritesSome};
 
 use crate::empty::EmptyReads;
+use crate::tries::{flush_again, read_again, write_again};
 use crate::{Failed, Sink, Source};
 use std::io::{Read, Write};
 
@@ -52,7 +53,7 @@ impl<R: Read + Drop> Source for StdSource<R> {
 
     ghost empty_reads = { std_empty_reads };
 
-    // Each error of the reader is a fault.
+    // Each error of the reader is a fault; an interrupted read is made again first.
     fn read(&mut self, buf: &mut [u8]) -> Result<usize, Failed>
         ensures bound { ReadsAtMost result buf.new }
         ensures bytes { ReadConsumes None None result buf.new }
@@ -62,7 +63,7 @@ impl<R: Read + Drop> Source for StdSource<R> {
         ensures reader { ReadConsumes (R.remaining (reader_of self.old))
             (R.remaining (reader_of self.new)) result buf.new }
     {
-        match self.inner.read(buf) {
+        match read_again(&mut self.inner, buf) {
             Ok(count) => {
                 self.empty.count(count);
                 Ok(count)
@@ -119,7 +120,7 @@ impl<W: Write + Drop> Sink for StdSink<W> {
     ghost within = { λ s. nothing_told };
 
     // Each error of the writer is a fault, and so is a write that takes nothing of a piece that has
-    // a byte.
+    // a byte; an interrupted write is made again first.
     fn write(&mut self, piece: &[u8]) -> Result<usize, Failed>
         ensures some { WritesSome result piece.now }
         ensures bytes { WriteTakes None None result piece.now }
@@ -128,19 +129,20 @@ impl<W: Write + Drop> Sink for StdSink<W> {
         ensures writer { WriteAppends (W.contents (writer_of self.old))
             (W.contents (writer_of self.new)) result piece.now }
     {
-        match self.inner.write(piece) {
+        match write_again(&mut self.inner, piece) {
             Ok(count) if count > 0 || piece.is_empty() => Ok(count),
             _ => Err(Failed::counted(&mut self.faults)),
         }
     }
 
-    // Each error of the writer is a fault.
+    // Each error of the writer is a fault; an interrupted flush is made again first.
     fn flush(&mut self) -> Result<(), Failed>
         ensures bytes { FlushTells None None result }
         ensures cause { HasCause (std_sink_faults self.old) (std_sink_faults self.new) result }
         ensures counts { Counts (std_sink_faults self.old) (std_sink_faults self.new) result }
+        ensures writer { Keeps (W.contents (writer_of self.old)) (W.contents (writer_of self.new)) }
     {
-        match self.inner.flush() {
+        match flush_again(&mut self.inner) {
             Ok(()) => Ok(()),
             Err(_) => Err(Failed::counted(&mut self.faults)),
         }

@@ -31,7 +31,7 @@ fn does_first(alloc: Global, doing: Doing, list: &Tokens, db: &mut Database) -> 
         return false;
     }
     match doing {
-        Doing::Running => run_next(alloc, list, 0, 1_000_000, db).is_ok(),
+        Doing::Running => run_next(alloc, list, 0, false, 1_000_000, db).is_ok(),
         Doing::Checking => check_next(alloc, list, 0, db).is_ok(),
     }
 }

@@ -6,10 +6,13 @@ use sql_conditions::{Area, Condition, EngineCondition};
 use sql_values::Name;
 use std::test::Fail;
 
-// `run` with so many turns, and without a dump.
+// `run` with so many turns, and without its flags.
 fn run(budget: u32) -> Option<Command> {
-    let dump = false;
-    Some(Command::Run(RunOptions { budget, dump }))
+    Some(Command::Run(RunOptions {
+        budget,
+        dump: false,
+        plain: false,
+    }))
 }
 
 #[test]

@@ -1,5 +1,6 @@
 pub mod Apart
 pub mod Applying
+pub mod Chains
 pub mod Collapsing
 pub mod Growing
 pub mod Looked
@@ -7,4 +8,5 @@ pub mod Matching
 pub mod Opening
 pub mod Settled
 pub mod Stretched
+pub mod Taken
 pub mod Whole

@@ -1,4 +1,5 @@
 pub mod Answers
 pub mod Apart
 pub mod Applying
+pub mod Chains
 pub mod Passing

@@ -7,6 +7,7 @@ mod opened;
 mod outer;
 mod running;
 mod settling;
+mod taking;
 
 pub use collecting::{Answer, collect};
 pub use plan_rows::{Values, collect_values};

@@ -1,9 +1,9 @@
 //! psm runs a script of SQL and SQL/PSM from standard input, or checks each of its statements
 //! alone, or runs a script of its own, and writes its replies to standard output, and with `--dump`
-//! the tables behind them:
+//! the tables behind them; with `--plain` functions are run row by row, to the same replies:
 //!
 //! ```text
-//! psm run [--budget N] [--dump] <script
+//! psm run [--plain] [--budget N] [--dump] <script
 //! psm check <script
 //! psm demo --seed S --rows N
 //! ```

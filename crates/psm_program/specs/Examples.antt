@@ -1,6 +1,6 @@
 -- Worked rows of the definitions on replies and runs.
 use Rattle.std.specs.Prelude.{◌≡◌, ◌+◌, ◌*◌, nat_lt, if◌then◌else◌, ℕ, true, false, [], ◌∷◌, codes}
-use Rattle.std.specs.Prelude.{refl}
+use Rattle.std.specs.Prelude.{refl, Bool}
 use Rattle.psm_words.specs.declared.command.Command.TheVariants.{Run, Check, Demo}
 use Rattle.psm_effects.specs.Database.{Plain}
 use Rattle.psm_session.specs.Dump.{dump_text}
@@ -43,13 +43,14 @@ pub no_step : Runs doubles 3 40 [] 3 40
 no_step = (refl, refl)
 
 -- Without a dump nothing stands behind the replies,
-pub no_dump : (after : Plain) → ending (Run (record { budget = 5; dump = false })) after ≡ []
-no_dump after = refl
+pub no_dump : (plain : Bool) (after : Plain) →
+    ending (Run (record { budget = 5; dump = false; plain = plain })) after ≡ []
+no_dump plain after = refl
 
 -- with one the tables do,
-pub a_dump : (after : Plain) → ending (Run (record { budget = 5; dump = true })) after ≡
-    dump_text after
-a_dump after = refl
+pub a_dump : (plain : Bool) (after : Plain) →
+    ending (Run (record { budget = 5; dump = true; plain = plain })) after ≡ dump_text after
+a_dump plain after = refl
 
 -- and neither a check nor the demo has one.
 pub no_dump_of_demo : (after : Plain) → ending (Demo (record { seed = 0; rows = 2 })) after ≡ []

@@ -42,9 +42,18 @@ fn do_next(
     ensures err { OnErr result (db.new ≡ db.old) }
 {
     match command {
-        Command::Run(options) => run_next(alloc, list, at, u64::from(options.budget), db),
+        Command::Run(options) => {
+            run_next(
+                alloc,
+                list,
+                at,
+                options.plain,
+                u64::from(options.budget),
+                db,
+            )
+        }
         Command::Check => check_next(alloc, list, at, db),
-        Command::Demo(_) => run_next(alloc, list, at, u64::from(DEFAULT_BUDGET), db),
+        Command::Demo(_) => { run_next(alloc, list, at, false, u64::from(DEFAULT_BUDGET), db) }
     }
 }
 

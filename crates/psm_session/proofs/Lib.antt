@@ -8,3 +8,4 @@ pub mod Unread
 pub mod Calls
 pub mod Naming
 pub mod Dumped
+pub mod Planned

@@ -8,11 +8,22 @@ use Rattle.bind_direct.specs.declared.bound.Bound.TheVariants.{Delete, Query, Ex
 use Rattle.psm_effects.specs.Database.{Plain}
 use Rattle.psm_effects.specs.Effects.{Effect, created, dropped, inserted, updated, deleted}
 use Rattle.psm_effects.specs.Effects.{answered, routine_done, bound_alone}
+use Rattle.run_modes.specs.declared.mode.Mode.{Mode}
+use Rattle.run_modes.specs.Modes.{is_by_plan}
 
 -- whether a statement of this form is run; EXPLAIN is not yet
 abbrev pub is_run : Bound → Bool
 is_run (Explain query) = false
 is_run _ = true
+
+-- Whether a statement of which it is said whether plans answer it is done by them in a mode: so says
+-- the query that it asks, or that gives the rows of its change.
+abbrev pub by_plans : Mode → Bool → Bound → Bool
+by_plans mode by_plan (Insert s listed) = is_by_plan mode by_plan s.source
+by_plans mode by_plan (Update s) = is_by_plan mode by_plan s.rows
+by_plans mode by_plan (Delete s) = is_by_plan mode by_plan s.rows
+by_plans mode by_plan (Query query) = is_by_plan mode by_plan query
+by_plans mode by_plan _ = by_plan
 
 -- with so many turns
 abbrev pub effect : ℕ → Bound → Plain → Effect

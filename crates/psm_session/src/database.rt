@@ -18,7 +18,7 @@ ghost use Rattle.psm_session.specs.Dump.{dump_text};
 ghost use Rattle.psm_session.specs.Executing.{Executes, Checks, reply_to, refusal};
 
 use crate::dump::add_tables;
-use crate::effect::{check_bound, is_run, run_bound};
+use crate::effect::{check_bound, is_done_by_plans, is_run, run_bound};
 use bind_faults::{Fault, FaultKind};
 use bind_statements::{NameFault, anchor_of, bind_statement};
 use bound_trees::BoundQuery;
@@ -27,6 +27,7 @@ use plan_exec::Answer;
 use psm_effects::{Prepared, prepare_query, run_plan};
 use reply_text::{Dump, FaultText, Reply, fault_reply};
 use row_types::Steps;
+use run_modes::Mode;
 use sql_values::{Name, NoMemory};
 use statement_trees::Stmt;
 use std::alloc::Global;
@@ -162,11 +163,16 @@ impl Database {
         dump.into_reply()
     }
 
-    /// Does a statement with so many turns, and answers its reply. A statement with
-    /// faults in this catalog changes nothing, and its reply is the least of them; one of a form
-    /// that is not run changes nothing, and its reply says so at its anchor. Without memory nothing
-    /// changes either.
-    pub fn exec_statement(&mut self, stmt: &Stmt, budget: u64) -> Result<Reply, NoMemory>
+    /// Does a statement in a mode with so many turns, and answers its reply, which is the same in
+    /// both modes. A statement with faults in this catalog changes nothing, and its reply is the
+    /// least of them; one of a form that is not run changes nothing, and its reply says so at its
+    /// anchor. Without memory nothing changes either.
+    pub fn exec_statement(
+        &mut self,
+        stmt: &Stmt,
+        mode: Mode,
+        budget: u64,
+    ) -> Result<Reply, NoMemory>
         ensures ok { IfOk result (λ reply. Executes budget (judged_statement stmt.now self.old.catalog)
             (anchor_of stmt.now) self.old reply self.new) }
         ensures err { OnErr result (self.new ≡ self.old) }
@@ -175,10 +181,11 @@ impl Database {
         match bind_statement(self.alloc, stmt, &self.catalog) {
             Ok(found) => {
                 if is_run(&found.bound) {
+                    let by_plan = is_done_by_plans(mode, &found);
                     run_bound(
                         self.alloc,
                         found.bound,
-                        found.by_plan,
+                        by_plan,
                         budget,
                         &mut self.catalog,
                         &mut self.tables,

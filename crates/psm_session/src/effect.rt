@@ -1,18 +1,20 @@
 //! What a bound statement does.
 
 ghost use Rattle.std.specs.Prelude.{◌≡◌, true, IfOk, OnErr};
+ghost use Rattle.catalog_store.specs.Catalog.{Catalog as PlainCatalog};
 ghost use Rattle.row_types.specs.Tables.{names_of};
 ghost use Rattle.bind_statements.specs.Binds.{BoundFits, StatementFits};
 ghost use Rattle.viewing_laws.specs.Standing.{CallsStandBefore};
 ghost use Rattle.psm_effects.specs.Conclusions.{database, IsEffect};
 ghost use Rattle.psm_effects.specs.Shapes.{IsWhole};
-ghost use Rattle.psm_session.specs.Effects.{is_run as is_run_by, effect, checked};
+ghost use Rattle.psm_session.specs.Effects.{is_run as is_run_by, by_plans, effect, checked};
 
 use crate::names::{make, take_out};
 use bind_direct::{Bound, BoundStatement};
 use catalog_store::Catalog;
 use psm_effects::{run_delete, run_insert, run_query, run_routine, run_update};
 use reply_text::{Reply, done_reply};
+use run_modes::{Mode, is_by_plan};
 use sql_values::{Name, NoMemory};
 use std::alloc::Global;
 use std::mem::drop;
@@ -26,6 +28,29 @@ pub(crate) fn is_run(stmt: &Bound) -> bool
         Bound::Explain(_) => false,
         _ => true,
     }
+}
+
+// Whether a statement is done by plans in a mode, where it is said whether plans answer it: so says
+// the query that it asks, or that gives the rows of its change.
+fn is_asked_by_plan(mode: Mode, by_plan: bool, stmt: &Bound) -> bool
+    ensures { result ≡ by_plans mode by_plan stmt.now }
+{
+    match stmt {
+        Bound::Insert(insert, _) => is_by_plan(mode, by_plan, &insert.source),
+        Bound::Update(update) => is_by_plan(mode, by_plan, &update.rows),
+        Bound::Delete(delete) => is_by_plan(mode, by_plan, &delete.rows),
+        Bound::Query(query) => is_by_plan(mode, by_plan, query),
+        _ => by_plan,
+    }
+}
+
+/// Whether a bound statement is done by plans in a mode, which it then fits.
+pub(crate) fn is_done_by_plans(mode: Mode, stmt: &BoundStatement) -> bool
+    ensures exact { result ≡ by_plans mode stmt.now.by_plan stmt.now.bound }
+    ensures fits { (catalog : PlainCatalog) → StatementFits catalog stmt.now →
+        BoundFits catalog result stmt.now.bound }
+{
+    is_asked_by_plan(mode, stmt.by_plan, &stmt.bound)
 }
 
 /// Does a bound statement with so many turns, by plans where it is said that they answer it, and

@@ -13,4 +13,5 @@ pub use next::{check_next, run_next};
 pub use plan_exec::Answer;
 pub use psm_effects::Prepared;
 pub use reply_text::Reply;
+pub use run_modes::Mode;
 pub use typing::statements_are_typed;

@@ -9,6 +9,7 @@ use crate::Database;
 use grammar_algebra::ParseFault;
 use parse_statements::parse_statement;
 use reply_text::{FaultText, Reply, fault_reply};
+use run_modes::mode_of;
 use sql_lex::{Tokens, place};
 use sql_values::NoMemory;
 use std::alloc::Global;
@@ -31,15 +32,17 @@ fn unread(
     Ok((reply, tokens.len()))
 }
 
-/// Does the statement at a token with so many turns: its reply, and the token at which the next one
-/// begins, which is the number of tokens where the script ends. A statement with faults replies the least of them,
-/// changes nothing, and the script goes on after it. Where no statement is read, the reply says so
+/// Does the statement at a token with so many turns, in the plain mode where that is said: its
+/// reply, and the token at which the next one begins, which is the number of tokens where the script
+/// ends. All of this is the same in both modes. A statement with faults replies the least of them, changes nothing, and the script
+/// goes on after it. Where no statement is read, the reply says so
 /// with the place up to which one begins, nothing changes, and the script ends. Without memory
 /// nothing changes.
 pub fn run_next(
     alloc: Global,
     tokens: &Tokens,
     at: usize,
+    plain: bool,
     budget: u64,
     db: &mut Database,
 ) -> Result<(Reply, usize), NoMemory>
@@ -50,7 +53,7 @@ pub fn run_next(
 {
     match parse_statement(alloc, tokens, at) {
         Ok((stmt, next)) => {
-            let reply = db.exec_statement(&stmt, budget);
+            let reply = db.exec_statement(&stmt, mode_of(plain), budget);
             drop(stmt);
             Ok((reply?, next))
         }

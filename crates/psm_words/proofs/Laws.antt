@@ -28,7 +28,7 @@ use Rattle.clap.proofs.OnLiterals.{clap_on_literals}
 use Rattle.psm_words.proofs.Ends.{value_at_end}
 use Rattle.psm_words.proofs.Rows.{AllFit, first, second}
 use Rattle.psm_words.specs.Words.{IsTaken, budget, check, command_entered, command_of, demo}
-use Rattle.psm_words.specs.Words.{demo_options_of, dump, is_dumped, most_rows, most_u32, most_u64}
+use Rattle.psm_words.specs.Words.{demo_options_of, dump, has_flag, most_rows, most_u32, most_u64}
 use Rattle.psm_words.specs.Words.{number_of, number_up_to, psm, row_count, run, run_options_of, seed}
 use Rattle.psm_words.specs.Words.{unless_fault}
 use Rattle.psm_words.specs.declared.command.Command.{Command}
@@ -115,7 +115,7 @@ accepted_number least most greatest below (Some v) is =
 
 budget_fits : AllFit (filled budget) run_built.rules
 unfolding clap_on_literals
-budget_fits = ((refl, refl, λ is. refl), ((refl, refl, λ is. cc), tt))
+budget_fits = ((refl, refl, λ is. refl), ((refl, refl, λ is. cc), ((refl, refl, λ is. cc), tt)))
 
 seed_fits : AllFit (filled seed) demo_built.rules
 unfolding clap_on_literals
@@ -125,10 +125,10 @@ row_count_fits : AllFit (filled row_count) demo_built.rules
 unfolding clap_on_literals
 row_count_fits = ((refl, refl, λ is. cc), ((refl, refl, λ is. refl), tt))
 
-some_run : (o : Option ℕ) (dump : Bool) → is_some o ≡ true → is_some (option_map (λ r. Run r)
-    (option_map (λ n. record { budget = n; dump = dump }) o)) ≡ true
-some_run None dump is = cc
-some_run (Some n) dump is = refl
+some_run : (o : Option ℕ) (dump plain : Bool) → is_some o ≡ true → is_some (option_map (λ r. Run r)
+    (option_map (λ n. record { budget = n; dump = dump; plain = plain }) o)) ≡ true
+some_run None dump plain is = cc
+some_run (Some n) dump plain is = refl
 
 some_demo : (o p : Option ℕ) → is_some o ≡ true → is_some p ≡ true → is_some
     (option_map (λ d. Demo d) (option_and_then (λ s. option_map
@@ -142,7 +142,8 @@ run_is_some : (words : List Text) → level_fault run_built [] nothing_held word
     is_some (option_map (λ o. Run o) (run_options_of (rows_after run_built.rules [] words))) ≡ true
 run_is_some words none =
     let rows = rows_after run_built.rules [] words in
-    some_run (number_of most_u32 (codes "budget") rows) (is_dumped rows)
+    some_run (number_of most_u32 (codes "budget") rows) (has_flag (codes "dump") rows)
+    (has_flag (codes "plain") rows)
     (accepted_number 0 most_u32 most_u32 refl (first_of (codes "budget") rows)
     (value_at_end (filled budget) run_built budget_fits (inl refl) refl refl words none))
 

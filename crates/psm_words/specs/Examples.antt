@@ -10,11 +10,19 @@ use Rattle.psm_words.specs.declared.command.TheConstants.{DEFAULT_BUDGET}
 
 -- `run` with so many turns a statement, without a dump
 abbrev runs : ℕ → Command
-runs n = Run (record { budget = n; dump = false })
+runs n = Run (record { budget = n; dump = false; plain = false })
 
 -- and with one
 abbrev dumps : ℕ → Command
-dumps n = Run (record { budget = n; dump = true })
+dumps n = Run (record { budget = n; dump = true; plain = false })
+
+-- row by row
+abbrev plains : ℕ → Command
+plains n = Run (record { budget = n; dump = false; plain = true })
+
+-- and both
+abbrev plain_dumps : ℕ → Command
+plain_dumps n = Run (record { budget = n; dump = true; plain = true })
 
 -- `demo` with this seed and so many rows
 abbrev makes : ℕ → ℕ → Command
@@ -186,6 +194,56 @@ dump_of_check = refl
 pub dump_of_demo : command_of (codes "psm" ∷ codes "demo" ∷ codes "--seed" ∷ codes "0" ∷ codes "--rows" ∷ codes "1" ∷ codes "--dump" ∷ []) ≡ None
 unfolding clap_on_literals
 dump_of_demo = refl
+
+-- `--plain` is a flag of `run` too,
+pub plain_alone : command_of (codes "psm" ∷ codes "run" ∷ codes "--plain" ∷ []) ≡ Some (plains 1000000)
+unfolding clap_on_literals
+plain_alone = refl
+
+-- before a budget and a dump
+pub plain_before : command_of (codes "psm" ∷ codes "run" ∷ codes "--plain" ∷ codes "--budget" ∷ codes "5" ∷ codes "--dump" ∷ []) ≡ Some (plain_dumps 5)
+unfolding clap_on_literals
+plain_before = refl
+
+-- or behind them.
+pub plain_behind : command_of (codes "psm" ∷ codes "run" ∷ codes "--dump" ∷ codes "--budget=5" ∷ codes "--plain" ∷ []) ≡ Some (plain_dumps 5)
+unfolding clap_on_literals
+plain_behind = refl
+
+-- It stands once,
+pub plain_twice : command_of (codes "psm" ∷ codes "run" ∷ codes "--plain" ∷ codes "--plain" ∷ []) ≡ None
+unfolding clap_on_literals
+plain_twice = refl
+
+-- has no value,
+pub plain_equals : command_of (codes "psm" ∷ codes "run" ∷ codes "--plain=x" ∷ []) ≡ None
+unfolding clap_on_literals
+plain_equals = refl
+
+-- not even its own,
+pub plain_true : command_of (codes "psm" ∷ codes "run" ∷ codes "--plain=true" ∷ []) ≡ None
+unfolding clap_on_literals
+plain_true = refl
+
+-- is no budget,
+pub plain_for_budget : command_of (codes "psm" ∷ codes "run" ∷ codes "--budget" ∷ codes "--plain" ∷ []) ≡ None
+unfolding clap_on_literals
+plain_for_budget = refl
+
+-- stands behind `run`,
+pub plain_above : command_of (codes "psm" ∷ codes "--plain" ∷ codes "run" ∷ []) ≡ None
+unfolding clap_on_literals
+plain_above = refl
+
+-- and does not stand after `check`,
+pub plain_of_check : command_of (codes "psm" ∷ codes "check" ∷ codes "--plain" ∷ []) ≡ None
+unfolding clap_on_literals
+plain_of_check = refl
+
+-- nor after `demo`.
+pub plain_of_demo : command_of (codes "psm" ∷ codes "demo" ∷ codes "--seed" ∷ codes "0" ∷ codes "--rows" ∷ codes "1" ∷ codes "--plain" ∷ []) ≡ None
+unfolding clap_on_literals
+plain_of_demo = refl
 
 -- `demo` has a seed and a number of rows,
 pub seed_and_rows : command_of (codes "psm" ∷ codes "demo" ∷ codes "--seed" ∷ codes "7" ∷ codes "--rows" ∷ codes "20" ∷ []) ≡ Some (makes 7 20)

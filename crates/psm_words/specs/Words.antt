@@ -48,6 +48,10 @@ budget = record (new_rule (codes "budget")) {
 abbrev pub dump : Rule
 dump = record (new_rule (codes "dump")) { long = Some (codes "dump"); action = Some SetTrue }
 
+-- `--plain`, a flag
+abbrev pub plain : Rule
+plain = record (new_rule (codes "plain")) { long = Some (codes "plain"); action = Some SetTrue }
+
 -- `--seed S` and `--rows N`, options with a number in its range, which have to be given
 abbrev pub seed : Rule
 seed = record (new_rule (codes "seed")) {
@@ -63,9 +67,9 @@ row_count = record (new_rule (codes "rows")) {
   parser = Some (Unsigned 1 most_rows);
 }
 
--- `run`, with its option and its flag
+-- `run`, with its option and its flags
 abbrev pub run : App
-run = with_rule (with_rule (new_app (codes "run")) budget) dump
+run = with_rule (with_rule (with_rule (new_app (codes "run")) budget) dump) plain
 
 -- `check`, with no argument of its own
 abbrev pub check : App
@@ -97,15 +101,17 @@ number_up_to most text =
 abbrev pub number_of : ℕ → Text → List Row → Option ℕ
 number_of most id rows = option_and_then (number_up_to most) (first_of id rows)
 
--- whether these matches have the flag `--dump`
-abbrev pub is_dumped : List Row → Bool
-is_dumped rows =
-    option_map_or (λ text. bytes_eq text (codes "true")) (first_of (codes "dump") rows) false
+-- whether these matches have a flag
+abbrev pub has_flag : Text → List Row → Bool
+has_flag id rows = option_map_or (λ text. bytes_eq text (codes "true")) (first_of id rows) false
 
 -- the options of `run` that these matches have
 abbrev pub run_options_of : List Row → Option RunOptions
-run_options_of rows = option_map (λ n. record { budget = n; dump = is_dumped rows })
-    (number_of most_u32 (codes "budget") rows)
+run_options_of rows = option_map (λ n. record {
+  budget = n;
+  dump = has_flag (codes "dump") rows;
+  plain = has_flag (codes "plain") rows;
+}) (number_of most_u32 (codes "budget") rows)
 
 -- and those of `demo`
 abbrev pub demo_options_of : List Row → Option DemoOptions

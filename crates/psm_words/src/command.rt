@@ -1,7 +1,7 @@
 //! What the words ask for.
 ghost use Rattle.std.specs.Prelude.{◌≡◌};
 ghost use Rattle.clap.specs.Words.{found_of, rows_of};
-ghost use Rattle.psm_words.specs.Words.{command_entered, demo_options_of, is_dumped, most_u32};
+ghost use Rattle.psm_words.specs.Words.{command_entered, demo_options_of, has_flag, most_u32};
 ghost use Rattle.psm_words.specs.Words.{most_u64, number_of, run_options_of};
 
 use clap::ArgMatches;
@@ -27,6 +27,8 @@ pub struct RunOptions {
     pub budget: u32,
     /// Whether the tables are written after the replies.
     pub dump: bool,
+    /// Whether queries that call functions are run row by row, and the functions' bodies with them.
+    pub plain: bool,
 }
 
 /// Which script is made.
@@ -58,11 +60,11 @@ fn u64_in(matches: &ArgMatches, id: &str) -> Option<u64>
     }
 }
 
-// Whether the matches of `run` have the flag `--dump`.
-fn is_dump_in(matches: &ArgMatches) -> bool
-    ensures { result ≡ is_dumped (rows_of (found_of matches.now)) }
+// Whether the matches have this flag.
+fn is_flagged(matches: &ArgMatches, id: &str) -> bool
+    ensures { result ≡ has_flag id.now (rows_of (found_of matches.now)) }
 {
-    match matches.get_str("dump") {
+    match matches.get_str(id) {
         Some(text) => text == "true",
         None => false,
     }
@@ -73,8 +75,13 @@ fn run_options(matches: &ArgMatches) -> Option<RunOptions>
     ensures { result ≡ run_options_of (rows_of (found_of matches.now)) }
 {
     let budget = u32_in(matches, "budget")?;
-    let dump = is_dump_in(matches);
-    Some(RunOptions { budget, dump })
+    let dump = is_flagged(matches, "dump");
+    let plain = is_flagged(matches, "plain");
+    Some(RunOptions {
+        budget,
+        dump,
+        plain,
+    })
 }
 
 // The options that the matches of `demo` have.

@@ -2,7 +2,7 @@
 ghost use Rattle.std.specs.Prelude.{◌≡◌, IfOk, codes, false};
 ghost use Rattle.clap.specs.Words.{app_of, new_app, rule_of};
 ghost use Rattle.clap.specs.declared.builder.command.Command.TheViews.{out-Command};
-ghost use Rattle.psm_words.specs.Words.{budget, check, demo, dump, psm, row_count, run, seed};
+ghost use Rattle.psm_words.specs.Words.{budget, check, demo, dump, plain, psm, row_count, run, seed};
 ghost use Rattle.psm_words.specs.Words.{without_help};
 
 use clap::builder::ValueParser;
@@ -27,6 +27,16 @@ fn dump_arg<'a>(alloc: Global) -> Arg<'a>
 {
     Arg::new(alloc, "dump")
         .long("dump")
+        .action(ArgAction::SetTrue)
+}
+
+// `--plain`.
+fn plain_arg<'a>(alloc: Global) -> Arg<'a>
+    ensures rule { rule_of result ≡ plain }
+    ensures local { result.global ≡ false }
+{
+    Arg::new(alloc, "plain")
+        .long("plain")
         .action(ArgAction::SetTrue)
 }
 
@@ -59,7 +69,8 @@ fn run_command<'a>(alloc: Global) -> Result<Command<'a>, AllocError>
 {
     Command::new(alloc, "run")
         .arg(budget_arg(alloc))?
-        .arg(dump_arg(alloc))
+        .arg(dump_arg(alloc))?
+        .arg(plain_arg(alloc))
 }
 
 // `check`.

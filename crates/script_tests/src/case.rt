@@ -20,6 +20,8 @@ pub struct Case<'a> {
     pub keeps_database: bool,
     /// Whether the script's last line has no line feed.
     pub is_open: bool,
+    /// Whether it is run once, and not once more with `--plain`.
+    pub is_run_once: bool,
     /// Whether `\x` and two digits of base 16 stand for a byte.
     pub has_escapes: bool,
     /// Up to how many bytes the script goes on with spaces.
@@ -44,10 +46,17 @@ impl<'a> Case<'a> {
             room: ROOM,
             keeps_database: false,
             is_open: false,
+            is_run_once: false,
             has_escapes: false,
             size: 0,
             script,
         }
+    }
+
+    /// Whether the case runs a script by `run`, and does not choose a mode.
+    pub fn has_both_modes(&self) -> bool {
+        let is_run = self.words == "run" || self.words.starts_with("run ");
+        is_run && !self.is_run_once && !self.words.contains("--plain")
     }
 
     // Takes a header that has a number. Whether there is such a header.
@@ -71,6 +80,7 @@ impl<'a> Case<'a> {
             ("words", words) => self.words = words,
             ("database", "kept") => self.keeps_database = true,
             ("end", "no line feed") => self.is_open = true,
+            ("modes", "one") => self.is_run_once = true,
             ("bytes", "escaped") => self.has_escapes = true,
             (_, number) => match number.parse::<u64>() {
                 Ok(number) => return self.takes_number(key, number),

@@ -10,52 +10,76 @@
 //! ```
 //!
 //! A line `=== NAME` begins a case. Header lines come next, then a line `---`, then the script up
-//! to the next case. `case` says which header lines there are, `script` which bytes the source has,
-//! `ran` how a case is run, and `transcript` what is printed. README.md has it in whole.
+//! to the next case. Each case of `run` is run once more with `--plain`, over a database of its own,
+//! and has to leave the same. `case` says which header lines there are, `script` which bytes the
+//! source has, `ran` how a case is run, `modes` how in both modes, and `transcript` what is printed.
+//! README.md has it in whole.
 #![tactic(auto)]
 
 mod case;
+mod modes;
 mod ran;
 mod script;
 mod transcript;
 
-use case::read_section;
-use psm_session::Database;
-use ran::run_case;
+use case::{Case, read_section};
+use modes::{Databases, run_both};
 use std::alloc::{AllocError, Global};
 use std::io;
 use std::io::Write;
-use transcript::{push_name, push_outcome, push_unread};
+use transcript::{push_count, push_name, push_otherwise, push_outcome, push_unread};
 
-// Carries out the case of a section, and adds what is printed of it.
+// Runs a case in both modes, and adds what is printed of it.
+fn do_case(
+    alloc: Global,
+    case: Case<'_>,
+    dbs: &mut Databases,
+    transcript: &mut Vec<u8>,
+) -> Result<(), AllocError> {
+    if !case.keeps_database {
+        *dbs = Databases::new(alloc);
+    }
+    let both = run_both(alloc, case, dbs)?;
+    push_outcome(alloc, transcript, &both.stated)?;
+    match &both.otherwise {
+        Some(outcome) => push_otherwise(alloc, transcript, outcome),
+        None => Ok(()),
+    }
+}
+
+// Carries out the case of a section, and adds what is printed of it. Whether it has both modes.
 fn do_section(
     alloc: Global,
     section: &str,
-    db: &mut Database,
+    dbs: &mut Databases,
     transcript: &mut Vec<u8>,
-) -> Result<(), AllocError> {
+) -> Result<bool, AllocError> {
     let (name, case) = read_section(section);
     push_name(transcript, name)?;
     match case {
         Ok(case) => {
-            if !case.keeps_database {
-                *db = Database::new(alloc);
-            }
-            let outcome = run_case(alloc, case, db)?;
-            push_outcome(alloc, transcript, &outcome)
+            do_case(alloc, case, dbs, transcript)?;
+            Ok(case.has_both_modes())
         }
-        Err(line) => push_unread(transcript, line),
+        Err(line) => {
+            push_unread(transcript, line)?;
+            Ok(false)
+        }
     }
 }
 
-// The transcript of all cases of a text.
+// The transcript of all cases of a text, and how many of them were run in both modes.
 fn transcript_of(alloc: Global, text: &str) -> Result<Vec<u8>, AllocError> {
     let mut transcript = Vec::new(alloc);
-    let mut db = Database::new(alloc);
+    let mut dbs = Databases::new(alloc);
+    let mut count: u64 = 0;
     let cases = text.strip_suffix('\n').unwrap_or(text);
     for section in cases.split("\n=== ").skip(1) {
-        do_section(alloc, section, &mut db, &mut transcript)?;
+        if do_section(alloc, section, &mut dbs, &mut transcript)? {
+            count = count.saturating_add(1);
+        }
     }
+    push_count(alloc, &mut transcript, count)?;
     Ok(transcript)
 }
 

@@ -34,20 +34,28 @@ fn sink_of(alloc: Global, call: u64, per_call: usize, room: usize) -> Result<Mem
     MemSink::new(alloc, calls, per_call.max(1), room)
 }
 
-// The words of the command line.
-fn words_of<'a>(alloc: Global, case: Case<'a>) -> Result<Vec<&'a str>, AllocError> {
+// The words of the command line, with `--plain` behind the first, where that is asked for.
+fn words_of<'a>(alloc: Global, case: Case<'a>, is_plain: bool) -> Result<Vec<&'a str>, AllocError> {
     let mut words = Vec::new(alloc);
     words.push("psm")?;
     for word in case.words.split_whitespace() {
         words.push(word)?;
+        if is_plain && words.len() == 2 {
+            words.push("--plain")?;
+        }
     }
     Ok(words)
 }
 
-/// Runs the program as a case says, over a database. Memory that is refused before it starts, also
-/// for the room of the sinks, is no outcome of the case.
-pub fn run_case(alloc: Global, case: Case<'_>, db: &mut Database) -> Result<Outcome, AllocError> {
-    let words = words_of(alloc, case)?;
+/// Runs the program as a case says, with `--plain` where that is asked for, over a database. Memory
+/// that is refused before it starts, also for the room of the sinks, is no outcome of the case.
+pub fn run_case(
+    alloc: Global,
+    case: Case<'_>,
+    is_plain: bool,
+    db: &mut Database,
+) -> Result<Outcome, AllocError> {
+    let words = words_of(alloc, case, is_plain)?;
     let mut src = source_of(alloc, case)?;
     let mut out = sink_of(alloc, case.failing_write, case.writes, case.room)?;
     let mut err = sink_of(alloc, case.failing_error, case.writes, ROOM)?;

@@ -49,3 +49,19 @@ pub fn push_outcome(
     transcript.extend_from_slice(line.as_bytes())?;
     push_stream(transcript, outcome.err.bytes())
 }
+
+/// Adds what a case left with `--plain`, which is something else.
+pub fn push_otherwise(
+    alloc: Global,
+    transcript: &mut Vec<u8>,
+    outcome: &Outcome,
+) -> Result<(), AllocError> {
+    transcript.extend_from_slice(b"??? otherwise with --plain\n")?;
+    push_outcome(alloc, transcript, outcome)
+}
+
+/// Adds how many cases were run in both modes.
+pub fn push_count(alloc: Global, transcript: &mut Vec<u8>, count: u64) -> Result<(), AllocError> {
+    let line = format!(in alloc; "*** {count} cases in both modes\n")?;
+    transcript.extend_from_slice(line.as_bytes())
+}

@@ -1,0 +1,18 @@
+CREATE TABLE t (k INTEGER PRIMARY KEY, a INTEGER);
+INSERT INTO t VALUES (1,NULL),(2,10),(3,0);
+CREATE TABLE d (k INTEGER PRIMARY KEY, g INTEGER, v INTEGER, w VARCHAR(9));
+INSERT INTO d VALUES (1,1,5,'five'),(2,2,0,'none'),(3,1,7,'seven');
+SELECT t.k, SUM(d.v) AS s FROM t LEFT JOIN d ON d.g = t.k GROUP BY t.k ORDER BY s DESC;
+SELECT t.k, d.w FROM t LEFT JOIN d ON d.g > t.k AND 10 / (d.v - 5) <> 0;
+SELECT t.k, d.w FROM t LEFT JOIN d ON d.g > t.k;
+SELECT x.k, y.w, z.w FROM t AS x LEFT JOIN d AS y ON y.g = x.k LEFT JOIN d AS z ON z.k = y.v, t AS u WHERE u.k = 1;
+CREATE FUNCTION total (x INTEGER) RETURNS INTEGER RETURN (SELECT SUM(v) FROM d WHERE g = x);
+SELECT k, total(k), (SELECT MAX(w) FROM d WHERE g = t.k), k IN (SELECT g FROM d) FROM t WHERE EXISTS (SELECT 1 FROM d WHERE d.k = t.k);
+CREATE FUNCTION words (x INTEGER) RETURNS VARCHAR(40) BEGIN
+  DECLARE s VARCHAR(40) DEFAULT '';
+  FOR r AS SELECT q.w FROM (SELECT g, w FROM d) AS q (g, w) LEFT JOIN t ON t.k = q.g WHERE q.g = x DO SET s = s || w || ' '; END FOR;
+  RETURN s;
+END;
+SELECT k, words(k) FROM t ORDER BY k DESC;
+INSERT INTO t SELECT d.k + 10, t.a FROM d LEFT JOIN t ON t.k = d.g + 1;
+SELECT a, COUNT(*), MIN(k), AVG(k) FROM t GROUP BY a HAVING COUNT(*) > 0;
