@@ -2,11 +2,16 @@
 timed, both by a number n. A statement may be run several times over what was made."""
 
 KEYED = 20_000  # rows of the table that is changed by its key
+ASKED = 1_000  # rows of the tables that a query in a loop asks
 
 
 def rows(n):
     values = ",".join(f"({i},{i % 97})" for i in range(n))
     return f"CREATE TABLE t (k INTEGER PRIMARY KEY, a INTEGER);\nINSERT INTO t VALUES {values};\n"
+
+
+def two_tables(n):
+    return rows(n) + "CREATE TABLE u (k INTEGER PRIMARY KEY, b INTEGER);\nINSERT INTO u SELECT k, k FROM t;\n"
 
 
 def nothing(n):
@@ -196,6 +201,22 @@ ROUTINES = [
             "i := i + 1; BEGIN BEGIN UPDATE w SET a = i WHERE k = 1; EXCEPTION WHEN OTHERS THEN RAISE; END;\n"
             "EXCEPTION WHEN OTHERS THEN RAISE; END;"
         ),
+    ),
+    Work(
+        f"SELECT INTOs by key, over {ASKED} rows, in a loop",
+        10_000,
+        fixed(rows(ASKED)),
+        loop(f"SET i = i + 1; SET x = MOD(i * 7919, {ASKED}); SELECT a INTO y FROM t WHERE k = x;", "DECLARE x, y INTEGER; "),
+        fixed(rows(ASKED)),
+        pg_loop(f"i := i + 1; x := MOD(i * 7919, {ASKED}); SELECT a INTO y FROM t WHERE k = x;", "x BIGINT; y BIGINT; "),
+    ),
+    Work(
+        f"SELECT INTOs of a join of {ASKED} rows with {ASKED} by an equality, in a loop",
+        10_000,
+        fixed(two_tables(ASKED)),
+        loop("SET i = i + 1; SELECT COUNT(*) INTO x FROM t JOIN u ON t.a = u.k WHERE u.b <> i;", "DECLARE x INTEGER; "),
+        fixed(two_tables(ASKED)),
+        pg_loop("i := i + 1; SELECT COUNT(*) INTO x FROM t JOIN u ON t.a = u.k WHERE u.b <> i;", "x BIGINT; "),
     ),
     Work(
         f"UPDATEs by key, over {KEYED} rows",

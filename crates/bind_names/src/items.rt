@@ -5,7 +5,7 @@ ghost use Rattle.std.specs.List.{list_any};
 ghost use Rattle.bind_sight.specs.Sight as spec;
 
 use crate::hits::{moved, or_else, place_in_row, same, together};
-use bind_sight::{Hit, Item};
+use bind_sight::{Hit, Item, ItemList};
 use sql_values::{Name, NoMemory};
 use sqlite_items::Boxed;
 use syntax_trees::{ColumnName, Ident};
@@ -94,8 +94,8 @@ pub(crate) fn hides(qualifier: &Option<Boxed<Ident>>, items: &[Item]) -> bool
 }
 
 /// Whether an item has a name.
-pub fn any_named(name: &Name, items: &[Item]) -> bool
+pub fn any_named(name: &Name, items: &ItemList) -> bool
     ensures { result ≡ list_any (spec.is_named name.now) items.now }
 {
-    items.iter().any(|item| same(&item.name, name))
+    items.has_name(name)
 }

@@ -10,7 +10,7 @@ use crate::typed::{TypedQuery, TypedSource};
 use bind_faults::{Fault, FaultKind, Notes, note_if};
 use bind_kinds::{Kind, kind_of_type};
 use bind_names::{Join, any_named, keeps_unmatched, note_table};
-use bind_sight::{ColumnList, GroupingKey, Item, Level, Output, Sight};
+use bind_sight::{ColumnList, GroupingKey, Item, ItemList, Level, Output, Sight};
 use bound_trees::{BoundExpr, BoundFromItem, BoundSource};
 use catalog_store::{Catalog, Object};
 use row_types::{ColumnType, RowType};
@@ -23,7 +23,7 @@ use syntax_trees::{Anchor, Ident};
 /// the last comma begin at an item and at a column.
 #[derive(Drop)]
 pub struct Opened {
-    pub items: Items<Item>,
+    pub items: ItemList,
     pub first_item: usize,
     pub base: usize,
     pub width: usize,
@@ -228,7 +228,7 @@ pub fn nothing_open(alloc: Global) -> Opened
     ensures { result ≡ spec.nothing_open }
 {
     Opened {
-        items: Items::new(alloc),
+        items: ItemList::new(alloc),
         first_item: 0,
         base: 0,
         width: 0,
@@ -316,7 +316,7 @@ pub fn add_joined(
 }
 
 /// What is asked of an item: that none before it has its name.
-pub fn note_repeated(sourced: &TypedSource, items: &[Item], least: &mut Option<Fault>)
+pub fn note_repeated(sourced: &TypedSource, items: &ItemList, least: &mut Option<Fault>)
     ensures { least.new ≡ noted least.old (spec.repeated_item sourced.now items.now) }
 {
     let again = any_named(&sourced.name, items);
@@ -328,7 +328,7 @@ pub fn put_comma(so: &mut Opened, sourced: TypedSource, notes: &mut Notes) -> Re
     ensures value { OnOk result (so.new ≡ (spec.put_comma so.old sourced).value) }
     ensures notes { OnOk result (notes.new ≡ taken notes.old (spec.put_comma so.old sourced)) }
 {
-    note_repeated(&sourced, so.items.as_slice(), &mut notes.least);
+    note_repeated(&sourced, &so.items, &mut notes.least);
     begin(so);
     let source = add_item(so, sourced)?;
     add_from(so, BoundFromItem::Comma(source))
@@ -339,7 +339,7 @@ pub fn put_cross(so: &mut Opened, sourced: TypedSource, notes: &mut Notes) -> Re
     ensures value { OnOk result (so.new ≡ (spec.put_cross so.old sourced).value) }
     ensures notes { OnOk result (notes.new ≡ taken notes.old (spec.put_cross so.old sourced)) }
 {
-    note_repeated(&sourced, so.items.as_slice(), &mut notes.least);
+    note_repeated(&sourced, &so.items, &mut notes.least);
     let source = add_item(so, sourced)?;
     add_from(so, BoundFromItem::Cross(source))
 }

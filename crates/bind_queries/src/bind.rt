@@ -703,7 +703,7 @@ fn put_joined(
     ensures notes { OnOk result (notes.new ≡ taken notes.old
         (spec.put_joined join (inner condition.now) (seen_by outside.now) so.old sourced)) }
 {
-    note_repeated(&sourced, so.items.as_slice(), &mut notes.least);
+    note_repeated(&sourced, &so.items, &mut notes.least);
     let source = add_item(so, sourced)?;
     let conjuncts = bind_condition(alloc, condition, on_level(so), outside, notes)?;
     add_joined(so, join, source, conjuncts)

@@ -6,6 +6,7 @@ ghost use Rattle.bind_sight.specs.Examples.{NamesStandForOne, ItemsHide, GroupsB
 
 mod column_list;
 mod item;
+mod item_list;
 mod key;
 mod name_list;
 mod output;
@@ -14,6 +15,7 @@ mod sight;
 
 pub use column_list::ColumnList;
 pub use item::Item;
+pub use item_list::ItemList;
 pub use key::{GroupingKey, key_of};
 pub use name_list::NameList;
 pub use output::{Hit, Output, copied};

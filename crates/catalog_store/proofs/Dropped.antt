@@ -4,7 +4,8 @@ use Rattle.std.proofs.Common.{◌++◌, length, length-append, filter, None, Som
 use Rattle.std.proofs.Common.{subst, arith}
 use Rattle.std.specs.List.{list_any}
 use Rattle.std.specs.Str.{bytes_eq}
-use Rattle.std.specs.Map.{remove_entry}
+use Rattle.std.specs.Map.{lookup, remove_entry}
+use Rattle.std.specs.Option.{option_map}
 use Rattle.std.proofs.lemmas.List.Elements.{filter-append}
 use Rattle.catalog_store.specs.declared.entry.Object.{Object as HeldObject}
 use Rattle.catalog_store.specs.declared.entry.Object.TheVariants.{Table, Function as FunctionRecord}
@@ -14,18 +15,16 @@ use Rattle.catalog_store.specs.Catalog.{Object, Entry, Catalog, object_named}
 use Rattle.catalog_store.specs.Uses.{Uses, name_used, names_used, uses_in}
 use Rattle.catalog_store.specs.Entries.{object_of, entry_of, with_all, ObjectFits, Stands, AreSound}
 use Rattle.catalog_store.specs.Users.{mentions, is_user, users_of, without}
+use Rattle.catalog_store.specs.Using.{held_user}
 use Rattle.catalog_store.proofs.Named.{bytes_self, bytes_swap, other_bytes, named_kept, named_after}
+use Rattle.catalog_store.proofs.Named.{same_bytes}
 use Rattle.catalog_store.proofs.Named.{named_more, named_less, without_none, without_front}
 use Rattle.catalog_store.proofs.Named.{without_last}
 use Rattle.catalog_store.proofs.Sound.{Held, grown, SameStand, SameUses, same_stand_back}
-use Rattle.catalog_store.proofs.Sound.{same_object, same_fits}
+use Rattle.catalog_store.proofs.Sound.{same_object, same_fits, named_in_all}
 use Rattle.catalog_store.proofs.Trees.{Same, same_back}
 use Rattle.catalog_store.proofs.Lasting.{AgreeIn, AllLasting, lasting_more, planned_back}
 use Rattle.catalog_store.specs.Widths.{object_width, width_in}
-
--- an entry in memory that uses a name
-abbrev pub held_user : List ℕ → Held → Bool
-held_user name e = is_user name (entry_of [] e.0 e.1)
 
 one_or_none : (b : Bool) (e : Entry) → length (cond b (e ∷ []) []) ≡ cond b 1 0
 one_or_none true e = refl
@@ -231,3 +230,46 @@ dropped name known (e ∷ es) all none unused sound =
         let r = rest (named_more name known (entry_of known e.0 e.1) (bytes_swap e.0 name ∙ q) ∙
         none) in
         ((sound.0, sound.1, r.0), r.1)
+
+-- no entry has a name twice
+none_after : (name : List ℕ) (known : Catalog) (es : List Held) (o : Object) →
+    object_named name known ≡ Some o → AreSound known es → lookup (bytes_eq name) es ≡ None
+none_after name known [] o h sound = refl
+none_after name known (e ∷ es) o h sound =
+    by (bytes_eq name e.0) refl (none_after name (grown known e) es o
+    (named_kept name known (entry_of known e.0 e.1 ∷ []) o h) sound.2)
+  where
+    by : (b : Bool) → bytes_eq name e.0 ≡ b → lookup (bytes_eq name) es ≡ None →
+        cond b (Some e.1) (lookup (bytes_eq name) es) ≡ None
+    by true q rest =
+        let gone : object_named name known ≡ None =
+        subst (λ (n : List ℕ). object_named n known ≡ None) (sym (same_bytes name e.0 q)) sound.0 in
+        absurd cc
+    by false q rest = rest
+
+one_removed : (name : List ℕ) (known : Catalog) (es : List Held) → AreSound known es →
+    object_named name known ≡ None →
+    lookup (bytes_eq name) (remove_entry (bytes_eq name) es) ≡ None
+one_removed name known [] sound none = refl
+one_removed name known (e ∷ es) sound none =
+    by (bytes_eq name e.0) refl (λ k. one_removed name (grown known e) es sound.2 k)
+  where
+    by : (b : Bool) → bytes_eq name e.0 ≡ b →
+        (object_named name (grown known e) ≡ None →
+        lookup (bytes_eq name) (remove_entry (bytes_eq name) es) ≡ None) →
+        lookup (bytes_eq name) (cond b es (e ∷ remove_entry (bytes_eq name) es)) ≡ None
+    by true q rest = none_after name (grown known e) es (object_of known e.1)
+        (named_after name known (entry_of known e.0 e.1 ∷ []) none ∙
+        ap (λ (b : Bool). cond b (Some (object_of known e.1)) None) (bytes_swap e.0 name ∙ q))
+        sound.2
+    by false q rest = ap (λ c. cond c (Some e.1) (lookup (bytes_eq name)
+        (remove_entry (bytes_eq name) es))) q
+        ∙ rest (named_more name known (entry_of known e.0 e.1) (bytes_swap e.0 name ∙ q) ∙ none)
+
+-- the name that is taken out stands for nothing
+pub gone_from : (name : List ℕ) (es new : List Held) → AreSound [] es → AreSound [] new →
+    new ≡ remove_entry (bytes_eq name) es → object_named name (with_all [] new) ≡ None
+gone_from name es new sound left cut =
+    named_in_all name [] new left refl
+    ∙ ap (option_map (object_of (with_all [] new)))
+    (ap (lookup (bytes_eq name)) cut ∙ one_removed name [] es sound refl)

@@ -7,5 +7,8 @@ pub mod LastingTrees
 pub mod Lasting
 pub mod Planned
 pub mod Dropped
+pub mod Numbering
+pub mod Counting
+pub mod Noting
 pub mod Bound
 pub mod Laws

@@ -1,7 +1,7 @@
 -- Entries that are sound stand for the same seen by those before them and by all.
 use Rattle.std.proofs.Common.{◌≡◌, ℕ, ◌+◌, Bool, true, false, cond, List, [], ◌∷◌, ◌++◌, length}
 use Rattle.std.proofs.Common.{length-append, Option, None, Some, IsSome, refl, sym, ap, ◌∙◌, subst}
-use Rattle.std.proofs.Common.{arith}
+use Rattle.std.proofs.Common.{arith, Result, Ok, Err, OnOk, OnErr}
 use Rattle.std.specs.Option.{option_map}
 use Rattle.std.specs.Str.{bytes_eq}
 use Rattle.std.specs.Map.{lookup}
@@ -14,11 +14,9 @@ use Rattle.rel_algebra.specs.Plain.{planned_expr}
 use Rattle.catalog_store.specs.Catalog.{Object, TableObject, FunctionObject, Catalog, object_named}
 use Rattle.catalog_store.specs.Uses.{calls, reads, Uses, AllFit, uses_in, UsesStand}
 use Rattle.catalog_store.specs.Entries.{object_of, entry_of, with_all, ObjectFits, Stands, AreSound}
+pub use Rattle.catalog_store.specs.Using.{Held}
 use Rattle.catalog_store.proofs.Named.{bytes_swap, named_kept, named_after, named_more}
 use Rattle.catalog_store.proofs.Trees.{Same, same_tree, fit_in_both}
-
-abbrev pub Held : Type 0
-Held = List ℕ × HeldObject
 
 -- the catalog with one more entry
 abbrev pub grown : Catalog → Held → Catalog
@@ -207,3 +205,13 @@ pub sound_more : (name : List ℕ) (object : HeldObject) (es : List Held) → Ar
     AreSound [] (es ++ (name, object) ∷ [])
 sound_more name object es sound free stands =
     sound-append [] es ((name, object) ∷ []) sound (free, stands, tt)
+
+-- the same, where memory may have run out
+pub sound_added : {T E : Type 0} (name : List ℕ) (object : HeldObject) (es new : List Held)
+    (r : Result T E) → OnOk r (new ≡ es ++ (name, object) ∷ []) → OnErr r (new ≡ es) →
+    AreSound [] es → object_named name (with_all [] es) ≡ None → Stands (with_all [] es) object →
+    AreSound [] new
+sound_added name object es new (Ok x) ok err sound free stands =
+    subst (AreSound []) (sym ok) (sound_more name object es sound free stands)
+sound_added name object es new (Err y) ok err sound free stands = subst (AreSound []) (sym err)
+    sound

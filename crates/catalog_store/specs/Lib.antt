@@ -5,6 +5,8 @@ pub mod Widths
 pub mod Kept
 pub mod Entries
 pub mod Users
+pub mod Using
+pub mod Holding
 pub mod Planning
 pub mod Laws
 pub mod Codes

@@ -1,7 +1,7 @@
 //! The catalog: objects under one set of names, in the order of their making.
 
 ghost use Rattle.std.specs.Prelude.{◌≡◌, [], ◌∷◌, ◌++◌, length, None, IsSome, IfSome, MatchOption};
-ghost use Rattle.std.specs.Prelude.{OnOk, OnErr, IfErr, false, slice_get};
+ghost use Rattle.std.specs.Prelude.{OnOk, OnErr, IfErr};
 ghost use Rattle.std.specs.Option.{option_copied, option_map};
 ghost use Rattle.rel_algebra.specs.Tree.{Returned};
 ghost use Rattle.std.specs.List.{IsDistinct};
@@ -9,11 +9,11 @@ ghost use Rattle.std.specs.Str.{bytes_eq};
 ghost use Rattle.catalog_store.specs.Catalog.{names_of, object_named, routine_named, missing};
 ghost use Rattle.catalog_store.specs.Planning.{AllPlanned};
 ghost use Rattle.catalog_store.specs.Entries.{object_of, entry_of, ObjectFits, IsPlanned, IsNamed};
-ghost use Rattle.catalog_store.specs.Users.{mentions, is_user, users_of, without};
+ghost use Rattle.catalog_store.specs.Users.{users_of, without};
 ghost use Rattle.catalog_store.specs.View.{tree_of};
 
+use crate::numbered::Entries;
 use crate::{Object, RoutineRecord};
-use indexmap::IndexMap;
 use sql_values::Name;
 use std::alloc::{AllocFailed, Global};
 use std::marker::Model;
@@ -25,7 +25,7 @@ use std::marker::Model;
 /// without a plan and of a procedure, each name that the head lists stands for something before it.
 #[derive(Drop)]
 pub struct Catalog {
-    objects: IndexMap<Name, Object>,
+    entries: Entries,
 }
 
 impl Model for Catalog {
@@ -38,33 +38,11 @@ impl Model for Catalog {
 
     ghost use Rattle.std.specs.Prelude.{[]};
     ghost use Rattle.catalog_store.specs.Entries.{plain, AreSound};
+    ghost use Rattle.catalog_store.specs.Holding.{Holds, held};
 
-    ghost view = { λ c. plain c.objects.entries };
+    ghost view = { λ c. plain (held c.entries) };
 
-    ghost invariant = { λ c. AreSound [] c.objects.entries };
-}
-
-// Whether an object uses a name.
-fn mentions(object: &Object, name: &Name) -> bool
-    ensures { result ≡ mentions name.now (object_of [] object.now) }
-{
-    match object {
-        Object::Table(_) => false,
-        Object::Function(record) => record.head.uses.as_slice().contains(name),
-        Object::Interpreted(function) => function.head.uses.as_slice().contains(name),
-        Object::Procedure(procedure) => procedure.head.uses.as_slice().contains(name),
-    }
-}
-
-// Whether the entry at a place has another name, and uses this one.
-fn is_user(objects: &IndexMap<Name, Object>, place: usize, name: &Name) -> bool
-    ensures { IfSome (slice_get objects.now.entries place)
-        (λ e. result ≡ is_user name.now (entry_of [] e.0 e.1)) }
-{
-    match objects.get_index(place) {
-        Some((user, object)) => user != name && mentions(object, name),
-        None => false,
-    }
+    ghost invariant = { λ c. AreSound [] (held c.entries) × Holds c.entries };
 }
 
 impl Catalog {
@@ -73,7 +51,7 @@ impl Catalog {
         ensures { result ≡ [] }
     {
         Catalog {
-            objects: IndexMap::new(alloc),
+            entries: Entries::new(alloc),
         }
     }
 
@@ -84,7 +62,7 @@ impl Catalog {
         ensures names { IsDistinct bytes_eq (names_of self.now) }
         ensures planned { AllPlanned self.now }
     {
-        self.objects.len()
+        self.entries.len()
     }
 
     /// What a name stands for; `None` exactly where it stands for nothing.
@@ -94,7 +72,7 @@ impl Catalog {
         ensures fits { IfSome result (λ o. ObjectFits self.now o.now) }
         ensures planned { IfSome result (λ o. IsPlanned self.now o.now) }
     {
-        self.objects.get(name)
+        self.entries.get(name)
     }
 
     /// The function with a plan of a name; `None` where the name stands for none.
@@ -122,8 +100,7 @@ impl Catalog {
         ensures err { OnErr result (self.new ≡ self.old) }
         ensures returned { IfErr result (λ f. f.value ≡ (name, object)) }
     {
-        self.objects.insert(name, object)?;
-        Ok(())
+        self.entries.add(name, object)
     }
 
     /// Takes out the entry of a name that no other entry uses, so that no routine calls it, reads
@@ -134,19 +111,13 @@ impl Catalog {
         ensures entries { self.new ≡ without name.now self.old }
         ensures gone { object_named name.now self.new ≡ None }
     {
-        let _ = self.objects.shift_remove(name);
+        self.entries.remove(name);
     }
 
     /// How many other entries use a name.
     pub fn users_of(&self, name: &Name) -> usize
         ensures { result ≡ users_of name.now self.now }
     {
-        let mut users = 0;
-        for place in 0..self.objects.len() {
-            if is_user(&self.objects, place, name) {
-                users += 1;
-            }
-        }
-        users
+        self.entries.users_of(name)
     }
 }

@@ -4,6 +4,9 @@
 mod catalog;
 mod entry;
 mod names;
+mod numbered;
+mod user_set;
+mod users;
 
 pub use catalog::Catalog;
 pub use entry::{

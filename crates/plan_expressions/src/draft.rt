@@ -1,6 +1,7 @@
 //! A plan in the making: nodes are put over it one by one.
 
 ghost use Rattle.std.specs.Prelude.{◌≡◌, ◌+◌, length, Some, OnOk};
+ghost use Rattle.rel_algebra.specs.Joins.{places};
 ghost use Rattle.rel_algebra.specs.Plan.{extend, apply, anew, kind_width, filter, keep, cross};
 ghost use Rattle.rel_algebra.specs.Plan.{left_outer, settle, group, sort, unit_row, on_each, Nodes};
 ghost use Rattle.rel_algebra.specs.PlanView.{scalar_of, scalars_of, kind_of, aggregates_of};
@@ -8,7 +9,7 @@ ghost use Rattle.rel_algebra.specs.PlanView.{leaf_of, tree_of, run_of};
 ghost use Rattle.catalog_store.specs.Kept.{run_of as kept_run};
 ghost use Rattle.plan_expressions.specs.Drafts.{drafted, is_unit_row};
 
-use rel_algebra::{ApplyKind, Leaf, Node, Plan, Scalar};
+use rel_algebra::{ApplyKind, ColumnPlaces, Leaf, Node, Plan, Scalar};
 use row_types::{AggregateColumn, SortKey};
 use sql_values::NoMemory;
 use sqlite_items::{Boxed, Items};
@@ -122,7 +123,22 @@ impl Draft {
         ensures width { OnOk result ((drafted self.new).width ≡ length places) }
     {
         let columns = places.len();
-        self.plan.nodes.push(Node::Keep(places))?;
+        self.plan
+            .nodes
+            .push(Node::Keep(ColumnPlaces::listed(places)))?;
+        self.columns = columns;
+        Ok(())
+    }
+
+    /// A Keep more, of the first so many columns.
+    pub fn keep_front(&mut self, columns: usize) -> Result<(), NoMemory>
+        ensures tree { OnOk result ((drafted self.new).tree ≡ keep (places 0 columns)
+            (drafted self.old).tree) }
+        ensures width { OnOk result ((drafted self.new).width ≡ columns) }
+    {
+        self.plan
+            .nodes
+            .push(Node::Keep(ColumnPlaces::front(columns)))?;
         self.columns = columns;
         Ok(())
     }

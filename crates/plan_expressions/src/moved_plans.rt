@@ -64,7 +64,7 @@ fn moved_node(alloc: Global, shift: Shift, depth: usize, node: &Node) -> Result<
             let test = moved_scalar(alloc, shift, row, test)?;
             Ok(Node::Filter(test))
         }
-        Node::Keep(places) => Ok(Node::Keep(Items::from_slice(alloc, places.as_slice())?)),
+        Node::Keep(places) => Ok(Node::Keep(places.copied(alloc)?)),
         Node::Cross(right) => {
             let right = Boxed::new(alloc, moved_plan(alloc, shift, depth, right.get())?)?;
             Ok(Node::Cross(right))

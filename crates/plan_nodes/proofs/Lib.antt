@@ -1,6 +1,7 @@
 pub mod Grouped
 pub mod Laws
 pub mod MetPairs
+pub mod Moved
 pub mod Nodes
 pub mod Paired
 pub mod Picks

@@ -10,6 +10,7 @@ use Rattle.row_types.specs.declared.cell.Cell.TheVariants.{Val}
 use Rattle.rel_algebra.specs.declared.scalar.Scalar.{Scalar}
 use Rattle.rel_algebra.specs.declared.plan.Node.{Node}
 use Rattle.rel_algebra.specs.declared.plan.Node.TheVariants.{Extend, Keep}
+use Rattle.rel_algebra.specs.Joins.{places}
 use Rattle.rel_algebra.specs.Plan.{Sight, cell_at, cell_of, cells_of, cells_at}
 use Rattle.rel_algebra.specs.PlanView.{scalar_of, scalars_of}
 use Rattle.plan_scalars.specs.Sights.{sight_of}
@@ -121,3 +122,25 @@ cell_more row i cs ds c whole l h e k =
     ap (λ x. x ∷ drop (i + 1) row) (cell_is row i ∙ sym h) in
     ap (λ xs. xs ++ drop (i + 1) row) e ∙ (append_assoc cs (c ∷ []) (drop (i + 1) row) ∙
     (ap (λ xs. cs ++ xs) (sym at) ∙ k))
+
+-- one of the first cells more
+pub front_cell : (row : List Cell) (i n : ℕ) (so : List Cell) (x : Cell) (new whole : List Cell) →
+    i < n → x ≡ cell_at row i → new ≡ so ++ x ∷ [] →
+    so ++ cells_at row (places i (n - i)) ≡ whole →
+    new ++ cells_at row (places (i + 1) (n - (i + 1))) ≡ whole
+front_cell row i n so x new whole l e m k =
+    let up : i + 1 ≡ suc i = omega arith in
+    let less : n - i ≡ suc (n - (i + 1)) = omega (arith, l) in
+    let opened : places i (n - i) ≡ i ∷ places (i + 1) (n - (i + 1)) = ap (places i) less ∙
+    ap (λ s. i ∷ places s (n - (i + 1))) (sym up) in
+    ap (λ cs. cs ++ cells_at row (places (i + 1) (n - (i + 1))))
+    (m ∙ ap (λ c. so ++ c ∷ []) e)
+    ∙ (append_assoc so (cell_at row i ∷ []) (cells_at row (places (i + 1) (n - (i + 1))))
+    ∙ (ap (λ ps. so ++ cells_at row ps) (sym opened) ∙ k))
+
+pub no_cell : (row : List Cell) (i n : ℕ) (so whole : List Cell) → n ≤ i →
+    so ++ cells_at row (places i (n - i)) ≡ whole → so ≡ whole
+no_cell row i n so whole l k =
+    let none : n - i ≡ 0 = omega (arith, l) in
+    sym (append-nil so)
+    ∙ (ap (λ m. so ++ cells_at row (places i m)) (sym none) ∙ k)

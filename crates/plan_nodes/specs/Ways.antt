@@ -3,11 +3,12 @@ use Rattle.std.specs.Prelude.{List, ◌++◌}
 use Rattle.sql_values.specs.declared.value.Value.{Value}
 use Rattle.row_types.specs.declared.cell.Cell.{Cell}
 use Rattle.row_types.specs.Cells.{PlanRow}
+use Rattle.rel_algebra.specs.Joins.{places}
 use Rattle.rel_algebra.specs.Plan.{cells_of, cells_at, each}
 use Rattle.rel_algebra.specs.PlanView.{scalars_of}
 use Rattle.plan_scalars.specs.Sights.{sight_of}
 use Rattle.plan_nodes.specs.declared.last.Last.{Last}
-use Rattle.plan_nodes.specs.declared.last.Last.TheVariants.{Whole, Picked}
+use Rattle.plan_nodes.specs.declared.last.Last.TheVariants.{Whole, Picked, Front}
 use Rattle.plan_nodes.specs.declared.last.Way.{Way}
 use Rattle.plan_nodes.specs.Fates.{RowOutcome, Stays, fate, fate_rows, go_on}
 
@@ -16,6 +17,7 @@ abbrev pub last_cells : Last → List Cell → List (List Cell) → List Value �
 last_cells Whole row outer args = row
 last_cells (Picked scalars places) row outer args =
     cells_at (row ++ cells_of (scalars_of scalars.now) (sight_of row outer args)) places.now
+last_cells (Front count) row outer args = cells_at row (places 0 count)
 
 -- what becomes of a row on a way
 abbrev pub way_fate : Way → List Cell → List (List Cell) → List Value → RowOutcome

@@ -137,8 +137,8 @@ fn handed_on(alloc: Global, rows: Items<Row>) -> Result<RowList, NoMemory>
     listed_back(alloc, turned)
 }
 
-// The same rows, the last first.
-fn turned(alloc: Global, rows: Items<Row>) -> Result<Items<Row>, NoMemory>
+/// The same rows, the last first.
+pub(crate) fn turned(alloc: Global, rows: Items<Row>) -> Result<Items<Row>, NoMemory>
     ensures { IfOk result (λ out. out ≡ reverse rows) }
 {
     let mut left = rows;

@@ -8,6 +8,8 @@ ghost use Rattle.row_types.specs.declared.cell.Cell.{Cell as PlainCell};
 ghost use Rattle.row_types.specs.declared.cell.Cell.TheVariants.{Val};
 ghost use Rattle.row_types.specs.Cells.{Whole as WholeRow};
 ghost use Rattle.row_types.specs.OuterRows.{outer_rows};
+ghost use Rattle.rel_algebra.specs.Joins.{places};
+ghost use Rattle.rel_algebra.specs.PlaceForms.{kept_places};
 ghost use Rattle.rel_algebra.specs.Plan.{cell_at, cells_of, cells_at};
 ghost use Rattle.rel_algebra.specs.PlanView.{scalars_of};
 ghost use Rattle.rel_algebra.specs.declared.plan.Node.TheVariants.{Extend, Keep};
@@ -18,7 +20,7 @@ ghost use Rattle.plan_nodes.specs.Ways.{last_cells, way_fate};
 use crate::scratch::Scratch;
 use plan_rows::{own_cell, take_value};
 use plan_scalars::eval_on;
-use rel_algebra::{Node, Scalar};
+use rel_algebra::{KeptPlaces, Node, Scalar};
 use row_types::{Cell, Outer, PlanRow, RowInSight, ValuesInSight, gathered};
 use sql_values::{NoMemory, Value};
 use sqlite_items::Items;
@@ -31,6 +33,8 @@ pub enum Last<'a> {
     Whole,
     /// They are the cells at these places of the row with the cells of these scalars after its own.
     Picked(&'a [Scalar], &'a [usize]),
+    /// They are the first so many of its own.
+    Front(usize),
 }
 
 /// The way of a row: nodes, and how it then gets its final cells.
@@ -47,12 +51,27 @@ impl<'a> Way<'a> {
             fate nodes.now row outer args ≡ way_fate result row outer args }
     {
         match last_places(nodes) {
-            Some(places) => before_keep(without_last(nodes), places),
+            Some(places) => with_places(without_last(nodes), places),
             None => Way {
                 nodes,
                 last: Last::Whole,
             },
         }
+    }
+}
+
+// The way through nodes and then a Keep of places that are kept so.
+fn with_places<'a>(nodes: &'a [Node], places: KeptPlaces<'a>) -> Way<'a>
+    ensures { (row : List PlainCell) (outer : List (List PlainCell)) (args : List PlainValue) →
+        go_on (fate nodes.now row outer args) (λ r. Stays (cells_at r (kept_places places.entry)))
+        ≡ way_fate result row outer args }
+{
+    match places {
+        KeptPlaces::Listed(list) => before_keep(nodes, list),
+        KeptPlaces::Front(count) => Way {
+            nodes,
+            last: Last::Front(count),
+        },
     }
 }
 
@@ -75,12 +94,12 @@ fn before_keep<'a>(nodes: &'a [Node], places: &'a [usize]) -> Way<'a>
 }
 
 // The places of the last node, where it is a Keep.
-fn last_places(nodes: &[Node]) -> Option<&[usize]>
+fn last_places(nodes: &[Node]) -> Option<KeptPlaces>
     ensures { IfSome result (λ places. slice_get nodes.now (length nodes.now - 1) ≡
-        Some (Keep places.now)) }
+        Some (Keep (kept_places places))) }
 {
     match nodes.last()? {
-        Node::Keep(places) => Some(places.as_slice()),
+        Node::Keep(places) => Some(places.as_kept()),
         _ => None,
     }
 }
@@ -129,6 +148,16 @@ pub fn finished(
             }
             picked_cells(alloc, scalars, places, front, scratch, outer, args)
         }
+        Last::Front(count) => {
+            let (first, second) = front.slices();
+            let values = ValuesInSight::of_pair(first, second);
+            let row = RowInSight::over(&values, scratch.cells.as_slice());
+            let mut values = Vec::with_capacity(alloc, *count)?;
+            if front_values(&mut values, alloc, *count, &row)? {
+                return Ok(PlanRow::of_values(Items::from_vec(values)));
+            }
+            front_cells(alloc, *count, front, scratch)
+        }
     }
 }
 
@@ -164,7 +193,41 @@ pub fn work_out(
                 args,
             )
         }
+        Last::Front(count) => front_values(&mut scratch.values, alloc, *count, &row),
     }
+}
+
+// The first so many cells of a row.
+fn front_cells(
+    alloc: Global,
+    count: usize,
+    front: &ValuesInSight,
+    scratch: &mut Scratch,
+) -> Result<PlanRow, NoMemory>
+    ensures { IfOk result (λ r. r ≡ WholeRow (cells_at
+        (map Val front.now ++ scratch.old.cells.items) (places 0 count))) }
+{
+    scratch.keep_front(alloc, count, front)?;
+    gathered(alloc, &ValuesInSight::none(), scratch.cells.as_mut_slice())
+}
+
+// Adds the values of the first so many cells of a row, where each is one. `false` says nothing.
+fn front_values(
+    values: &mut Vec<Value>,
+    alloc: Global,
+    count: usize,
+    row: &RowInSight,
+) -> Result<bool, NoMemory>
+    ensures { IfOk result (λ all. all ≡ true →
+        map Val values.new.items ≡ map Val values.old.items ++ cells_at row.now (places 0 count)) }
+{
+    for place in 0..count {
+        let cell = own_cell(alloc, row, place)?;
+        if !take_value(values, cell)? {
+            return Ok(false);
+        }
+    }
+    Ok(true)
 }
 
 // The cells at places of a row with the cells of scalars after its own.

@@ -9,6 +9,7 @@ mod joined;
 mod last;
 mod leaves;
 mod lists;
+mod moved_pairs;
 mod pairs;
 mod pass;
 mod received;

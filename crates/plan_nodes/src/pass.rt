@@ -57,7 +57,7 @@ pub fn pass<'a>(
                 }
             }
             Node::Keep(places) => {
-                scratch.keep(alloc, places.as_slice(), &front)?;
+                scratch.keep_places(alloc, places, &front)?;
                 front = ValuesInSight::none();
             }
             _ => {}

@@ -54,8 +54,8 @@ impl Received {
         nothing_for(alloc, &nodes[0])
     }
 
-    // Whether it is a list of no rows. `false` says nothing.
-    fn is_empty_list(&self) -> bool
+    /// Whether it is a list of no rows. `false` says nothing.
+    pub(crate) fn is_empty_list(&self) -> bool
         ensures { result ≡ true → self.now ≡ Rows [] }
     {
         match self {

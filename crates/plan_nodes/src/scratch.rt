@@ -3,13 +3,14 @@
 ghost use Rattle.std.specs.Prelude.{◌≡◌, ◌++◌, [], map, OnOk};
 ghost use Rattle.row_types.specs.declared.cell.Cell.TheVariants.{Val};
 ghost use Rattle.row_types.specs.OuterRows.{outer_rows};
+ghost use Rattle.rel_algebra.specs.Joins.{places as first_places};
 ghost use Rattle.rel_algebra.specs.Plan.{cells_of, cells_at};
 ghost use Rattle.rel_algebra.specs.PlanView.{scalars_of};
 ghost use Rattle.plan_scalars.specs.Sights.{sight_of};
 
 use plan_rows::own_cell;
 use plan_scalars::eval_on;
-use rel_algebra::Scalar;
+use rel_algebra::{ColumnPlaces, KeptPlaces, Scalar};
 use row_types::{Cell, Outer, RowInSight, ValuesInSight};
 use sql_values::{NoMemory, Value};
 use std::alloc::Global;
@@ -79,6 +80,41 @@ impl Scratch {
         swap(&mut self.cells, &mut self.spare);
         Ok(())
     }
+
+    /// The same of the first so many cells.
+    pub fn keep_front(
+        &mut self,
+        alloc: Global,
+        count: usize,
+        values: &ValuesInSight,
+    ) -> Result<(), NoMemory>
+        ensures { OnOk result (self.new.cells.items ≡ cells_at
+            (map Val values.now ++ self.old.cells.items) (first_places 0 count)) }
+    {
+        self.spare.clear();
+        let (first, second) = values.slices();
+        let values = ValuesInSight::of_pair(first, second);
+        let row = RowInSight::over(&values, self.cells.as_slice());
+        pick_front(&mut self.spare, alloc, count, &row)?;
+        swap(&mut self.cells, &mut self.spare);
+        Ok(())
+    }
+
+    /// Keeps the cells that a Keep keeps.
+    pub fn keep_places(
+        &mut self,
+        alloc: Global,
+        places: &ColumnPlaces,
+        values: &ValuesInSight,
+    ) -> Result<(), NoMemory>
+        ensures { OnOk result (self.new.cells.items ≡ cells_at
+            (map Val values.now ++ self.old.cells.items) places.now) }
+    {
+        match places.as_kept() {
+            KeptPlaces::Listed(list) => self.keep(alloc, list, values),
+            KeptPlaces::Front(count) => self.keep_front(alloc, count, values),
+        }
+    }
 }
 
 // Adds the cells of scalars, each of which is read on the row as it came.
@@ -115,6 +151,22 @@ fn pick(
 {
     for place in places {
         cells.push(own_cell(alloc, row, *place)?)?;
+    }
+    Ok(())
+}
+
+// Adds the first so many cells of a row.
+fn pick_front(
+    cells: &mut Vec<Cell>,
+    alloc: Global,
+    count: usize,
+    row: &RowInSight,
+) -> Result<(), NoMemory>
+    ensures { OnOk result (cells.new.items ≡ cells.old.items ++ cells_at row.now
+        (first_places 0 count)) }
+{
+    for place in 0..count {
+        cells.push(own_cell(alloc, row, place)?)?;
     }
     Ok(())
 }

@@ -14,7 +14,7 @@ mod selects;
 mod values;
 
 pub use functions::{plan_function, with_plan};
-pub use plans::plan_query;
+pub use plans::{plan_query, plan_within};
 
 /// The plans of worked queries over joined tables, commas and derived tables (ISO/IEC 9075-2, 7.5
 /// and 7.10), and in an order.

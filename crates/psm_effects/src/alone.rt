@@ -15,6 +15,7 @@ ghost use Rattle.psm_effects.specs.Effects.{ended, given_text, replied};
 use crate::conclude::{conclude, stop_reply};
 use bound_trees::{BoundCall, BoundQuery, BoundStmt};
 use catalog_store::Catalog;
+use kept_queries::KeptPlans;
 use reply_text::{Reply, done_reply, records_reply};
 use run_expressions::{Stop, World};
 use run_outcomes::Outcome;
@@ -27,15 +28,17 @@ pub(crate) fn ask_in(
     query: &BoundQuery,
     world: &mut World,
     catalog: &Catalog,
+    kept: &KeptPlans,
 ) -> Result<Reply, NoMemory>
     requires calls { CallsStandBefore catalog.now }
+    requires kept { kept.now ≡ catalog.now }
     ensures ok { IfOk result (λ r. IsEffect (replied rows_text (database catalog.now world.old.memory)
         (ask (query_in (no_routine catalog.now) query.now) (plain_world world.old))) r (database catalog.now world.new.memory)) }
     ensures err { OnErr result (world.new.memory.tables ≡ world.old.memory.tables) }
     ensures shapes { KeepsShapes world.old.memory world.new.memory }
 {
     let mark = world.mark();
-    match run_query(query, world, catalog) {
+    match run_query(query, world, catalog, kept) {
         Ok(rows) => {
             let reply = records_reply(world.allocator(), rows.as_slice());
             drop(rows);
@@ -50,8 +53,10 @@ pub(crate) fn call_in(
     call: &BoundCall,
     world: &mut World,
     catalog: &Catalog,
+    kept: &KeptPlans,
 ) -> Result<Reply, NoMemory>
     requires calls { CallsStandBefore catalog.now }
+    requires kept { kept.now ≡ catalog.now }
     ensures ok { IfOk result (λ r. IsEffect (replied given_text (database catalog.now world.old.memory)
         (run_call (routines_of catalog.now call.now.procedure)
         (arguments (no_routine catalog.now) call.now.arguments) (plain_world world.old))) r (database catalog.now world.new.memory)) }
@@ -59,7 +64,7 @@ pub(crate) fn call_in(
     ensures shapes { KeepsShapes world.old.memory world.new.memory }
 {
     let mark = world.mark();
-    match call_alone(call, world, catalog) {
+    match call_alone(call, world, catalog, kept) {
         Ok(values) => {
             let reply = done_reply(world.allocator(), values.as_slice(), None);
             drop(values);
@@ -85,15 +90,17 @@ pub(crate) fn run_in(
     stmt: &BoundStmt,
     world: &mut World,
     catalog: &Catalog,
+    kept: &KeptPlans,
 ) -> Result<Reply, NoMemory>
     requires calls { CallsStandBefore catalog.now }
+    requires kept { kept.now ≡ catalog.now }
     ensures ok { IfOk result (λ r. IsEffect (ended (database catalog.now world.old.memory)
         (run (stmt_in (no_routine catalog.now) stmt.now []) (plain_world world.old))) r (database catalog.now world.new.memory)) }
     ensures err { OnErr result (world.new.memory.tables ≡ world.old.memory.tables) }
     ensures shapes { KeepsShapes world.old.memory world.new.memory }
 {
     let mark = world.mark();
-    match run_alone(stmt, world, catalog) {
+    match run_alone(stmt, world, catalog, kept) {
         Ok(outcome) => match stop_of(outcome) {
             Some(stop) => stop_reply(stop, mark, world),
             None => conclude(done_reply(world.allocator(), &[], None), mark, world),

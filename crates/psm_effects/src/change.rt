@@ -16,6 +16,7 @@ use crate::conclude::{conclude, stop_reply};
 use crate::planned::planned_answer;
 use bound_trees::{BoundDelete, BoundInsert, BoundQuery, BoundUpdate};
 use catalog_store::Catalog;
+use kept_queries::KeptPlans;
 use plan_exec::Answer;
 use reply_text::{Reply, done_reply};
 use row_types::{RowList, Steps};
@@ -89,15 +90,21 @@ fn make<L: Ledger>(
 }
 
 // Makes a change of the rows of its query, row by row.
-fn make_alone(change: Change<'_>, world: &mut World, catalog: &Catalog) -> Result<u64, Stop>
+fn make_alone(
+    change: Change<'_>,
+    world: &mut World,
+    catalog: &Catalog,
+    kept: &KeptPlans,
+) -> Result<u64, Stop>
     requires calls { CallsStandBefore catalog.now }
+    requires kept { kept.now ≡ catalog.now }
     ensures { Ended world.old world.new result
         (change_of change.entry catalog.now (plain_world world.old)) }
 {
     match change {
-        Change::Insert(insert, listed) => insert_alone(insert, listed, world, catalog),
-        Change::Update(update) => update_alone(update, world, catalog),
-        Change::Delete(delete) => delete_alone(delete, world, catalog),
+        Change::Insert(insert, listed) => insert_alone(insert, listed, world, catalog, kept),
+        Change::Update(update) => update_alone(update, world, catalog, kept),
+        Change::Delete(delete) => delete_alone(delete, world, catalog, kept),
     }
 }
 
@@ -107,10 +114,12 @@ fn made_by<L: Ledger>(
     by_plan: bool,
     world: &mut World,
     catalog: &Catalog,
+    kept: &KeptPlans,
     steps: &mut Steps<L>,
 ) -> Result<u64, Stop>
     requires whole { IsWhole (database catalog.now world.old.memory) }
     requires calls { CallsStandBefore catalog.now }
+    requires kept { kept.now ≡ catalog.now }
     requires fits { PlanFits by_plan catalog.now (rows_query change) }
     ensures { Ended world.old world.new result
         (change_of change.entry catalog.now (plain_world world.old)) }
@@ -118,7 +127,7 @@ fn made_by<L: Ledger>(
     if by_plan {
         make(change, world, catalog, steps)
     } else {
-        make_alone(change, world, catalog)
+        make_alone(change, world, catalog, kept)
     }
 }
 
@@ -129,10 +138,12 @@ pub(crate) fn change_in<L: Ledger>(
     by_plan: bool,
     world: &mut World,
     catalog: &Catalog,
+    kept: &KeptPlans,
     steps: &mut Steps<L>,
 ) -> Result<Reply, NoMemory>
     requires whole { IsWhole (database catalog.now world.old.memory) }
     requires calls { CallsStandBefore catalog.now }
+    requires kept { kept.now ≡ catalog.now }
     requires fits { PlanFits by_plan catalog.now (rows_query change) }
     ensures ok { IfOk result (λ r. IsEffect (replied changed_text (database catalog.now world.old.memory)
         (change_of change.entry catalog.now (plain_world world.old))) r (database catalog.now world.new.memory)) }
@@ -140,7 +151,7 @@ pub(crate) fn change_in<L: Ledger>(
     ensures shapes { KeepsShapes world.old.memory world.new.memory }
 {
     let mark = world.mark();
-    match made_by(change, by_plan, world, catalog, steps) {
+    match made_by(change, by_plan, world, catalog, kept, steps) {
         Ok(count) => conclude(done_reply(world.allocator(), &[], Some(count)), mark, world),
         Err(stop) => stop_reply(stop, mark, world),
     }

@@ -16,6 +16,7 @@ use crate::task::Task;
 use crate::world::do_task;
 use bound_trees::{BoundDelete, BoundInsert, BoundQuery, BoundStmt, BoundUpdate};
 use catalog_store::Catalog;
+use kept_queries::KeptPlans;
 use reply_text::Reply;
 use sql_values::NoMemory;
 use sqlite_items::Items;
@@ -31,10 +32,12 @@ pub fn run_insert(
     by_plan: bool,
     budget: u64,
     catalog: &Catalog,
+    kept: &KeptPlans,
     tables: &mut Tables,
 ) -> Result<Reply, NoMemory>
     requires whole { IsWhole (database catalog.now tables.old) }
     requires calls { CallsStandBefore catalog.now }
+    requires kept { kept.now ≡ catalog.now }
     requires fits { PlanFits by_plan catalog.now insert.now.source }
     ensures ok { IfOk result (λ r. IsEffect
         (inserted budget insert.now listed.now (database catalog.now tables.old)) r
@@ -48,6 +51,7 @@ pub fn run_insert(
         by_plan,
         budget,
         catalog,
+        kept,
         tables,
     )
 }
@@ -59,10 +63,12 @@ pub fn run_update(
     by_plan: bool,
     budget: u64,
     catalog: &Catalog,
+    kept: &KeptPlans,
     tables: &mut Tables,
 ) -> Result<Reply, NoMemory>
     requires whole { IsWhole (database catalog.now tables.old) }
     requires calls { CallsStandBefore catalog.now }
+    requires kept { kept.now ≡ catalog.now }
     requires fits { PlanFits by_plan catalog.now update.now.rows }
     ensures ok { IfOk result (λ r. IsEffect (updated budget update.now (database catalog.now tables.old)) r
         (database catalog.now tables.new)) }
@@ -75,6 +81,7 @@ pub fn run_update(
         by_plan,
         budget,
         catalog,
+        kept,
         tables,
     )
 }
@@ -86,10 +93,12 @@ pub fn run_delete(
     by_plan: bool,
     budget: u64,
     catalog: &Catalog,
+    kept: &KeptPlans,
     tables: &mut Tables,
 ) -> Result<Reply, NoMemory>
     requires whole { IsWhole (database catalog.now tables.old) }
     requires calls { CallsStandBefore catalog.now }
+    requires kept { kept.now ≡ catalog.now }
     requires fits { PlanFits by_plan catalog.now delete.now.rows }
     ensures ok { IfOk result (λ r. IsEffect (deleted budget delete.now (database catalog.now tables.old)) r
         (database catalog.now tables.new)) }
@@ -102,6 +111,7 @@ pub fn run_delete(
         by_plan,
         budget,
         catalog,
+        kept,
         tables,
     )
 }
@@ -113,17 +123,27 @@ pub fn run_query(
     by_plan: bool,
     budget: u64,
     catalog: &Catalog,
+    kept: &KeptPlans,
     tables: &mut Tables,
 ) -> Result<Reply, NoMemory>
     requires whole { IsWhole (database catalog.now tables.old) }
     requires calls { CallsStandBefore catalog.now }
+    requires kept { kept.now ≡ catalog.now }
     requires fits { PlanFits by_plan catalog.now query.now }
     ensures ok { IfOk result (λ r. IsEffect (answered budget query.now (database catalog.now tables.old)) r
         (database catalog.now tables.new)) }
     ensures err { OnErr result (tables.new.tables ≡ tables.old.tables) }
     ensures whole { IsWhole (database catalog.now tables.new) }
 {
-    do_task(alloc, Task::Answer(query), by_plan, budget, catalog, tables)
+    do_task(
+        alloc,
+        Task::Answer(query),
+        by_plan,
+        budget,
+        catalog,
+        kept,
+        tables,
+    )
 }
 
 // What is done for a statement that a routine may have too.
@@ -145,14 +165,24 @@ pub fn run_routine(
     stmt: &BoundStmt,
     budget: u64,
     catalog: &Catalog,
+    kept: &KeptPlans,
     tables: &mut Tables,
 ) -> Result<Reply, NoMemory>
     requires whole { IsWhole (database catalog.now tables.old) }
     requires calls { CallsStandBefore catalog.now }
+    requires kept { kept.now ≡ catalog.now }
     ensures ok { IfOk result (λ r. IsEffect (routine_done budget stmt.now (database catalog.now tables.old)) r
         (database catalog.now tables.new)) }
     ensures err { OnErr result (tables.new.tables ≡ tables.old.tables) }
     ensures whole { IsWhole (database catalog.now tables.new) }
 {
-    do_task(alloc, routine_task(stmt), false, budget, catalog, tables)
+    do_task(
+        alloc,
+        routine_task(stmt),
+        false,
+        budget,
+        catalog,
+        kept,
+        tables,
+    )
 }

@@ -20,6 +20,7 @@ use crate::planned::planned_answer;
 use crate::task::Task;
 use bound_trees::BoundQuery;
 use catalog_store::Catalog;
+use kept_queries::KeptPlans;
 use plan_exec::Answer;
 use reply_text::{Reply, area_reply, rows_reply};
 use row_types::Steps;
@@ -58,10 +59,12 @@ fn answer_by<L: Ledger>(
     by_plan: bool,
     world: &mut World,
     catalog: &Catalog,
+    kept: &KeptPlans,
     steps: &mut Steps<L>,
 ) -> Result<Reply, NoMemory>
     requires whole { IsWhole (database catalog.now world.old.memory) }
     requires calls { CallsStandBefore catalog.now }
+    requires kept { kept.now ≡ catalog.now }
     requires fits { PlanFits by_plan catalog.now query.now }
     ensures ok { IfOk result (λ r. IsEffect (replied rows_text (database catalog.now world.old.memory)
         (ask (query_in (no_routine catalog.now) query.now) (plain_world world.old))) r (database catalog.now world.new.memory)) }
@@ -71,7 +74,7 @@ fn answer_by<L: Ledger>(
     if by_plan {
         answer_in(query, world, catalog, steps)
     } else {
-        ask_in(query, world, catalog)
+        ask_in(query, world, catalog, kept)
     }
 }
 
@@ -84,6 +87,7 @@ fn in_world<L: Ledger>(
     by_plan: bool,
     budget: u64,
     catalog: &Catalog,
+    kept: &KeptPlans,
     tables: &mut Tables,
 ) -> Result<Reply, NoMemory>
     requires name { blank.name ≡ L.name }
@@ -91,6 +95,7 @@ fn in_world<L: Ledger>(
     requires some { blank.parts ≡ 1 }
     requires whole { IsWhole (database catalog.now tables.old) }
     requires calls { CallsStandBefore catalog.now }
+    requires kept { kept.now ≡ catalog.now }
     requires fits { TaskFits by_plan catalog.now task }
     ensures ok { IfOk result (λ r. IsEffect (task_effect budget task.entry (database catalog.now tables.old)) r
         (database catalog.now tables.new)) }
@@ -101,10 +106,10 @@ fn in_world<L: Ledger>(
     let mut steps = Steps::<L>::new(book, share);
     let mut world = World::new(alloc, replace(tables, Tables::new(alloc)), budget);
     let reply = match task {
-        Task::Make(change) => change_in(change, by_plan, &mut world, catalog, &mut steps),
-        Task::Answer(query) => answer_by(query, by_plan, &mut world, catalog, &mut steps),
-        Task::Call(call) => call_in(call, &mut world, catalog),
-        Task::Run(stmt) => run_in(stmt, &mut world, catalog),
+        Task::Make(change) => change_in(change, by_plan, &mut world, catalog, kept, &mut steps),
+        Task::Answer(query) => answer_by(query, by_plan, &mut world, catalog, kept, &mut steps),
+        Task::Call(call) => call_in(call, &mut world, catalog, kept),
+        Task::Run(stmt) => run_in(stmt, &mut world, catalog, kept),
     };
     *tables = world.into_tables();
     reply
@@ -118,15 +123,26 @@ pub(crate) fn do_task(
     by_plan: bool,
     budget: u64,
     catalog: &Catalog,
+    kept: &KeptPlans,
     tables: &mut Tables,
 ) -> Result<Reply, NoMemory>
     requires whole { IsWhole (database catalog.now tables.old) }
     requires calls { CallsStandBefore catalog.now }
+    requires kept { kept.now ≡ catalog.now }
     requires fits { TaskFits by_plan catalog.now task }
     ensures ok { IfOk result (λ r. IsEffect (task_effect budget task.entry (database catalog.now tables.old)) r
         (database catalog.now tables.new)) }
     ensures err { OnErr result (tables.new.tables ≡ tables.old.tables) }
     ensures shapes { KeepsShapes tables.old tables.new }
 {
-    in_world::<Brand>(Blank::new(1), alloc, task, by_plan, budget, catalog, tables)
+    in_world::<Brand>(
+        Blank::new(1),
+        alloc,
+        task,
+        by_plan,
+        budget,
+        catalog,
+        kept,
+        tables,
+    )
 }

@@ -19,10 +19,12 @@ ghost use Rattle.psm_session.specs.Executing.{Executes, Checks, reply_to, refusa
 
 use crate::dump::add_tables;
 use crate::effect::{check_bound, is_done_by_plans, is_run, run_bound};
+use crate::keeping::keep_plans;
 use bind_faults::{Fault, FaultKind};
 use bind_statements::{NameFault, anchor_of, bind_statement};
 use bound_trees::BoundQuery;
 use catalog_store::Catalog;
+use kept_queries::KeptPlans;
 use plan_exec::Answer;
 use psm_effects::{Prepared, prepare_query, run_plan};
 use reply_text::{Dump, FaultText, Reply, fault_reply};
@@ -40,14 +42,15 @@ use table_store::Tables;
 /// A catalog, and the tables that it names, each with the columns and the key that it says, in its
 /// order; the body of each function with a plan is well typed over the entries made before it; and
 /// the head of each routine lists what its body calls, which was made before it, but for the routine
-/// itself. Contracts see both as plain data. The names of the tables stand beside them, in their
-/// order.
+/// itself. Contracts see both as plain data. Beside them stand the names of the tables, in their
+/// order, and plans of queries in bodies, in this catalog.
 #[derive(Drop)]
 pub struct Database {
     alloc: Global,
     catalog: Catalog,
     tables: Tables,
     names: Vec<Name>,
+    kept: KeptPlans,
 }
 
 impl Model for Database {
@@ -68,7 +71,8 @@ impl Model for Database {
     ghost view = { λ d. database d.catalog d.tables };
 
     ghost invariant = { λ d. IsWhole (database d.catalog d.tables) × (HasTypedBodies d.catalog ×
-        (CallsListed d.catalog × (d.names.items ≡ names_of d.tables.tables))) };
+        (CallsListed d.catalog × ((d.names.items ≡ names_of d.tables.tables) ×
+        (d.kept ≡ d.catalog)))) };
 }
 
 // The reply to a fault.
@@ -95,11 +99,14 @@ impl Database {
     pub fn new(alloc: Global) -> Database
         ensures { result ≡ empty }
     {
+        let catalog = Catalog::new(alloc);
+        let kept = KeptPlans::new(alloc, &catalog);
         Database {
             alloc,
-            catalog: Catalog::new(alloc),
+            catalog,
             tables: Tables::new(alloc),
             names: Vec::new(alloc),
+            kept,
         }
     }
 
@@ -119,6 +126,7 @@ impl Database {
             catalog,
             tables,
             names: _,
+            kept: _,
         } = self;
         (catalog, tables)
     }
@@ -182,6 +190,14 @@ impl Database {
             Ok(found) => {
                 if is_run(&found.bound) {
                     let by_plan = is_done_by_plans(mode, &found);
+                    keep_plans(
+                        self.alloc,
+                        mode,
+                        by_plan,
+                        &found.bound,
+                        &self.catalog,
+                        &mut self.kept,
+                    );
                     run_bound(
                         self.alloc,
                         found.bound,
@@ -190,6 +206,7 @@ impl Database {
                         &mut self.catalog,
                         &mut self.tables,
                         &mut self.names,
+                        &mut self.kept,
                     )
                 } else {
                     drop(found);
@@ -217,6 +234,7 @@ impl Database {
                 &mut self.catalog,
                 &mut self.tables,
                 &mut self.names,
+                &mut self.kept,
             ),
             Err(NameFault::Fault(fault)) => name_fault(self.alloc, fault),
             Err(NameFault::NoMemory) => Err(NoMemory),

@@ -12,6 +12,7 @@ ghost use Rattle.psm_session.specs.Effects.{is_run as is_run_by, by_plans, effec
 use crate::names::{make, take_out};
 use bind_direct::{Bound, BoundStatement};
 use catalog_store::Catalog;
+use kept_queries::KeptPlans;
 use psm_effects::{run_delete, run_insert, run_query, run_routine, run_update};
 use reply_text::{Reply, done_reply};
 use run_modes::{Mode, is_by_plan};
@@ -54,8 +55,8 @@ pub(crate) fn is_done_by_plans(mode: Mode, stmt: &BoundStatement) -> bool
 }
 
 /// Does a bound statement with so many turns, by plans where it is said that they answer it, and
-/// answers its reply. Without memory nothing changes. The tables stay those of the catalog, and the
-/// names those of the tables.
+/// answers its reply. Without memory nothing changes. The tables and the kept plans stay those of the
+/// catalog, and the names those of the tables.
 pub(crate) fn run_bound(
     alloc: Global,
     stmt: Bound,
@@ -64,38 +65,41 @@ pub(crate) fn run_bound(
     catalog: &mut Catalog,
     tables: &mut Tables,
     names: &mut Vec<Name>,
+    kept: &mut KeptPlans,
 ) -> Result<Reply, NoMemory>
     requires fits { BoundFits catalog.old by_plan stmt }
     requires calls { CallsStandBefore catalog.old }
     requires whole { IsWhole (database catalog.old tables.old) }
     requires names { names.old.items ≡ names_of tables.old.tables }
+    requires kept { kept.old ≡ catalog.old }
     ensures ok { IfOk result (λ r. IsEffect (effect budget stmt (database catalog.old tables.old)) r
         (database catalog.new tables.new)) }
     ensures err { OnErr result (database catalog.new tables.new ≡ database catalog.old tables.old) }
     ensures whole { IsWhole (database catalog.new tables.new) }
     ensures names { names.new.items ≡ names_of tables.new.tables }
+    ensures kept { kept.new ≡ catalog.new }
 {
     match stmt {
-        Bound::Create(name, object) => make(alloc, name, object, catalog, tables, names),
-        Bound::Drop(name) => take_out(alloc, &name, catalog, tables, names),
-        Bound::Insert(insert, listed) => {
-            let reply = run_insert(alloc, &insert, &listed, by_plan, budget, catalog, tables);
+        Bound::Create(name, object) => make(alloc, name, object, catalog, tables, names, kept),
+        Bound::Drop(name) => take_out(alloc, &name, catalog, tables, names, kept),
+        Bound::Insert(insert, at) => {
+            let reply = run_insert(alloc, &insert, &at, by_plan, budget, catalog, kept, tables);
             drop(insert);
-            drop(listed);
+            drop(at);
             reply
         }
         Bound::Update(update) => {
-            let reply = run_update(alloc, &update, by_plan, budget, catalog, tables);
+            let reply = run_update(alloc, &update, by_plan, budget, catalog, kept, tables);
             drop(update);
             reply
         }
         Bound::Delete(delete) => {
-            let reply = run_delete(alloc, &delete, by_plan, budget, catalog, tables);
+            let reply = run_delete(alloc, &delete, by_plan, budget, catalog, kept, tables);
             drop(delete);
             reply
         }
         Bound::Query(query) => {
-            let reply = run_query(alloc, &query, by_plan, budget, catalog, tables);
+            let reply = run_query(alloc, &query, by_plan, budget, catalog, kept, tables);
             drop(query);
             reply
         }
@@ -104,7 +108,7 @@ pub(crate) fn run_bound(
             done_reply(alloc, &[], None)
         }
         Bound::Routine(body) => {
-            let reply = run_routine(alloc, &body, budget, catalog, tables);
+            let reply = run_routine(alloc, &body, budget, catalog, kept, tables);
             drop(body);
             reply
         }
@@ -112,28 +116,31 @@ pub(crate) fn run_bound(
 }
 
 /// Checks a bound statement alone: a definition is carried out, and all else leaves the database.
-/// Without memory nothing changes. The tables stay those of the catalog, and the names those of the
-/// tables.
+/// Without memory nothing changes. The tables and the kept plans stay those of the catalog, and the
+/// names those of the tables.
 pub(crate) fn check_bound(
     alloc: Global,
     stmt: BoundStatement,
     catalog: &mut Catalog,
     tables: &mut Tables,
     names: &mut Vec<Name>,
+    kept: &mut KeptPlans,
 ) -> Result<Reply, NoMemory>
     requires fits { StatementFits catalog.old stmt }
     requires whole { IsWhole (database catalog.old tables.old) }
     requires names { names.old.items ≡ names_of tables.old.tables }
+    requires kept { kept.old ≡ catalog.old }
     ensures ok { IfOk result (λ r. IsEffect (checked stmt.bound (database catalog.old tables.old)) r
         (database catalog.new tables.new)) }
     ensures err { OnErr result (database catalog.new tables.new ≡ database catalog.old tables.old) }
     ensures whole { IsWhole (database catalog.new tables.new) }
     ensures names { names.new.items ≡ names_of tables.new.tables }
+    ensures kept { kept.new ≡ catalog.new }
 {
     let BoundStatement { bound, by_plan: _ } = stmt;
     match bound {
-        Bound::Create(name, object) => make(alloc, name, object, catalog, tables, names),
-        Bound::Drop(name) => take_out(alloc, &name, catalog, tables, names),
+        Bound::Create(name, object) => make(alloc, name, object, catalog, tables, names, kept),
+        Bound::Drop(name) => take_out(alloc, &name, catalog, tables, names, kept),
         Bound::Insert(insert, listed) => {
             drop(insert);
             drop(listed);

@@ -4,6 +4,7 @@
 mod database;
 mod dump;
 mod effect;
+mod keeping;
 mod names;
 mod next;
 mod typing;

@@ -13,6 +13,7 @@ ghost use Rattle.psm_effects.specs.Shapes.{IsWhole};
 ghost use Rattle.psm_session.specs.Names.{names_of_object, optional, without_name};
 
 use catalog_store::{Catalog, Object};
+use kept_queries::KeptPlans;
 use psm_effects::{create, drop_object};
 use reply_text::Reply;
 use sql_values::{Name, NoMemory};
@@ -56,9 +57,9 @@ fn remove_name(names: &mut Vec<Name>, name: &Name)
     }
 }
 
-/// Makes an entry of the catalog, and its table where it is one, whose name comes behind those of
-/// the others. Without memory nothing changes.
-pub(crate) fn make(
+// Makes an entry of the catalog, and its table where it is one, whose name comes behind those of
+// the others.
+fn make_entry(
     alloc: Global,
     name: Name,
     object: Object,
@@ -82,26 +83,58 @@ pub(crate) fn make(
     Ok(reply)
 }
 
+/// Makes an entry of the catalog, and its table where it is one, whose name comes behind those of
+/// the others. No plan of the old catalog is kept. Without memory nothing changes.
+pub(crate) fn make(
+    alloc: Global,
+    name: Name,
+    object: Object,
+    catalog: &mut Catalog,
+    tables: &mut Tables,
+    names: &mut Vec<Name>,
+    kept: &mut KeptPlans,
+) -> Result<Reply, NoMemory>
+    requires free { object_named name catalog.old ≡ None }
+    requires fits { ObjectFits catalog.old object }
+    requires whole { IsWhole (database catalog.old tables.old) }
+    requires names { names.old.items ≡ names_of tables.old.tables }
+    requires kept { kept.old ≡ catalog.old }
+    ensures ok { IfOk result (λ r. IsEffect (created (entry_of catalog.old name object)
+        (database catalog.old tables.old)) r (database catalog.new tables.new)) }
+    ensures err { OnErr result (database catalog.new tables.new ≡ database catalog.old tables.old) }
+    ensures whole { IsWhole (database catalog.new tables.new) }
+    ensures names { names.new.items ≡ names_of tables.new.tables }
+    ensures kept { kept.new ≡ catalog.new }
+{
+    let reply = make_entry(alloc, name, object, catalog, tables, names)?;
+    *kept = KeptPlans::new(alloc, &*catalog);
+    Ok(reply)
+}
+
 /// Takes an entry that nothing uses out of the catalog, and its table with its name, where it is
-/// one. Without memory nothing changes.
+/// one. No plan of the old catalog is kept. Without memory nothing changes.
 pub(crate) fn take_out(
     alloc: Global,
     name: &Name,
     catalog: &mut Catalog,
     tables: &mut Tables,
     names: &mut Vec<Name>,
+    kept: &mut KeptPlans,
 ) -> Result<Reply, NoMemory>
     requires there { IsSome (object_named name.now catalog.old) }
     requires unused { users_of name.now catalog.old ≡ 0 }
     requires whole { IsWhole (database catalog.old tables.old) }
     requires names { names.old.items ≡ names_of tables.old.tables }
+    requires kept { kept.old ≡ catalog.old }
     ensures ok { IfOk result (λ r. IsEffect (dropped name.now (database catalog.old tables.old)) r
         (database catalog.new tables.new)) }
     ensures err { OnErr result (database catalog.new tables.new ≡ database catalog.old tables.old) }
     ensures whole { IsWhole (database catalog.new tables.new) }
     ensures names { names.new.items ≡ names_of tables.new.tables }
+    ensures kept { kept.new ≡ catalog.new }
 {
     let reply = drop_object(alloc, name, catalog, tables)?;
     remove_name(names, name);
+    *kept = KeptPlans::new(alloc, &*catalog);
     Ok(reply)
 }

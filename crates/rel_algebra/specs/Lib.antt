@@ -7,6 +7,7 @@ pub mod Endings
 pub mod Groups
 pub mod Joins
 pub mod Places
+pub mod PlaceForms
 pub mod Writing
 pub mod Doing
 pub mod Handlers

@@ -26,10 +26,12 @@ ghost use Rattle.rel_algebra.specs.Theorem.{FunctionPlans, KeptTablesFit, Means,
 ghost use Rattle.rel_algebra.specs.Theorem.{MeansPassing, MeansUnder, MeansWithin};
 ghost use Rattle.rel_algebra.specs.WellFormed.{WellFormedPlans};
 
+mod column_places;
 mod count;
 mod plan;
 mod scalar;
 
+pub use column_places::{ColumnPlaces, KeptPlaces};
 pub use count::apply_count;
 pub use plan::{ApplyKind, Leaf, Node, Plan, ScalarRow};
 pub use scalar::{ListWord, Scalar, ScalarLink, UnaryWord};

@@ -1,6 +1,7 @@
 //! Plans: a leaf, which has rows, and a list of nodes, each of which makes rows of the rows below
 //! it.
 
+use crate::column_places::ColumnPlaces;
 use crate::scalar::Scalar;
 use row_types::{AggregateColumn, SortKey};
 use sql_values::Name;
@@ -57,7 +58,7 @@ pub enum Node {
     /// The rows of which the scalar is true. A row whose test raises stays, poisoned.
     Filter(Scalar),
     /// Of each row the cells at these places, in this order.
-    Keep(Items<usize>),
+    Keep(ColumnPlaces),
     /// Each row with each row of the plan at its right, both settled, the left one first.
     Cross(Boxed<Plan>),
     /// Each row with those rows of the plan at its right for which the scalar is true, or, where

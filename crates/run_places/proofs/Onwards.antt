@@ -1,11 +1,11 @@
 -- Statements that go on by what follows in them.
-use Rattle.std.proofs.Common.{◌≡◌, ℕ, Bool, true, false, Result, Ok, Err, refl, sym, ap, ◌∙◌, subst}
+use Rattle.std.proofs.Common.{◌≡◌, ℕ, Bool, true, Result, Ok, Err, refl, sym, ap, ◌∙◌, subst}
 use Rattle.sql_texts.specs.declared.memory.NoMemory.{NoMemory}
 use Rattle.sql_conditions.specs.Conditions.{Area}
 use Rattle.rel_algebra.specs.Compounds.{sealed_or}
 use Rattle.rel_algebra.specs.Doing.{Outcome, Raising}
 use Rattle.rel_algebra.specs.Handlers.{Scopes, failing}
-use Rattle.rel_algebra.specs.World.{Frame, World}
+use Rattle.rel_algebra.specs.World.{Frame}
 use Rattle.run_choices.specs.declared.stop.Stop.{Stop}
 use Rattle.run_choices.specs.declared.stop.Stop.TheVariants.{Raised, Spent, NoMemory as NoRoom}
 use Rattle.run_expressions.specs.Content.{Content, IsBackAt, world_of}

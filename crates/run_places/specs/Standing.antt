@@ -1,9 +1,11 @@
--- That the calls of a catalog stand in one way at most, so that a place can keep that they do.
+-- That the calls of a catalog stand in one way at most, and that it is another in one way at most,
+-- so that a place can keep both.
 -- ISO/IEC 9075-2, 10.4 (routine invocation).
-use Rattle.std.specs.Prelude.{ℕ, ◌++◌, List, [], ◌∷◌, true, is_some}
+use Rattle.std.specs.Prelude.{◌≡◌, ℕ, ◌++◌, List, [], ◌∷◌, true, is_some}
 use Rattle.std.specs.Coded.{×_prop, →_prop, Unit-prop, Coded-set, coded_bool}
 use Rattle.std.specs.List.{AllByRecursion-prop}
 use Rattle.catalog_store.specs.Catalog.{Catalog, object_named}
+use Rattle.catalog_store.specs.Codes.{coded_catalog}
 use Rattle.viewing_laws.specs.Standing.{CallsStandAfter, CallsStandBefore, StandsBeside}
 use Rattle.viewing_laws.specs.Standing.{object_calls}
 
@@ -19,3 +21,6 @@ after-prop known (e ∷ es) = ×_prop
 
 pub before-prop : (catalog : Catalog) → IsProp (CallsStandBefore catalog)
 before-prop catalog = after-prop [] catalog
+
+pub same-prop : (one other : Catalog) → IsProp (one ≡ other)
+same-prop one other = Coded-set coded_catalog one other

@@ -20,6 +20,7 @@ pub fn inside<'a>(place: &Place<'a>) -> Result<Place<'a>, NoMemory>
     match place.level.checked_add(1) {
         Some(level) => Ok(Place {
             catalog: place.catalog,
+            kept: place.kept,
             own: place.own,
             cursors: place.cursors,
             scopes: place.scopes,
@@ -43,6 +44,7 @@ pub fn in_action<'a>(
     match scope.level.checked_add(1) {
         Some(level) => Ok(Place {
             catalog: place.catalog,
+            kept: place.kept,
             own: place.own,
             cursors: scope.queries,
             scopes: outer,
@@ -65,6 +67,7 @@ pub fn within<'a>(
     match place.level.checked_add(1) {
         Some(level) => Ok(Place {
             catalog: place.catalog,
+            kept: place.kept,
             own: place.own,
             cursors,
             scopes,

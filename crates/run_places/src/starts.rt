@@ -8,10 +8,12 @@ ghost use Rattle.run_places.specs.Starts.{StartsBody};
 
 use crate::place::{Own, Place};
 use catalog_store::Catalog;
+use kept_queries::KeptPlans;
 
-/// The place of a statement of a script.
-pub fn in_no_routine<'a>(catalog: &'a Catalog) -> Place<'a>
+/// The place of a statement of a script, by the catalog and the plans that are kept in it.
+pub fn in_no_routine<'a>(catalog: &'a Catalog, kept: &'a KeptPlans) -> Place<'a>
     requires calls { CallsStandBefore catalog.now }
+    requires kept { kept.now ≡ catalog.now }
     ensures known { known_of result ≡ no_routine catalog.now }
     ensures context { context_of result ≡ no_context }
     ensures cursors { queries_of result ≡ [] }
@@ -19,6 +21,7 @@ pub fn in_no_routine<'a>(catalog: &'a Catalog) -> Place<'a>
 {
     Place {
         catalog,
+        kept,
         own: None,
         cursors: &[],
         scopes: &[],
@@ -28,12 +31,14 @@ pub fn in_no_routine<'a>(catalog: &'a Catalog) -> Place<'a>
 }
 
 /// The place of the body of a routine.
-pub fn in_routine<'a>(own: Own<'a>, catalog: &'a Catalog) -> Place<'a>
+pub fn in_routine<'a>(own: Own<'a>, catalog: &'a Catalog, kept: &'a KeptPlans) -> Place<'a>
     requires calls { CallsStandBefore catalog.now }
+    requires kept { kept.now ≡ catalog.now }
     ensures { StartsBody catalog.now own.entry result }
 {
     Place {
         catalog,
+        kept,
         own: Some(own),
         cursors: &[],
         scopes: &[],

@@ -1,6 +1,6 @@
 //! Statements of a script, which stand in no routine.
 
-ghost use Rattle.std.specs.Prelude.{[], IfOk};
+ghost use Rattle.std.specs.Prelude.{◌≡◌, [], IfOk};
 ghost use Rattle.rel_algebra.specs.Changes.{delete as deletes, insert as inserts, update as updates};
 ghost use Rattle.rel_algebra.specs.Meaning.{ask, run, run_call};
 ghost use Rattle.rel_algebra.specs.World.{no_frame, no_self, unit};
@@ -19,6 +19,7 @@ use crate::units::assess;
 use crate::writing::{DataChange, changed};
 use bound_trees::{BoundCall, BoundDelete, BoundInsert, BoundQuery, BoundStmt, BoundUpdate};
 use catalog_store::Catalog;
+use kept_queries::KeptPlans;
 use row_types::Row;
 use run_expressions::{Stop, World};
 use run_frames::Frame;
@@ -33,12 +34,14 @@ pub fn run_query(
     query: &BoundQuery,
     world: &mut World,
     catalog: &Catalog,
+    kept: &KeptPlans,
 ) -> Result<Items<Row>, Stop>
     requires calls { CallsStandBefore catalog.now }
+    requires kept { kept.now ≡ catalog.now }
     ensures { Ended world.old world.new result
         (ask (query_in (no_routine catalog.now) query.now) (world_of world.old)) }
 {
-    let place = in_no_routine(catalog);
+    let place = in_no_routine(catalog, kept);
     let frame = Frame::empty(world.allocator());
     assess(query, &frame, world, &place)
 }
@@ -50,30 +53,44 @@ pub fn insert_alone(
     listed: &Option<Items<usize>>,
     world: &mut World,
     catalog: &Catalog,
+    kept: &KeptPlans,
 ) -> Result<u64, Stop>
     requires calls { CallsStandBefore catalog.now }
+    requires kept { kept.now ≡ catalog.now }
     ensures { Ended world.old world.new result (inserts insert.now.table listed.now
         (query_in (no_routine catalog.now) insert.now.source) (world_of world.old)) }
 {
     let change = DataChange::Insert(listed);
-    change_alone(change, &insert.table, &insert.source, world, catalog)
+    change_alone(change, &insert.table, &insert.source, world, catalog, kept)
 }
 
 /// UPDATE (14.14): how many rows are changed. All are met, and all values evaluated, first; where it
 /// raises, the tables are as before it.
-pub fn update_alone(update: &BoundUpdate, world: &mut World, catalog: &Catalog) -> Result<u64, Stop>
+pub fn update_alone(
+    update: &BoundUpdate,
+    world: &mut World,
+    catalog: &Catalog,
+    kept: &KeptPlans,
+) -> Result<u64, Stop>
     requires calls { CallsStandBefore catalog.now }
+    requires kept { kept.now ≡ catalog.now }
     ensures { Ended world.old world.new result (updates update.now.table update.now.targets
         (query_in (no_routine catalog.now) update.now.rows) (world_of world.old)) }
 {
     let change = DataChange::Update(update.targets.as_slice());
-    change_alone(change, &update.table, &update.rows, world, catalog)
+    change_alone(change, &update.table, &update.rows, world, catalog, kept)
 }
 
 /// DELETE (14.9): how many rows are removed. All are met first; where it raises, the tables are as
 /// before it.
-pub fn delete_alone(delete: &BoundDelete, world: &mut World, catalog: &Catalog) -> Result<u64, Stop>
+pub fn delete_alone(
+    delete: &BoundDelete,
+    world: &mut World,
+    catalog: &Catalog,
+    kept: &KeptPlans,
+) -> Result<u64, Stop>
     requires calls { CallsStandBefore catalog.now }
+    requires kept { kept.now ≡ catalog.now }
     ensures { Ended world.old world.new result (deletes delete.now.table
         (query_in (no_routine catalog.now) delete.now.rows) (world_of world.old)) }
 {
@@ -83,6 +100,7 @@ pub fn delete_alone(delete: &BoundDelete, world: &mut World, catalog: &Catalog) 
         &delete.rows,
         world,
         catalog,
+        kept,
     )
 }
 
@@ -93,13 +111,15 @@ fn change_alone(
     query: &BoundQuery,
     world: &mut World,
     catalog: &Catalog,
+    kept: &KeptPlans,
 ) -> Result<u64, Stop>
     requires calls { CallsStandBefore catalog.now }
+    requires kept { kept.now ≡ catalog.now }
     ensures { Ended world.old world.new result
         (unit (writes change.entry table.now (query_in (no_routine catalog.now) query.now) no_self
         no_frame) (world_of world.old)) }
 {
-    let place = in_no_routine(catalog);
+    let place = in_no_routine(catalog, kept);
     let frame = Frame::empty(world.allocator());
     changed(change, table, query, &frame, world, &place)
 }
@@ -110,13 +130,15 @@ pub fn call_alone(
     call: &BoundCall,
     world: &mut World,
     catalog: &Catalog,
+    kept: &KeptPlans,
 ) -> Result<Items<Value>, Stop>
     requires calls { CallsStandBefore catalog.now }
+    requires kept { kept.now ≡ catalog.now }
     ensures { Ended world.old world.new result
         (run_call (routines_of catalog.now call.now.procedure)
         (arguments_in (no_routine catalog.now) call.now.arguments) (world_of world.old)) }
 {
-    let place = in_no_routine(catalog);
+    let place = in_no_routine(catalog, kept);
     let frame = Frame::empty(world.allocator());
     perform(
         &call.procedure,
@@ -133,13 +155,15 @@ pub fn run_alone(
     stmt: &BoundStmt,
     world: &mut World,
     catalog: &Catalog,
+    kept: &KeptPlans,
 ) -> Result<Outcome, NoMemory>
     requires calls { CallsStandBefore catalog.now }
+    requires kept { kept.now ≡ catalog.now }
     ensures ends { IfOk result (λ o. IsEnd o world.new
         (run (stmt_in (no_routine catalog.now) stmt.now []) (world_of world.old))) }
     ensures stays { Stays world.old world.new }
 {
-    let place = in_no_routine(catalog);
+    let place = in_no_routine(catalog, kept);
     let mut frame = Frame::empty(world.allocator());
     run_stmt(stmt, &mut frame, world, &place)
 }

@@ -120,7 +120,7 @@ fn run_body(
         (world_of world.old)) }
 {
     let frame = Frame::of(values);
-    let inner = in_no_routine(&*place.catalog);
+    let inner = in_no_routine(&*place.catalog, &*place.kept);
     let value = eval(body, &RowsInSight::NoRow, &frame, world, &inner);
     assigned(world.allocator(), value, returns)
 }

@@ -85,7 +85,7 @@ fn run_function(
         routine: RoutineBody::Function(&*function),
         room,
     };
-    let inner = in_routine(own, &*place.catalog);
+    let inner = in_routine(own, &*place.catalog, &*place.kept);
     let mut frame = Frame::of(values);
     match run_stmt(&function.body, &mut frame, world, &inner) {
         Ok(outcome) => returned(world.allocator(), function.head.returns, outcome),

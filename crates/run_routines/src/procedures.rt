@@ -83,7 +83,7 @@ fn run_procedure(
         routine: RoutineBody::Procedure(&*procedure),
         room,
     };
-    let inner = in_routine(own, &*place.catalog);
+    let inner = in_routine(own, &*place.catalog, &*place.kept);
     let mut frame = Frame::of(values);
     let modes = procedure.head.modes.as_slice();
     let types = procedure.head.parameters.as_slice();

@@ -22,14 +22,34 @@ use row_types::Row;
 use run_expressions::{Frame, RowsInSight, Stop, World};
 use run_keys::met_rows;
 use run_places::{Place, item_source};
+use run_plans::{kept_for, run_kept};
 use run_rows::{closed, ordered, table_rows};
 use sqlite_items::Items;
 
-/// The rows of a query, by the rows of the queries around it: of a SELECT in the order of the rows
-/// of its FROM, or of the first rows of its groups, of VALUES as they stand. An order is made of
-/// the whole list.
+/// The rows of a query, by the rows of the queries around it: those of a plan that is kept of it and
+/// fits there, or else row by row.
 #[cycle(run)]
 pub fn answer_query(
+    query: &BoundQuery,
+    outer: &RowsInSight,
+    frame: &Frame,
+    world: &mut World,
+    place: &Place,
+) -> Result<Items<Row>, Stop>
+    ensures { Ended world.old world.new result
+        (answer (query_in (known_of place.now) query.now) (self_of place.now) (seen outer.now) frame.now
+        (world_of world.old)) }
+{
+    match kept_for(place, query, outer, frame, &*world) {
+        Some(kept) => run_kept(kept, frame, &*world),
+        None => answer_by_rows(query, outer, frame, world, place),
+    }
+}
+
+// The same row by row: of a SELECT in the order of the rows of its FROM, or of the first rows of its
+// groups, of VALUES as they stand. An order is made of the whole list.
+#[cycle(run)]
+fn answer_by_rows(
     query: &BoundQuery,
     outer: &RowsInSight,
     frame: &Frame,

@@ -68,18 +68,34 @@ fn do_section(
     }
 }
 
-// The transcript of all cases of a text, and how many of them were run in both modes.
-fn transcript_of(alloc: Global, text: &str) -> Result<Vec<u8>, AllocError> {
-    let mut transcript = Vec::new(alloc);
-    let mut dbs = Databases::new(alloc);
+// Adds what is printed of all cases of a text, over databases that go from case to case, and how
+// many of them were run in both modes.
+fn add_sections(
+    alloc: Global,
+    text: &str,
+    dbs: &mut Databases,
+    transcript: &mut Vec<u8>,
+) -> Result<(), AllocError> {
     let mut count: u64 = 0;
     let cases = text.strip_suffix('\n').unwrap_or(text);
     for section in cases.split("\n=== ").skip(1) {
-        if do_section(alloc, section, &mut dbs, &mut transcript)? {
+        if do_section(alloc, section, dbs, transcript)? {
             count = count.saturating_add(1);
         }
     }
-    push_count(alloc, &mut transcript, count)?;
+    push_count(alloc, transcript, count)
+}
+
+// The same, over two new databases.
+fn add_all(alloc: Global, text: &str, transcript: &mut Vec<u8>) -> Result<(), AllocError> {
+    let mut dbs = Databases::new(alloc);
+    add_sections(alloc, text, &mut dbs, transcript)
+}
+
+// The transcript of all cases of a text.
+fn transcript_of(alloc: Global, text: &str) -> Result<Vec<u8>, AllocError> {
+    let mut transcript = Vec::new(alloc);
+    add_all(alloc, text, &mut transcript)?;
     Ok(transcript)
 }
 

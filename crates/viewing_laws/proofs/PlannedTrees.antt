@@ -1,5 +1,5 @@
--- What has a plan is seen as its plain tree: each function that it calls has one, and stands for
--- the same routine by the views. By induction over the trees.
+-- What has a plan is seen as its plain tree, where a call of what has one is of what it stands for:
+-- each function that it calls has one. By induction over the trees.
 use Rattle.std.proofs.Common.{◌≡◌, ℕ, Bool, true, false, cond, ◌&&◌, List, [], ◌∷◌, map, length}
 use Rattle.std.proofs.Common.{Option, None, Some, refl, sym, ap, ◌∙◌, subst, suc}
 use Rattle.std.specs.List.{list_all}
@@ -26,7 +26,7 @@ use Rattle.sql_values.specs.declared.value.Value.TheVariants.{Null}
 use Rattle.rel_algebra.specs.Joins.{rows_width}
 use Rattle.rel_algebra.specs.Plain.{all_even, planned_expr, planned_links, planned_all}
 use Rattle.rel_algebra.specs.Plain.{planned_routine, planned_rows, planned_from, planned}
-use Rattle.rel_algebra.specs.Tree.{Expr, Exprs, From, Routine, Literal, Operate, And, Or}
+use Rattle.rel_algebra.specs.Tree.{Expr, Exprs, From, Literal, Operate, And, Or}
 use Rattle.rel_algebra.specs.Tree.{Coalesce, Case, Chain, Call, Single, Exists, In, Cross, Values}
 use Rattle.rel_algebra.specs.Tree.{Ordered, Derived, Inner, LeftOuter}
 use Rattle.catalog_store.specs.Catalog.{Catalog, routine_named}
@@ -41,8 +41,7 @@ use Rattle.catalog_store.specs.View.{link_of, grouping_of, select_of}
 use Rattle.catalog_store.proofs.Layers as plain
 use Rattle.catalog_store.proofs.Laws.{ExprLayer, ItemLayer, QueryLayer, RowLayer, SourceLayer}
 use Rattle.catalog_store.proofs.Laws.{LinkLayer, GroupingLayer, SelectLayer}
-use Rattle.routine_views.specs.Views.{Known, expr_node, expr_in, query_in}
-use Rattle.viewing_laws.specs.Planned.{outside}
+use Rattle.routine_views.specs.Views.{Known, called, expr_node, expr_in, query_in}
 use Rattle.viewing_laws.proofs.Layers.{item_in, row_in, source_in, link_in, grouping_in, select_in}
 use Rattle.viewing_laws.proofs.Layers.{expr_seen, item_seen, query_seen, row_seen, source_seen}
 use Rattle.viewing_laws.proofs.Layers.{link_seen, grouping_seen, select_seen, expr_in-at}
@@ -145,20 +144,23 @@ as-many : {A B : Type 0} {P : A → Type 0} (s t : A → B) (xs : List ((x : A) 
 as-many s t [] = refl
 as-many s t (x ∷ xs) = ap suc (as-many s t xs)
 
-module _ (c : Catalog) (m : List ℕ → Routine)
-    (agree : (name : List ℕ) → planned_routine (routine_named name c) ≡ true →
-    m name ≡ routine_named name c) where
+-- a call of what has a plan is of what it stands for in the catalog
+abbrev pub PlainCalls : Catalog → Known → Type 0
+PlainCalls c k = (name : List ℕ) (args : Exprs) → planned_routine (routine_named name c) ≡ true →
+    called k name args ≡ Call name (routine_named name c) args
+
+module _ (c : Catalog) (k : Known) (agree : PlainCalls c k) where
   -- ---- trees
 
   -- a tree that is seen as its plain tree where that has a plan
   abbrev IsSame : {A B : Type 0} → (B → Bool) → (Known → A → B) → (Catalog → A → B) → A → Type 0
-  IsSame test seen stood x = test (stood c x) ≡ true → seen (outside m) x ≡ stood c x
+  IsSame test seen stood x = test (stood c x) ≡ true → seen k x ≡ stood c x
 
   -- an item of FROM, also where it is the first, and its ON joins it to nothing
   record SameItem (x : BoundFromItem) : Type 0 where
     pub whole : IsSame item_planned item_in item_of x
     pub first : planned_from (itself (item_of c x)) ≡ true →
-        itself (item_in (outside m) x) ≡ itself (item_of c x)
+        itself (item_in k x) ≡ itself (item_of c x)
 
   abbrev ShownExpr : Type 0
   ShownExpr = (x : BoundExpr) × IsSame planned_expr expr_in tree_of x
@@ -244,38 +246,38 @@ module _ (c : Catalog) (m : List ℕ → Routine)
 
   exprs-same : (es : List ShownExpr) →
       planned_all (exprs (map (tree_of c) (map (λ x. x.0) es))) ≡ true →
-      map (expr_in (outside m)) (map (λ x. x.0) es) ≡ map (tree_of c) (map (λ x. x.0) es)
-  exprs-same es h = each-same planned_expr (expr_in (outside m)) (tree_of c) (λ x f. f) es
+      map (expr_in k) (map (λ x. x.0) es) ≡ map (tree_of c) (map (λ x. x.0) es)
+  exprs-same es h = each-same planned_expr (expr_in k) (tree_of c) (λ x f. f) es
       (sym (exprs_planned (map (tree_of c) (map (λ x. x.0) es))) ∙ h)
 
   links-same : (ls : List ShownLink) →
       planned_links (links (map (link_of c) (map (λ x. x.0) ls))) ≡ true →
-      map (link_in (outside m)) (map (λ x. x.0) ls) ≡ map (link_of c) (map (λ x. x.0) ls)
+      map (link_in k) (map (λ x. x.0) ls) ≡ map (link_of c) (map (λ x. x.0) ls)
   links-same ls h =
-      each-same (λ l. planned_expr l.operand) (link_in (outside m)) (link_of c) (λ x f. f) ls
+      each-same (λ l. planned_expr l.operand) (link_in k) (link_of c) (λ x f. f) ls
       (sym (links_planned (map (link_of c) (map (λ x. x.0) ls))) ∙ h)
 
   rows-same : (rs : List ShownRow) →
       planned_rows (rows (map (row_of c) (map (λ x. x.0) rs))) ≡ true →
-      map (row_in (outside m)) (map (λ x. x.0) rs) ≡ map (row_of c) (map (λ x. x.0) rs)
-  rows-same rs h = each-same planned_all (row_in (outside m)) (row_of c) (λ x f. f) rs
+      map (row_in k) (map (λ x. x.0) rs) ≡ map (row_of c) (map (λ x. x.0) rs)
+  rows-same rs h = each-same planned_all (row_in k) (row_of c) (λ x f. f) rs
       (sym (each_planned (map (row_of c) (map (λ x. x.0) rs))) ∙ h)
 
   from-same : (is : List ShownItem) →
       planned_from (from_of (map (item_of c) (map (λ x. x.0) is))) ≡ true →
-      from_of (map (item_in (outside m)) (map (λ x. x.0) is)) ≡
+      from_of (map (item_in k) (map (λ x. x.0) is)) ≡
       from_of (map (item_of c) (map (λ x. x.0) is))
   from-same [] h = refl
   from-same (x ∷ xs) h =
       let parts = all_planned (begun (item_of c x.0)) (map (item_of c) (map (λ y. y.0) xs)) h in
       λ i. closed (all_grown (record { before = None; current = x.1.first parts.0 i })
-      (each-same item_planned (item_in (outside m)) (item_of c) (λ y f. f.whole) xs parts.1 i))
+      (each-same item_planned (item_in k) (item_of c) (λ y f. f.whole) xs parts.1 i))
 
   -- ---- words
 
   stood-same : (w : Standing) (es : List ShownExpr) →
       planned_expr (stood w (map (tree_of c) (map (λ x. x.0) es))) ≡ true →
-      stood w (map (expr_in (outside m)) (map (λ x. x.0) es)) ≡
+      stood w (map (expr_in k) (map (λ x. x.0) es)) ≡
       stood w (map (tree_of c) (map (λ x. x.0) es))
   stood-same (over_all operation) es h = λ i. Operate operation (exprs (exprs-same es h i))
   stood-same as_and es h = λ i. And (exprs (exprs-same es h i))
@@ -290,22 +292,22 @@ module _ (c : Catalog) (m : List ℕ → Routine)
 
   operated-same : (w : BoundOperation) (es : List ShownExpr) →
       planned_expr (operated w (map (tree_of c) (map (λ x. x.0) es))) ≡ true →
-      operated w (map (expr_in (outside m)) (map (λ x. x.0) es)) ≡
+      operated w (map (expr_in k) (map (λ x. x.0) es)) ≡
       operated w (map (tree_of c) (map (λ x. x.0) es))
   operated-same w es h = by (takes w (length (map (tree_of c) (map (λ x. x.0) es)))) refl h
     where
-      many : takes w (length (map (expr_in (outside m)) (map (λ x. x.0) es))) ≡
+      many : takes w (length (map (expr_in k) (map (λ x. x.0) es))) ≡
           takes w (length (map (tree_of c) (map (λ x. x.0) es)))
-      many = ap (takes w) (as-many (expr_in (outside m)) (tree_of c) es)
+      many = ap (takes w) (as-many (expr_in k) (tree_of c) es)
 
       by : (b : Bool) → takes w (length (map (tree_of c) (map (λ x. x.0) es))) ≡ b →
           planned_expr (cond b (stood (standing w) (map (tree_of c) (map (λ x. x.0) es)))
           (Literal Null)) ≡ true →
-          operated w (map (expr_in (outside m)) (map (λ x. x.0) es)) ≡
+          operated w (map (expr_in k) (map (λ x. x.0) es)) ≡
           operated w (map (tree_of c) (map (λ x. x.0) es))
       by true q h = λ i. cond (many i) (stood-same (standing w) es h i) (Literal Null)
       by false q h =
-          ap (λ b. cond b (stood (standing w) (map (expr_in (outside m)) (map (λ x. x.0) es)))
+          ap (λ b. cond b (stood (standing w) (map (expr_in k) (map (λ x. x.0) es)))
           (Literal Null)) (many ∙ q) ∙
           sym (ap (λ b. cond b (stood (standing w) (map (tree_of c) (map (λ x. x.0) es)))
           (Literal Null)) q)
@@ -316,7 +318,7 @@ module _ (c : Catalog) (m : List ℕ → Routine)
       ShownGrouping
       ShownSelect) →
       planned_expr (expr_step c (plain.expr_seen c (expr_shown y))) ≡ true →
-      expr_node (outside m) (expr_seen (outside m) (expr_shown y)) ≡
+      expr_node k (expr_seen k (expr_shown y)) ≡
       expr_step c (plain.expr_seen c (expr_shown y))
   expr_layer (BoundExpr-F.Literal v) h = refl
   expr_layer (BoundExpr-F.Column level i) h = refl
@@ -329,7 +331,8 @@ module _ (c : Catalog) (m : List ℕ → Routine)
   expr_layer (BoundExpr-F.Call name args) h =
       let parts = halves (planned_routine (routine_named name c))
       (planned_all (exprs (map (tree_of c) (map (λ x. x.0) args)))) h in
-      λ i. Call name (agree name parts.0 i) (exprs (exprs-same args parts.1 i))
+      agree name (exprs (map (expr_in k) (map (λ x. x.0) args))) parts.0 ∙
+      (λ i. Call name (routine_named name c) (exprs (exprs-same args parts.1 i)))
   expr_layer (BoundExpr-F.Single q) h = λ i. Single (q.1 h i)
   expr_layer (BoundExpr-F.Exists q) h = λ i. Exists (q.1 h i)
   expr_layer (BoundExpr-F.In e q) h =
@@ -343,7 +346,7 @@ module _ (c : Catalog) (m : List ℕ → Routine)
   item_layer : (y : BoundFromItem-F ShownExpr ShownItem ShownQuery ShownRow ShownSource ShownLink
       ShownGrouping
       ShownSelect) →
-      SameLayer (item_step (item_seen (outside m) (item_shown y)))
+      SameLayer (item_step (item_seen k (item_shown y)))
       (item_step (plain.item_seen c (item_shown y)))
   item_layer (BoundFromItem-F.Comma f) = (λ h. ap after_comma (f.1 h), f.1)
   item_layer (BoundFromItem-F.Cross f) = (λ h. ap crossing (f.1 h), f.1)
@@ -364,7 +367,7 @@ module _ (c : Catalog) (m : List ℕ → Routine)
       ShownGrouping
       ShownSelect) →
       planned (query_step (plain.query_seen c (query_shown y))) ≡ true →
-      query_step (query_seen (outside m) (query_shown y)) ≡
+      query_step (query_seen k (query_shown y)) ≡
       query_step (plain.query_seen c (query_shown y))
   query_layer (BoundQuery-F.Select select) h = select.1 h
   query_layer (BoundQuery-F.Values rs) h =
@@ -377,14 +380,14 @@ module _ (c : Catalog) (m : List ℕ → Routine)
       ShownGrouping
       ShownSelect) →
       planned_all (row_step (plain.row_seen c (row_shown y))) ≡ true →
-      row_step (row_seen (outside m) (row_shown y)) ≡ row_step (plain.row_seen c (row_shown y))
+      row_step (row_seen k (row_shown y)) ≡ row_step (plain.row_seen c (row_shown y))
   row_layer (BoundRow-F.Row es) h = ap exprs (exprs-same es h)
 
   source_layer : (y : BoundSource-F ShownExpr ShownItem ShownQuery ShownRow ShownSource ShownLink
       ShownGrouping
       ShownSelect) →
       planned_from (source_step (plain.source_seen c (source_shown y))) ≡ true →
-      source_step (source_seen (outside m) (source_shown y)) ≡
+      source_step (source_seen k (source_shown y)) ≡
       source_step (plain.source_seen c (source_shown y))
   source_layer (BoundSource-F.Table name) h = refl
   source_layer (BoundSource-F.Derived q) h = λ i. Derived (q.1 h i)
@@ -393,7 +396,7 @@ module _ (c : Catalog) (m : List ℕ → Routine)
       ShownGrouping
       ShownSelect) →
       planned_expr (link_step (plain.link_seen c (link_shown y))).operand ≡ true →
-      link_step (link_seen (outside m) (link_shown y)) ≡
+      link_step (link_seen k (link_shown y)) ≡
       link_step (plain.link_seen c (link_shown y))
   link_layer y h = λ i. record { operator = y.operator; operand = y.operand.1 h i }
 
@@ -401,7 +404,7 @@ module _ (c : Catalog) (m : List ℕ → Routine)
       ShownLink ShownGrouping
       ShownSelect) →
       grouping_planned (grouping_step (plain.grouping_seen c (grouping_shown y))) ≡ true →
-      grouping_step (grouping_seen (outside m) (grouping_shown y)) ≡
+      grouping_step (grouping_seen k (grouping_shown y)) ≡
       grouping_step (plain.grouping_seen c (grouping_shown y))
   grouping_layer y h =
       let parts = halves (planned_all (exprs (map (tree_of c) (map (λ x. x.0) y.parts))))
@@ -424,7 +427,7 @@ module _ (c : Catalog) (m : List ℕ → Routine)
         grouping = g;
       } in
       planned (select_step (plain.select_seen c (select_shown y))) ≡ true →
-      select_step (select_seen (outside m) (select_shown y)) ≡
+      select_step (select_seen k (select_shown y)) ≡
       select_step (plain.select_seen c (select_shown y))
   select_made items conjuncts from None h =
       let listed = planned_all (exprs (map (tree_of c) (map (λ x. x.0) items))) in
@@ -454,7 +457,7 @@ module _ (c : Catalog) (m : List ℕ → Routine)
       ShownGrouping
       ShownSelect) →
       IsSame planned_expr expr_in tree_of (roll-BoundExpr (expr_shown y))
-  expr_whole y h = expr_in-at (outside m) (expr_shown y) ∙
+  expr_whole y h = expr_in-at k (expr_shown y) ∙
       expr_layer y (sym (ap planned_expr (plain.tree_of-at c (expr_shown y))) ∙ h) ∙
       sym (plain.tree_of-at c (expr_shown y))
 
@@ -462,7 +465,7 @@ module _ (c : Catalog) (m : List ℕ → Routine)
       ShownGrouping
       ShownSelect) → SameItem (roll-BoundFromItem (item_shown y))
   item_whole y =
-      let seen = item_in-at (outside m) (item_shown y) in
+      let seen = item_in-at k (item_shown y) in
       let stood = plain.item_of-at c (item_shown y) in record {
         whole = λ h. seen ∙ (item_layer y).0 (sym (ap item_planned stood) ∙ h) ∙ sym stood;
         first = λ h. ap itself seen ∙
@@ -474,7 +477,7 @@ module _ (c : Catalog) (m : List ℕ → Routine)
       ShownGrouping
       ShownSelect) →
       IsSame planned query_in query_of (roll-BoundQuery (query_shown y))
-  query_whole y h = query_in-at (outside m) (query_shown y) ∙
+  query_whole y h = query_in-at k (query_shown y) ∙
       query_layer y (sym (ap planned (plain.query_of-at c (query_shown y))) ∙ h) ∙
       sym (plain.query_of-at c (query_shown y))
 
@@ -482,7 +485,7 @@ module _ (c : Catalog) (m : List ℕ → Routine)
       ShownGrouping
       ShownSelect) →
       IsSame planned_all row_in row_of (roll-BoundRow (row_shown y))
-  row_whole y h = row_in-at (outside m) (row_shown y) ∙
+  row_whole y h = row_in-at k (row_shown y) ∙
       row_layer y (sym (ap planned_all (plain.row_of-at c (row_shown y))) ∙ h) ∙
       sym (plain.row_of-at c (row_shown y))
 
@@ -490,7 +493,7 @@ module _ (c : Catalog) (m : List ℕ → Routine)
       ShownGrouping
       ShownSelect) →
       IsSame planned_from source_in source_of (roll-BoundSource (source_shown y))
-  source_whole y h = source_in-at (outside m) (source_shown y) ∙
+  source_whole y h = source_in-at k (source_shown y) ∙
       source_layer y (sym (ap planned_from (plain.source_of-at c (source_shown y))) ∙ h) ∙
       sym (plain.source_of-at c (source_shown y))
 
@@ -498,7 +501,7 @@ module _ (c : Catalog) (m : List ℕ → Routine)
       ShownGrouping
       ShownSelect) →
       IsSame (λ l. planned_expr l.operand) link_in link_of (roll-BoundLink (link_shown y))
-  link_whole y h = link_in-at (outside m) (link_shown y) ∙
+  link_whole y h = link_in-at k (link_shown y) ∙
       link_layer y (sym (ap (λ l. planned_expr l.operand) (plain.link_of-at c (link_shown y))) ∙
       h) ∙
       sym (plain.link_of-at c (link_shown y))
@@ -507,7 +510,7 @@ module _ (c : Catalog) (m : List ℕ → Routine)
       ShownLink ShownGrouping
       ShownSelect) →
       IsSame grouping_planned grouping_in grouping_of (roll-BoundGrouping (grouping_shown y))
-  grouping_whole y h = grouping_in-at (outside m) (grouping_shown y) ∙
+  grouping_whole y h = grouping_in-at k (grouping_shown y) ∙
       grouping_layer y (sym (ap grouping_planned (plain.grouping_of-at c (grouping_shown y))) ∙ h) ∙
       sym (plain.grouping_of-at c (grouping_shown y))
 
@@ -515,7 +518,7 @@ module _ (c : Catalog) (m : List ℕ → Routine)
       ShownGrouping
       ShownSelect) →
       IsSame planned select_in select_of (roll-BoundSelect (select_shown y))
-  select_whole y h = select_in-at (outside m) (select_shown y) ∙
+  select_whole y h = select_in-at k (select_shown y) ∙
       select_made y.items y.conjuncts y.from y.grouping (sym (ap planned (plain.select_of-at c
       (select_shown y))) ∙ h) ∙
       sym (plain.select_of-at c (select_shown y))

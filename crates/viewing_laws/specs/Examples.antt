@@ -11,13 +11,13 @@ use Rattle.bound_trees.specs.declared.query.BoundRow.TheVariants as row
 use Rattle.bound_trees.specs.declared.statement.BoundArgument.TheVariants as argument
 use Rattle.bound_trees.specs.declared.statement.BoundStmt.{BoundStmt}
 use Rattle.bound_trees.specs.declared.statement.BoundStmt.TheVariants as bound
-use Rattle.rel_algebra.specs.Plain.{planned, planned_expr}
+use Rattle.rel_algebra.specs.Plain.{planned, planned_expr, planned_routine}
 use Rattle.rel_algebra.specs.Tree as tree
 use Rattle.rel_algebra.specs.Tree.{Expr, Exprs, Parameter, Routine}
 use Rattle.catalog_store.specs.declared.entry.DataAccess.TheVariants.{ContainsSql}
 use Rattle.catalog_store.specs.declared.entry.ParameterMode.TheVariants as mode
 use Rattle.catalog_store.specs.Catalog.{TableObject, FunctionObject, InterpretedObject}
-use Rattle.catalog_store.specs.Catalog.{ProcedureObject, Entry, Catalog, missing}
+use Rattle.catalog_store.specs.Catalog.{ProcedureObject, Entry, Catalog, missing, routine_named}
 use Rattle.catalog_store.specs.Uses.{calls, reads}
 use Rattle.catalog_store.specs.Users.{without}
 use Rattle.catalog_store.specs.View.{query_of, tree_of}
@@ -196,3 +196,7 @@ pub record PlansWorked : Type 0 where
   -- in the body of F a call of F is one of F itself
   pub in_f : (m : List ℕ → Routine) → expr_in (inside m (codes "F") of_p) f_of_v ≡
       tree.CallSelf (type.Integer ∷ []) (one (tree.Variable 0))
+  -- in the body of G, which has none, it is what it is outside
+  pub no_plan : planned_routine (routine_named (codes "G") known) ≡ false
+  pub in_g : expr_in (inside (routines_of known) (codes "G") of_p) f_of_v ≡
+      call_f tree_f (tree.Variable 0)

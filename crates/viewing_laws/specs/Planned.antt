@@ -5,10 +5,10 @@ use Rattle.std.specs.List.{IsDistinct}
 use Rattle.std.specs.Str.{bytes_eq}
 use Rattle.bound_trees.specs.declared.expr.BoundExpr.{BoundExpr}
 use Rattle.bound_trees.specs.declared.query.BoundQuery.{BoundQuery}
-use Rattle.rel_algebra.specs.Plain.{planned, planned_expr}
+use Rattle.rel_algebra.specs.Plain.{planned, planned_expr, planned_routine}
 use Rattle.rel_algebra.specs.Tree.{Returned, Routine}
 use Rattle.catalog_store.specs.declared.entry.RoutineRecord.{RoutineRecord}
-use Rattle.catalog_store.specs.Catalog.{Catalog, names_of}
+use Rattle.catalog_store.specs.Catalog.{Catalog, names_of, routine_named}
 use Rattle.catalog_store.specs.Entries.{function_of}
 use Rattle.catalog_store.specs.View.{query_of, tree_of}
 use Rattle.routine_views.specs.Views.{Known, Own, expr_in, query_in}
@@ -27,13 +27,17 @@ pub record SeenAsPlain (Such : CalledNames → Type 0) (catalog : Catalog) (k : 
   pub queries : (q : BoundQuery) → Such (query_calls q) →
       planned (query_of catalog q) ≡ true → query_in k q ≡ query_of catalog q
 
--- Outside of routines whatever has a plan is; in a routine, what doesn't call it; and so the body
--- of a function.
+-- Outside of routines whatever has a plan is; in a routine, what doesn't call it; in a routine
+-- without a plan, whatever has one, since it can't call that; and so the body of a function.
 pub record PlannedViews : Type 0 where
   pub outside_routines : (catalog : Catalog) → IsDistinct bytes_eq (names_of catalog) →
       SeenAsPlain (λ names. Unit {0}) catalog (outside (routines_of catalog))
   pub in_routine : (catalog : Catalog) (own : Own) → IsDistinct bytes_eq (names_of catalog) →
       SeenAsPlain (λ names. is_called own.name names ≡ false) catalog
+      (record { routines = routines_of catalog; own = Some own })
+  pub beside : (catalog : Catalog) (own : Own) → IsDistinct bytes_eq (names_of catalog) →
+      planned_routine (routine_named own.name catalog) ≡ false →
+      SeenAsPlain (λ names. Unit {0}) catalog
       (record { routines = routines_of catalog; own = Some own })
   pub bodies : (catalog : Catalog) (name : List ℕ) (r : RoutineRecord) →
       IsDistinct bytes_eq (names_of catalog) → is_called name (expr_calls r.body) ≡ false →

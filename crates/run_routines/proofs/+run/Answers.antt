@@ -519,8 +519,13 @@ lists::eval_rows-loop-row-preserved t c = record {
       );
 }
 
-pub queries::answer_query-returns-in-Ordered : goal.queries::answer_query-returns-in-Ordered
-queries::answer_query-returns-in-Ordered t c =
+pub queries::answer_query-returns-in-Some : goal.queries::answer_query-returns-in-Some
+queries::answer_query-returns-in-Some t c =
+    subst (λ (e : Ends (List Row)). Ended c.args.world.now c.args.world.now c.run_kept.result e)
+    (sym c.in-Some.ensures) c.run_kept.ensures
+
+pub queries::answer_by_rows-returns-in-Ordered : goal.queries::answer_by_rows-returns-in-Ordered
+queries::answer_by_rows-returns-in-Ordered t c =
     ordered_ends (self_of c.args.place.now) (known_of c.args.place.now) c.args.query.now c.in-Ordered.query c.get.result.now
     c.in-Ordered.keys c.as_slice-in-Ordered.result.now (seen c.args.outer.now) c.args.frame.now
     c.args.world.now c.answer_query-rows.new.world c.answer_query-rows.result c.ordered.result

@@ -79,7 +79,10 @@ decreases-lists::holds l = 8 * (costs (exprs_in (known_of l.place.now) l.conjunc
 -- queries
 
 abbrev pub decreases-queries::answer_query : goal.decreases-queries::answer_query
-decreases-queries::answer_query l = 8 * (query_cost (query_in (known_of l.place.now) l.query.now) + self_cost l.place.now) + 3
+decreases-queries::answer_query l = 8 * (query_cost (query_in (known_of l.place.now) l.query.now) + self_cost l.place.now) + 4
+
+abbrev pub decreases-queries::answer_by_rows : goal.decreases-queries::answer_by_rows
+decreases-queries::answer_by_rows l = 8 * (query_cost (query_in (known_of l.place.now) l.query.now) + self_cost l.place.now) + 3
 
 abbrev pub decreases-queries::select : goal.decreases-queries::select
 decreases-queries::select l = 8 * (query_cost (select_in (known_of l.place.now) l.query.now) + self_cost l.place.now) + 2
@@ -580,7 +583,7 @@ decreases-units::evaluate l =
 
 abbrev pub decreases-units::assess : goal.decreases-units::assess
 decreases-units::assess l =
-    8 * (query_cost (query_in (known_of l.place.now) l.query.now) + self_cost l.place.now) + 4
+    8 * (query_cost (query_in (known_of l.place.now) l.query.now) + self_cost l.place.now) + 5
 
 abbrev pub decreases-units::goes_on : goal.decreases-units::goes_on
 decreases-units::goes_on l =
@@ -620,7 +623,7 @@ decreases-cursors::run_close l = 8 * (scopes_cost l.place.now + self_cost l.plac
 
 abbrev pub decreases-cursors::cursor_rows : goal.decreases-cursors::cursor_rows
 decreases-cursors::cursor_rows l =
-    8 * (query_cost (cursor_in (queries_of l.place.now) l.slot) + self_cost l.place.now) + 5
+    8 * (query_cost (cursor_in (queries_of l.place.now) l.slot) + self_cost l.place.now) + 6
 
 -- SIGNAL and RESIGNAL
 
@@ -646,7 +649,7 @@ decreases-writing::run_change l =
 
 abbrev pub decreases-writing::changed : goal.decreases-writing::changed
 decreases-writing::changed l =
-    8 * (query_cost (query_in (known_of l.place.now) l.query.now) + self_cost l.place.now) + 4
+    8 * (query_cost (query_in (known_of l.place.now) l.query.now) + self_cost l.place.now) + 5
 
 -- SELECT INTO
 
@@ -657,7 +660,7 @@ decreases-selecting::run_select_into l =
 
 abbrev pub decreases-selecting::selected : goal.decreases-selecting::selected
 decreases-selecting::selected l =
-    8 * (query_cost (query_in (known_of l.place.now) l.query.now) + self_cost l.place.now) + 4
+    8 * (query_cost (query_in (known_of l.place.now) l.query.now) + self_cost l.place.now) + 5
 
 -- GET DIAGNOSTICS
 

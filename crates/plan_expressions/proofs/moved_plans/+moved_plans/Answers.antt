@@ -45,11 +45,10 @@ moved_node-returns-in_ok-test-in-Filter t c =
     filter_moved (move_of c.args.shift) c.args.depth c.in-Some.row c.args.node.now c.in-Filter.test
     c.in_ok-test-in-Filter.test c.in-Some.ensures.1 c.in-Filter.is c.in_ok-test-in-Filter.ensures
 
-pub moved_node-returns-in_ok-from_slice-in-Keep : goal.moved_node-returns-in_ok-from_slice-in-Keep
-moved_node-returns-in_ok-from_slice-in-Keep t c =
+pub moved_node-returns-in_ok-copied-in-Keep : goal.moved_node-returns-in_ok-copied-in-Keep
+moved_node-returns-in_ok-copied-in-Keep t c =
     keep_moved (move_of c.args.shift) c.args.depth c.args.node.now c.in-Keep.places
-    c.in_ok-from_slice-in-Keep.field-0 c.in-Keep.is (c.in_ok-from_slice-in-Keep.ensures ∙
-    c.as_slice-in-Keep.ensures)
+    c.in_ok-copied-in-Keep.field-0 c.in-Keep.is c.in_ok-copied-in-Keep.ensures
 
 pub moved_node-returns-in_ok-right-in-Cross : goal.moved_node-returns-in_ok-right-in-Cross
 moved_node-returns-in_ok-right-in-Cross t c =

@@ -1,4 +1,4 @@
-use Rattle.std.proofs.Common.{[], ◌∷◌, ap, ◌∙◌, codes}
+use Rattle.std.proofs.Common.{[], ◌∷◌, refl, ap, ◌∙◌, codes}
 use Rattle.rel_algebra.specs.Plain.{planned, planned_expr}
 use Rattle.rel_algebra.specs.Tree as tree
 use Rattle.routine_views.specs.Routines.{inside, routines_of}
@@ -18,4 +18,6 @@ returns c = record {
       (g-row (table (codes "T") ∷ function_f ∷ []));
   plain = call-plain known (codes "G");
   in_f = λ m. call-v-seen (inside m (codes "F") of_p) (codes "F");
+  no_plan = refl;
+  in_g = call-v-seen (inside (routines_of known) (codes "G") of_p) (codes "F");
 }

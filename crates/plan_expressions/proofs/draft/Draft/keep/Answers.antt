@@ -1,5 +1,6 @@
-use Rattle.std.proofs.Common.{◌∙◌}
+use Rattle.std.proofs.Common.{ap, ◌∙◌}
 use Rattle.rel_algebra.specs.declared.plan.Node.TheVariants.{Keep}
+use Rattle.rel_algebra.specs.Plan.{keep}
 use Rattle.rel_algebra.specs.PlanView.{leaf_of, with_nodes}
 use Rattle.plan_expressions.proofs.Nodes.{one_after, with-Keep}
 use Rattle.plan_expressions.proofs.draft.Draft.keep.Goals as goal
@@ -8,5 +9,6 @@ pub returns-clause-tree : goal.returns-clause-tree
 returns-clause-tree c =
     let plan = c.args.self.now.plan in
     let input = leaf_of plan.leaf in
-    one_after plan.nodes _ (Keep c.args.places) input c.in_ok-push.ensures.ok ∙
-    with-Keep c.args.places (with_nodes plan.nodes input)
+    one_after plan.nodes _ (Keep c.listed.result) input c.in_ok-push.ensures.ok
+    ∙ with-Keep c.listed.result (with_nodes plan.nodes input)
+    ∙ ap (λ is. keep is (with_nodes plan.nodes input)) c.listed.ensures

@@ -1,5 +1,5 @@
--- The tables stay those of the catalog, bodies stay well typed, calls listed, and names those of the
--- tables.
+-- The tables stay those of the catalog, bodies stay well typed, calls listed, names those of the
+-- tables, and kept plans those of the catalog.
 use Rattle.psm_effects.specs.Conclusions.{database}
 use Rattle.psm_session.specs.Effects.{checked}
 use Rattle.psm_session.proofs.Calls.{checked-listed, left-listed, makes-listed}
@@ -26,7 +26,7 @@ invariant_of-self c =
               (database c.check_bound.new.catalog c.check_bound.new.tables)
               c.check_bound.ensures.ok c.check_bound.ensures.err c.self.invariant.1.1.0
               (checked-listed b.bound b.by_plan old found.fits listed c.self.invariant.1.1.0),
-          c.check_bound.ensures.names,
+          (c.check_bound.ensures.names, c.check_bound.ensures.kept),
         ),
       ),
     )

@@ -1,0 +1,12 @@
+//! The plans of the queries in bodies.
+#![tactic(auto)]
+
+mod bodies;
+mod expression_calls;
+mod outermost;
+mod routines;
+mod statement_calls;
+
+pub use bodies::keep_body;
+pub use outermost::MOST_KEPT;
+pub use routines::{Asking, keep_called};

@@ -1,0 +1,86 @@
+//! Queries with their plans, found by equality.
+
+ghost use Rattle.std.specs.Prelude.{◌≡◌, true, IfOk, IfSome};
+ghost use Rattle.rel_algebra.specs.Plain.{planned};
+ghost use Rattle.catalog_store.specs.Catalog.{Catalog as PlainCatalog};
+ghost use Rattle.catalog_store.specs.View.{query_of};
+ghost use Rattle.kept_queries.specs.Keeping.{IsKept, ArePlans, KeptMean, KeptLast};
+
+use bound_equality::{copied_query, same_query};
+use bound_trees::BoundQuery;
+use catalog_store::Catalog;
+use plan_expressions::NameSources;
+use plan_queries::plan_within;
+use rel_algebra::Plan;
+use scanned_tables::{ScannedTable, scanned};
+use sql_values::NoMemory;
+use sqlite_items::Items;
+use std::alloc::Global;
+
+/// A query in the body of a routine, how many variables are in sight where it stands, its plan over
+/// as many arguments (ISO/IEC 9075-2, 7.17), and the tables that the plan reads, with the columns
+/// that each has there.
+#[derive(Drop)]
+pub struct KeptQuery {
+    pub query: BoundQuery,
+    pub variables: usize,
+    pub plan: Plan,
+    pub tables: Items<ScannedTable>,
+}
+
+/// A query whose functions all have plans, with its plan over so many variables, as many columns
+/// as each table has in the catalog. It can fail for want of memory alone.
+pub fn keep(
+    alloc: Global,
+    query: &BoundQuery,
+    variables: usize,
+    catalog: &Catalog,
+) -> Result<KeptQuery, NoMemory>
+    requires { planned (query_of catalog.now query.now) ≡ true }
+    ensures kept { IfOk result (λ k. IsKept catalog.now k) }
+    ensures query { IfOk result (λ k. k.query ≡ query.now) }
+    ensures variables { IfOk result (λ k. k.variables ≡ variables) }
+{
+    let plan = plan_within(alloc, query, &NameSources::top(alloc, variables), catalog)?;
+    let tables = scanned(alloc, &plan)?;
+    let query = copied_query(alloc, query)?;
+    Ok(KeptQuery {
+        query,
+        variables,
+        plan,
+        tables,
+    })
+}
+
+/// The first of these that is kept of an equal query over so many variables. What holds of all of
+/// them in a catalog holds of it.
+pub fn find<'a>(
+    kept: &'a [KeptQuery],
+    query: &BoundQuery,
+    variables: usize,
+) -> Option<&'a KeptQuery>
+    ensures query { IfSome result (λ k. k.now.query ≡ query.now) }
+    ensures variables { IfSome result (λ k. k.now.variables ≡ variables) }
+    ensures kept { (known : PlainCatalog) → ArePlans known kept.now →
+        IfSome result (λ k. IsKept known k.now) }
+{
+    for one in kept {
+        if one.variables == variables && same_query(&one.query, query) {
+            return Some(one);
+        }
+    }
+    None
+}
+
+/// In the body of a routine a kept query ends as its plan does, in the world in which it began:
+/// over all tables, of which those that the plan reads have the columns that they have there, and
+/// over a frame of so many variables, which are the plan's arguments.
+pub fn kept_mean()
+    ensures { KeptMean }
+{}
+
+/// A plan that is kept stays one of its query in another catalog, where the query stands for the
+/// same and the tables that the plan reads have as many columns.
+pub fn kept_last()
+    ensures { KeptLast }
+{}

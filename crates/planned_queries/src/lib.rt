@@ -1,0 +1,6 @@
+//! Whether bound queries and expressions have plans.
+#![tactic(auto)]
+
+mod planned;
+
+pub use planned::{is_planned, is_planned_expr};

@@ -1,0 +1,4 @@
+pub mod Reading
+pub mod Deciding
+pub mod Nodes
+pub mod Laws
