@@ -81,6 +81,27 @@ class Work:
         self.pg_statement = pg_statement
 
 
+SAFE = (
+    "CREATE FUNCTION safe (x INTEGER) RETURNS INTEGER BEGIN DECLARE EXIT HANDLER FOR SQLSTATE '22012' RETURN -1;\n"
+    "RETURN 100 / x; END;\n"
+)
+
+
+def handled(raising, value):
+    """A function whose EXIT handler is taken where x is 0, called for each of n rows of these values."""
+    made = "CREATE TABLE t (k INTEGER PRIMARY KEY, a INTEGER);\n"
+    filled = lambda n: made + "INSERT INTO t VALUES " + ",".join(f"({i},{value(i)})" for i in range(n)) + ";\n"
+    pg = pg_routine("FUNCTION", "safe (x BIGINT) RETURNS BIGINT", "RETURN 100 / x; EXCEPTION WHEN division_by_zero THEN RETURN -1;")
+    return Work(
+        f"rows of a function with an EXIT handler, of which {raising} raise",
+        100_000,
+        lambda n: filled(n) + SAFE,
+        fixed("SELECT SUM(safe(a)) FROM t;\n"),
+        lambda n: filled(n) + pg,
+        fixed("SELECT SUM(pg_temp.safe(a)) FROM t;\n"),
+    )
+
+
 ROUTINES = [
     Work("rounds of WHILE, with one SET", 1_000_000, nothing, loop("SET i = i + 1;"), nothing, pg_loop("i := i + 1;")),
     Work(
@@ -226,6 +247,9 @@ ROUTINES = [
         fixed(rows(KEYED)),
         updates_by_key,
     ),
+    handled("none", lambda i: 1 + i % 9),
+    handled("a tenth", lambda i: i % 10),
+    handled("all", lambda i: 0),
 ]
 
 

@@ -1,9 +1,9 @@
-//! A prepared query, and what a database is made of.
+//! A prepared query, the plan that is told of one, and what a database is made of.
 
 ghost use Rattle.std.specs.Prelude.{◌≡◌};
 
 use crate::databases::{Doing, bound, does, made};
-use psm_session::{Answer, Database, Prepared};
+use psm_session::{Answer, Database, Prepared, Reply};
 use row_types::Steps;
 use sql_values::NoMemory;
 use std::alloc::Global;
@@ -73,6 +73,34 @@ fn a_prepared_query_reads_the_tables_of_the_moment(rt: HostRuntime) -> Result<()
             has_then(alloc, statement, *rows, &query, &mut db),
             "{statement:?}"
         );
+    }
+    Ok(())
+}
+
+fn explained(alloc: Global, text: &str, db: &Database) -> Option<Reply> {
+    let query = bound(alloc, text, db.catalog())?;
+    db.explain(&query).ok()
+}
+
+// Queries, and the reply to EXPLAIN of each.
+static PLANS: [(&str, &[u8]); 2] = [
+    (
+        "VALUES (1, 'a'), (2, NULL)",
+        b"inlined 0 interpreted 0 apply 0 lookup 0 once 0\nValues 1, 'a'; 2, NULL\n00000\n",
+    ),
+    (
+        "SELECT inv(k) FROM t",
+        b"inlined 1 interpreted 0 apply 0 lookup 0 once 0\nKeep #2\n  Extend div(100, #1)\n    Extend #0\n      Scan T\n00000\n",
+    ),
+];
+
+#[test]
+fn a_query_is_explained(rt: HostRuntime) -> Result<(), Fail> {
+    let alloc = rt.alloc();
+    let db = made(alloc, Doing::Running, &MADE).ok_or("no memory")?;
+    for (text, told) in &PLANS {
+        let reply = explained(alloc, text, &db).ok_or("not explained")?;
+        assert_eq!(rt; reply.as_bytes(), *told, "{text:?}");
     }
     Ok(())
 }

@@ -6,5 +6,6 @@ pub mod Widths
 pub mod Answering
 pub mod Lasting
 pub mod Preparing
+pub mod Explaining
 pub mod Seen
 pub mod Laws

@@ -4,5 +4,6 @@ pub mod Effects
 pub mod Tasks
 pub mod Answering
 pub mod Preparing
+pub mod Explaining
 pub mod Conclusions
 pub mod Examples

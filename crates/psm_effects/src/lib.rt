@@ -7,6 +7,7 @@ mod change;
 mod conclude;
 mod creation;
 mod drop;
+mod explained;
 mod law;
 mod planned;
 mod prepared;
@@ -16,6 +17,7 @@ mod world;
 
 pub use creation::create;
 pub use drop::drop_object;
+pub use explained::explain_query;
 pub use law::queries_without_plans;
 pub use prepared::{Prepared, prepare_query, run_plan};
 pub use run::{run_delete, run_insert, run_query, run_routine, run_update};

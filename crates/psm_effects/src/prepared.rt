@@ -27,7 +27,7 @@ use table_store::Tables;
 /// A query that is prepared: its plan, which was made once.
 #[derive(Drop)]
 pub struct Prepared {
-    plan: Plan,
+    pub(crate) plan: Plan,
 }
 
 /// Prepares a query whose functions all have plans. The plan is as well formed as the one that the

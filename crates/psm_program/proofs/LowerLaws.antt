@@ -5,6 +5,9 @@ use Rattle.sql_lex.proofs.Laws as lists
 use Rattle.psm_effects.specs.Database.{Plain}
 use Rattle.psm_session.specs.Statement.{Statement}
 use Rattle.psm_session.specs.Statement.{Checked}
+use Rattle.psm_session.specs.Explains.{HoldsNoExplain}
+use Rattle.psm_session.specs.Planned.{EachPlanned}
+pub use Rattle.psm_session.proofs.Laws.{BeginsAlike}
 use Rattle.psm_session.proofs.Laws as session
 
 -- bytes have one list of tokens
@@ -15,17 +18,25 @@ one_lexing = lists.no_other_lexing
 pub some_lexing : (bytes : List ℕ) → (t : Lexing) × IsTokens bytes t
 some_lexing = lists.one_lexing
 
--- a statement at a token has one outcome
+-- a statement at a token has one outcome in a script without EXPLAIN
 pub one_statement : (budget : ℕ) (t : Lexing) (at : ℕ) (before : Plain) (r r' : List ℕ) (to to' : ℕ)
-    (after after' : Plain)
+    (after after' : Plain) → HoldsNoExplain t
     → Statement budget t at before r to after → Statement budget t at before r' to' after' →
     (r ≡ r') × (to ≡ to') × (after ≡ after')
 one_statement = session.one_statement
 
+-- and in any script one but for the rest of its reply
+pub alike_statement : (budget : ℕ) (t : Lexing) (at : ℕ) (before : Plain) (r r' : List ℕ)
+    (to to' : ℕ) (after after' : Plain)
+    → Statement budget t at before r to after → Statement budget t at before r' to' after' →
+    BeginsAlike r r' × (to ≡ to') × (after ≡ after')
+alike_statement = session.alike_statement
+
 -- and it always has one before the end
-pub some_statement : (budget : ℕ) (t : Lexing) (at : ℕ) (before : Plain) → at < length t.tokens
+pub some_statement : (budget : ℕ) (t : Lexing) (at : ℕ) (before : Plain) →
+    EachPlanned before.catalog → at < length t.tokens
     → (reply : List ℕ) × (to : ℕ) × (after : Plain) × Statement budget t at before reply to after ×
-    (at < to) × (to ≤ length t.tokens)
+    EachPlanned after.catalog × (at < to) × (to ≤ length t.tokens)
 some_statement = session.some_statement
 
 -- and so has the check of a statement
@@ -35,7 +46,8 @@ pub one_checked : (t : Lexing) (at : ℕ) (before : Plain) (r r' : List ℕ) (to
     (after ≡ after')
 one_checked = session.one_checked
 
-pub some_checked : (t : Lexing) (at : ℕ) (before : Plain) → at < length t.tokens
+pub some_checked : (t : Lexing) (at : ℕ) (before : Plain) → EachPlanned before.catalog →
+    at < length t.tokens
     → (reply : List ℕ) × (to : ℕ) × (after : Plain) × Checked t at before reply to after ×
-    (at < to) × (to ≤ length t.tokens)
+    EachPlanned after.catalog × (at < to) × (to ≤ length t.tokens)
 some_checked = session.some_checked

@@ -16,23 +16,26 @@ Runs step at before [] to after = (to ≡ at) × (after ≡ before)
 Runs {D} step at before (reply ∷ replies) to after = (mid : ℕ) × (between : D) ×
     step at before reply mid between × Runs step mid between replies to after
 
--- A statement at a place has one outcome, and none begins at the end. Only where each step is so
--- has a script one run: a step with a reply that is free in part is not, though there are runs of
--- it.
-pub record IsDetermined {D : Type 0} (step : Step D) (end : ℕ) : Type 0 where
+-- A statement at a place has one outcome, but for its reply: any two of its replies are so far the
+-- same. And none begins at the end. Only where each step has one reply has a script one run: a step
+-- with a reply that is free in part has more, which may leave one database.
+pub record IsDetermined {D : Type 0} (Same : List ℕ → List ℕ → Type 0) (step : Step D) (end : ℕ) :
+    Type 0 where
   pub one : (at : ℕ) (before : D) (reply reply' : List ℕ) (to to' : ℕ) (after after' : D) →
-      step at before reply to after → step at before reply' to' after' → (reply ≡ reply') ×
+      step at before reply to after → step at before reply' to' after' → Same reply reply' ×
       (to ≡ to') × (after ≡ after')
   pub ends : (before : D) (reply : List ℕ) (to : ℕ) (after : D) → step end before reply to after → ⊥
 
--- a statement at this place has an outcome, and the next one begins further on, up to the end
-abbrev pub GoesOn : {D : Type 0} → Step D → ℕ → ℕ → D → Type 0
-GoesOn {D} step end at before = (reply : List ℕ) × (to : ℕ) × (after : D) ×
-    step at before reply to after × (at < to) × (to ≤ end)
+-- a statement at this place has an outcome, which leaves a sound database, and the next one begins
+-- further on, up to the end
+abbrev pub GoesOn : {D : Type 0} → (D → Type 0) → Step D → ℕ → ℕ → D → Type 0
+GoesOn {D} Sound step end at before = (reply : List ℕ) × (to : ℕ) × (after : D) ×
+    step at before reply to after × Sound after × (at < to) × (to ≤ end)
 
--- so at each place before the end, whatever the database
-abbrev pub AlwaysGoesOn : {D : Type 0} → Step D → ℕ → Type 0
-AlwaysGoesOn {D} step end = (at : ℕ) (before : D) → at < end → GoesOn step end at before
+-- so at each place before the end, whatever the sound database
+abbrev pub AlwaysGoesOn : {D : Type 0} → (D → Type 0) → Step D → ℕ → Type 0
+AlwaysGoesOn {D} Sound step end = (at : ℕ) (before : D) → Sound before → at < end →
+    GoesOn Sound step end at before
 
 -- one of the replies tells of an exception or a fault
 abbrev pub has_exception : List (List ℕ) → Bool

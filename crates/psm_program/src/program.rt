@@ -110,8 +110,9 @@ pub fn run_program<'a, S: Source, K: Sink, E: Sink>(
         (command_of (map (λ w. w.now) words.entry.now) ≡ Some command)
         × RunsWhole command (S.left src.old) (S.left src.new) (K.told out.old) (K.told out.new) db.old db.new true }
 
-    // A script has one run: its replies, and the dump of its database where it is asked for, are
-    // what was written, and its database is what is left.
+    // All runs of a script leave one database, which is what is left; and where no EXPLAIN is run it
+    // has one run: its replies, and the dump of its database where it is asked for, are what was
+    // written.
     ensures only { (result ≡ Status.Done) ⊎ (result ≡ Status.DoneWithExceptions)
         → (command : Command) → command_of (map (λ w. w.now) words.entry.now) ≡ Some command
         → LeavesTheOnlyRun command (S.left src.old) (K.told out.old) (K.told out.new) db.old db.new }
@@ -149,7 +150,7 @@ pub fn run_program<'a, S: Source, K: Sink, E: Sink>(
         × IsFirstFew command (S.left src.old) (S.left src.new) (K.told out.old) (K.told out.new) db.old db.new) }
 
     // 4 and 5: what was written is a front of all replies of the script, with the dump behind them
-    // where it is asked for.
+    // where it is asked for, and where no EXPLAIN is run, of the replies of its one run.
     ensures front { (result ≡ Status.WriteFault) ⊎ (result ≡ Status.NoMemory)
         → (command : Command) → command_of (map (λ w. w.now) words.entry.now) ≡ Some command
         → WritesFront command (S.left src.old) (K.told out.old) (K.told out.new) db.old }

@@ -38,7 +38,7 @@ makes-listed s known b all binds = subst (λ (x : BoundStatement). MadeLists kno
 
 -- ---- the catalog that a statement leaves
 
-abbrev catalog_after : Bound → Catalog → Catalog
+abbrev pub catalog_after : Bound → Catalog → Catalog
 catalog_after (bound.Create name object) known = known ++ entry_of known name object ∷ []
 catalog_after (bound.Drop name) known = without name known
 catalog_after _ known = known
@@ -54,7 +54,7 @@ after-listed known (bound.Query q) runs f m c = c
 after-listed known (bound.Explain q) runs f m c = c
 after-listed known (bound.Routine s) runs f m c = c
 
-effect-catalog : (budget : ℕ) (b : Bound) (db : Plain) →
+pub effect-catalog : (budget : ℕ) (b : Bound) (db : Plain) →
     catalog_after b db.catalog ≡ (effect budget b db).after.catalog
 effect-catalog budget (bound.Create name object) db = refl
 effect-catalog budget (bound.Drop name) db = refl
@@ -69,7 +69,7 @@ effect-catalog budget (bound.Query q) db = replied-catalog rows_text db
 effect-catalog budget (bound.Explain q) db = refl
 effect-catalog budget (bound.Routine s) db = done-catalog budget s (out-BoundStmt s) db
 
-checked-catalog : (b : Bound) (db : Plain) →
+pub checked-catalog : (b : Bound) (db : Plain) →
     catalog_after b db.catalog ≡ (checked b db).after.catalog
 checked-catalog (bound.Create name object) db = refl
 checked-catalog (bound.Drop name) db = refl

@@ -11,10 +11,11 @@ use Rattle.psm_effects.specs.Effects.{answered, routine_done, bound_alone}
 use Rattle.run_modes.specs.declared.mode.Mode.{Mode}
 use Rattle.run_modes.specs.Modes.{is_by_plan}
 
--- whether a statement of this form is run; EXPLAIN is not yet
-abbrev pub is_run : Bound → Bool
-is_run (Explain query) = false
-is_run _ = true
+-- whether what a statement of this form replies is determined; of EXPLAIN, which does nothing, it is
+-- not
+abbrev pub is_done : Bound → Bool
+is_done (Explain query) = false
+is_done _ = true
 
 -- Whether a statement of which it is said whether plans answer it is done by them in a mode: so says
 -- the query that it asks, or that gives the rows of its change.
@@ -25,7 +26,7 @@ by_plans mode by_plan (Delete s) = is_by_plan mode by_plan s.rows
 by_plans mode by_plan (Query query) = is_by_plan mode by_plan query
 by_plans mode by_plan _ = by_plan
 
--- with so many turns
+-- With so many turns. An EXPLAIN leaves what was there; its reply is told elsewhere.
 abbrev pub effect : ℕ → Bound → Plain → Effect
 effect budget (Create name object) db = created (entry_of db.catalog name object) db
 effect budget (Drop name) db = dropped name db

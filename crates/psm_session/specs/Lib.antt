@@ -3,6 +3,8 @@ pub mod Bodies
 pub mod Effects
 pub mod Executing
 pub mod Statement
+pub mod Planned
+pub mod Explains
 pub mod Typed
 pub mod Names
 pub mod Dump

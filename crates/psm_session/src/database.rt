@@ -1,6 +1,6 @@
 //! The database.
 
-ghost use Rattle.std.specs.Prelude.{◌≡◌, ◌≤◌, ◌+◌, ℕ, List, [], true, IfOk, OnErr};
+ghost use Rattle.std.specs.Prelude.{◌≡◌, ◌≤◌, ◌+◌, ℕ, List, [], true, false, IfOk, OnErr};
 ghost use Rattle.rel_algebra.specs.Tree.{Query};
 ghost use Rattle.rel_algebra.specs.World.{World, no_self, no_frame};
 ghost use Rattle.rel_algebra.specs.Meaning.{answer};
@@ -8,25 +8,33 @@ ghost use Rattle.rel_algebra.specs.Joins.{table_width};
 ghost use Rattle.rel_algebra.specs.Lasting.{QueryLasts};
 ghost use Rattle.rel_algebra.specs.Plain.{planned};
 ghost use Rattle.rel_algebra.specs.Work.{work};
+ghost use Rattle.catalog_store.specs.Uses.{names_used, uses_in_query};
 ghost use Rattle.catalog_store.specs.View.{query_of};
+ghost use Rattle.bind_direct.specs.declared.bound.Bound.TheVariants.{Explain};
+ghost use Rattle.bind_queries.specs.Binds.{HasPlan};
+ghost use Rattle.bind_queries.specs.Runs.{Runs};
 ghost use Rattle.typing_plans.specs.Bodies.{kinds_in};
+ghost use Rattle.bind_statements.specs.Binds.{StatementFits};
 ghost use Rattle.bind_statements.specs.Statements.{judged_statement, anchor_of};
+ghost use Rattle.bound_trees.specs.declared.query.BoundQuery.{BoundQuery};
 ghost use Rattle.psm_effects.specs.Answering.{ends_with, HasValues};
+ghost use Rattle.psm_effects.specs.Explaining.{IsExplained};
 ghost use Rattle.psm_effects.specs.Preparing.{IsPlanOf, IsPrepared, over, plan_in};
 ghost use Rattle.psm_session.specs.Bodies.{IsTypedQuery};
 ghost use Rattle.psm_session.specs.Dump.{dump_text};
-ghost use Rattle.psm_session.specs.Executing.{Executes, Checks, reply_to, refusal};
+ghost use Rattle.psm_session.specs.Effects.{is_done as is_done_of};
+ghost use Rattle.psm_session.specs.Executing.{Executes, Checks, reply_to};
 
 use crate::dump::add_tables;
-use crate::effect::{check_bound, is_done_by_plans, is_run, run_bound};
-use crate::keeping::keep_plans;
-use bind_faults::{Fault, FaultKind};
-use bind_statements::{NameFault, anchor_of, bind_statement};
+use crate::effect::{check_bound, is_done, run_found};
+use bind_direct::{Bound, BoundStatement};
+use bind_faults::Fault;
+use bind_statements::{NameFault, bind_statement};
 use bound_trees::BoundQuery;
 use catalog_store::Catalog;
 use kept_queries::KeptPlans;
 use plan_exec::Answer;
-use psm_effects::{Prepared, prepare_query, run_plan};
+use psm_effects::{Prepared, explain_query, prepare_query, run_plan};
 use reply_text::{Dump, FaultText, Reply, fault_reply};
 use row_types::Steps;
 use run_modes::Mode;
@@ -36,7 +44,6 @@ use std::alloc::Global;
 use std::marker::Model;
 use std::mem::drop;
 use std::sync::ledger::Ledger;
-use syntax_trees::Anchor;
 use table_store::Tables;
 
 /// A catalog, and the tables that it names, each with the columns and the key that it says, in its
@@ -83,12 +90,15 @@ fn name_fault(alloc: Global, fault: Fault) -> Result<Reply, NoMemory>
     fault_reply(alloc, text, fault.at.line, fault.at.column)
 }
 
-// The reply to a statement of a form that is not run.
-fn refuse(alloc: Global, at: Anchor) -> Result<Reply, NoMemory>
-    ensures { IfOk result (λ r. r ≡ refusal at) }
+// The query of an EXPLAIN.
+fn explained_query(stmt: &Bound) -> &BoundQuery
+    requires { is_done_of stmt.now ≡ false }
+    ensures { stmt.now ≡ Explain result.now }
 {
-    let kind = FaultKind::NotPermitted;
-    name_fault(alloc, Fault { at, kind })
+    match stmt {
+        Bound::Explain(query) => query,
+        _ => unreachable!(),
+    }
 }
 
 impl Database {
@@ -171,10 +181,35 @@ impl Database {
         dump.into_reply()
     }
 
+    /// The reply to EXPLAIN of a query, which reads no variable, and has a plan where all that it uses
+    /// may be run by one: in how many places it calls functions with plans and without, and, where
+    /// there is none of the latter, the lines of a plan that means it, whatever the tables hold.
+    /// Nothing is run and nothing changes.
+    pub fn explain(&self, query: &BoundQuery) -> Result<Reply, NoMemory>
+        requires fits { Runs self.now.catalog (names_used (uses_in_query query.now)) →
+            HasPlan self.now.catalog query.now }
+        ensures { IfOk result (λ r. IsExplained self.now.catalog query.now r) }
+    {
+        let _entries = self.catalog.len();
+        explain_query(self.alloc, query, &self.catalog)
+    }
+
+    // The reply to an EXPLAIN whose names are resolved.
+    fn explain_bound(&self, stmt: BoundStatement) -> Result<Reply, NoMemory>
+        requires form { is_done_of stmt.bound ≡ false }
+        requires fits { StatementFits self.now.catalog stmt }
+        ensures { IfOk result (λ r. (query : BoundQuery) × (stmt.bound ≡ Explain query) ×
+            IsExplained self.now.catalog query r) }
+    {
+        let reply = self.explain(explained_query(&stmt.bound));
+        drop(stmt);
+        reply
+    }
+
     /// Does a statement in a mode with so many turns, and answers its reply, which is the same in
-    /// both modes. A statement with faults in this catalog changes nothing, and its reply is the
-    /// least of them; one of a form that is not run changes nothing, and its reply says so at its
-    /// anchor. Without memory nothing changes either.
+    /// both modes, but for which plan of its query an EXPLAIN tells. A statement with faults in this
+    /// catalog changes nothing, and its reply is the least of them; an EXPLAIN changes nothing, and
+    /// takes no turn. Without memory nothing changes either.
     pub fn exec_statement(
         &mut self,
         stmt: &Stmt,
@@ -188,20 +223,11 @@ impl Database {
         let _entries = self.catalog.len();
         match bind_statement(self.alloc, stmt, &self.catalog) {
             Ok(found) => {
-                if is_run(&found.bound) {
-                    let by_plan = is_done_by_plans(mode, &found);
-                    keep_plans(
+                if is_done(&found.bound) {
+                    run_found(
                         self.alloc,
+                        found,
                         mode,
-                        by_plan,
-                        &found.bound,
-                        &self.catalog,
-                        &mut self.kept,
-                    );
-                    run_bound(
-                        self.alloc,
-                        found.bound,
-                        by_plan,
                         budget,
                         &mut self.catalog,
                         &mut self.tables,
@@ -209,8 +235,7 @@ impl Database {
                         &mut self.kept,
                     )
                 } else {
-                    drop(found);
-                    refuse(self.alloc, anchor_of(stmt))
+                    self.explain_bound(found)
                 }
             }
             Err(NameFault::Fault(fault)) => name_fault(self.alloc, fault),

@@ -7,8 +7,9 @@ ghost use Rattle.bind_statements.specs.Binds.{BoundFits, StatementFits};
 ghost use Rattle.viewing_laws.specs.Standing.{CallsStandBefore};
 ghost use Rattle.psm_effects.specs.Conclusions.{database, IsEffect};
 ghost use Rattle.psm_effects.specs.Shapes.{IsWhole};
-ghost use Rattle.psm_session.specs.Effects.{is_run as is_run_by, by_plans, effect, checked};
+ghost use Rattle.psm_session.specs.Effects.{is_done as is_done_of, by_plans, effect, checked};
 
+use crate::keeping::keep_plans;
 use crate::names::{make, take_out};
 use bind_direct::{Bound, BoundStatement};
 use catalog_store::Catalog;
@@ -21,9 +22,9 @@ use std::alloc::Global;
 use std::mem::drop;
 use table_store::Tables;
 
-/// Whether a statement of this form is run: EXPLAIN is not yet.
-pub(crate) fn is_run(stmt: &Bound) -> bool
-    ensures { result ≡ is_run_by stmt.now }
+/// Whether what a statement of this form replies is determined. An EXPLAIN is not: it does nothing.
+pub(crate) fn is_done(stmt: &Bound) -> bool
+    ensures { result ≡ is_done_of stmt.now }
 {
     match stmt {
         Bound::Explain(_) => false,
@@ -45,8 +46,8 @@ fn is_asked_by_plan(mode: Mode, by_plan: bool, stmt: &Bound) -> bool
     }
 }
 
-/// Whether a bound statement is done by plans in a mode, which it then fits.
-pub(crate) fn is_done_by_plans(mode: Mode, stmt: &BoundStatement) -> bool
+// Whether a bound statement is done by plans in a mode, which it then fits.
+fn is_done_by_plans(mode: Mode, stmt: &BoundStatement) -> bool
     ensures exact { result ≡ by_plans mode stmt.now.by_plan stmt.now.bound }
     ensures fits { (catalog : PlainCatalog) → StatementFits catalog stmt.now →
         BoundFits catalog result stmt.now.bound }
@@ -54,10 +55,10 @@ pub(crate) fn is_done_by_plans(mode: Mode, stmt: &BoundStatement) -> bool
     is_asked_by_plan(mode, stmt.by_plan, &stmt.bound)
 }
 
-/// Does a bound statement with so many turns, by plans where it is said that they answer it, and
-/// answers its reply. Without memory nothing changes. The tables and the kept plans stay those of the
-/// catalog, and the names those of the tables.
-pub(crate) fn run_bound(
+// Does a bound statement with so many turns, by plans where it is said that they answer it, and
+// answers its reply. Without memory nothing changes. The tables and the kept plans stay those of the
+// catalog, and the names those of the tables.
+fn run_bound(
     alloc: Global,
     stmt: Bound,
     by_plan: bool,
@@ -113,6 +114,37 @@ pub(crate) fn run_bound(
             reply
         }
     }
+}
+
+/// Does a bound statement in a mode with so many turns, once plans are kept of what it calls, and
+/// answers its reply. Without memory nothing changes. The tables and the kept plans stay those of the
+/// catalog, and the names those of the tables.
+pub(crate) fn run_found(
+    alloc: Global,
+    stmt: BoundStatement,
+    mode: Mode,
+    budget: u64,
+    catalog: &mut Catalog,
+    tables: &mut Tables,
+    names: &mut Vec<Name>,
+    kept: &mut KeptPlans,
+) -> Result<Reply, NoMemory>
+    requires fits { StatementFits catalog.old stmt }
+    requires calls { CallsStandBefore catalog.old }
+    requires whole { IsWhole (database catalog.old tables.old) }
+    requires names { names.old.items ≡ names_of tables.old.tables }
+    requires kept { kept.old ≡ catalog.old }
+    ensures ok { IfOk result (λ r. IsEffect (effect budget stmt.bound
+        (database catalog.old tables.old)) r (database catalog.new tables.new)) }
+    ensures err { OnErr result (database catalog.new tables.new ≡ database catalog.old tables.old) }
+    ensures whole { IsWhole (database catalog.new tables.new) }
+    ensures names { names.new.items ≡ names_of tables.new.tables }
+    ensures kept { kept.new ≡ catalog.new }
+{
+    let by_plan = is_done_by_plans(mode, &stmt);
+    let BoundStatement { bound, by_plan: _ } = stmt;
+    keep_plans(alloc, mode, by_plan, &bound, &*catalog, kept);
+    run_bound(alloc, bound, by_plan, budget, catalog, tables, names, kept)
 }
 
 /// Checks a bound statement alone: a definition is carried out, and all else leaves the database.

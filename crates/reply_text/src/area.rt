@@ -6,7 +6,7 @@ ghost use Rattle.reply_text.specs.Texts.{message_text, condition_line, further_l
 ghost use Rattle.reply_text.specs.Texts.{spent_text};
 
 use crate::Reply;
-use crate::put::put;
+use crate::bytes::put;
 use sql_conditions::{Area, Condition};
 use sql_values::NoMemory;
 use std::alloc::Global;
@@ -70,7 +70,7 @@ pub fn area_reply(alloc: Global, area: &Area) -> Result<Reply, NoMemory>
 {
     let mut text = Vec::new(alloc);
     put_conditions(&mut text, area.as_slice())?;
-    Ok(Reply::of(text))
+    Ok(Reply::of_bytes(text))
 }
 
 /// The reply of a statement for which no turn was left.
@@ -78,5 +78,5 @@ pub fn spent_reply(alloc: Global) -> Result<Reply, NoMemory>
     ensures { IfOk result (λ r. r ≡ spent_text) }
 {
     let text = Vec::from_slice(alloc, b"! PS001 budget exhausted\n")?;
-    Ok(Reply::of(text))
+    Ok(Reply::of_bytes(text))
 }

@@ -5,7 +5,7 @@ ghost use Rattle.std.specs.Prelude.{◌≡◌, [], ◌++◌, IfOk, OnOk};
 ghost use Rattle.reply_text.specs.Texts.{record_text, table_line};
 
 use crate::Reply;
-use crate::put::{put, put_count};
+use crate::bytes::{put, put_count};
 use crate::record::{record_writer, record_writer_after, write_record, written_text};
 use csv::Writer;
 use row_types::Row;
@@ -83,6 +83,6 @@ impl Dump {
         ensures { IfOk result (λ r. r ≡ self) }
     {
         let Dump { alloc: _, writer } = self;
-        Ok(Reply::of(written_text(writer)?))
+        Ok(Reply::of_bytes(written_text(writer)?))
     }
 }

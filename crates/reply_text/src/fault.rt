@@ -4,7 +4,7 @@ ghost use Rattle.std.specs.Prelude.{◌≡◌, IfOk};
 ghost use Rattle.reply_text.specs.Texts.{kind_text, refusal_text, fault_text};
 
 use crate::Reply;
-use crate::put::{put, put_count};
+use crate::bytes::{put, put_count};
 use bind_faults::FaultKind;
 use sql_values::NoMemory;
 use std::alloc::Global;
@@ -63,5 +63,5 @@ pub fn fault_reply(
     put(&mut text, b" column ")?;
     put_count(&mut text, column)?;
     put(&mut text, b"\n")?;
-    Ok(Reply::of(text))
+    Ok(Reply::of_bytes(text))
 }

@@ -11,8 +11,8 @@ use itoa::Buffer;
 use sql_values::{NoMemory, Text, Value};
 use std::alloc::Global;
 
-// Writes bytes after a text, each quote mark twice.
-fn put_doubled(text: &mut Vec<u8>, bytes: &[u8]) -> Result<(), NoMemory>
+/// Writes bytes after the text, each quote mark twice.
+pub fn put_doubled(text: &mut Vec<u8>, bytes: &[u8]) -> Result<(), NoMemory>
     ensures { OnOk result (text.new.items ≡ text.old.items ++ doubled bytes.now) }
 {
     for byte in bytes {

@@ -7,7 +7,7 @@ ghost use Rattle.reply_text.specs.Writers.{written, IsBetween};
 ghost use Rattle.reply_text.specs.Texts.{record_text, count_text, rows_text, values_text, end_text};
 ghost use Rattle.reply_text.specs.Texts.{done_text};
 
-use crate::put::{put, put_count};
+use crate::bytes::{put, put_count};
 use crate::record::{record_writer, write_record, written_text};
 use csv::Writer;
 use row_types::{PlanRow, Row, RowEnd, RowList, Steps};
@@ -31,8 +31,8 @@ impl Model for Reply {
 }
 
 impl Reply {
-    /// A reply of these bytes.
-    pub(crate) fn of(text: Vec<u8>) -> Reply
+    /// A reply of these bytes, for a statement whose text is written elsewhere.
+    pub fn of_bytes(text: Vec<u8>) -> Reply
         ensures { result ≡ text.items }
     {
         Reply { text }
@@ -104,7 +104,7 @@ pub fn rows_reply<L: Ledger>(
     let total = rows.len() as u64;
     let mut text = records_text(alloc, rows, steps)?;
     put_total(&mut text, total)?;
-    Ok(Reply::of(text))
+    Ok(Reply::of_bytes(text))
 }
 
 // The text of a record for each row of values.
@@ -125,7 +125,7 @@ pub fn records_reply(alloc: Global, rows: &[Row]) -> Result<Reply, NoMemory>
 {
     let mut text = value_records(alloc, rows)?;
     put_total(&mut text, rows.len() as u64)?;
-    Ok(Reply::of(text))
+    Ok(Reply::of_bytes(text))
 }
 
 // The record of the values that a statement hands out, where there are any.
@@ -157,5 +157,5 @@ pub fn done_reply(alloc: Global, values: &[Value], rows: Option<u64>) -> Result<
 {
     let mut text = handed_out(alloc, values)?;
     put_end(&mut text, rows)?;
-    Ok(Reply::of(text))
+    Ok(Reply::of_bytes(text))
 }

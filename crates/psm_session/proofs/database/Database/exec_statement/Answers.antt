@@ -15,18 +15,18 @@ invariant_of-self c =
     found.typed in
     let listed = makes-listed c.args.stmt.now c.self.inside.catalog b c.len-entries.ensures.planned
     found.binds in (
-      c.run_bound.ensures.whole,
+      c.run_found.ensures.whole,
       (
-        left-typed c.run_bound.result (effect c.args.budget b.bound old) old
-            (database c.run_bound.new.catalog c.run_bound.new.tables)
-            c.run_bound.ensures.ok c.run_bound.ensures.err c.self.invariant.1.0
+        left-typed c.run_found.result (effect c.args.budget b.bound old) old
+            (database c.run_found.new.catalog c.run_found.new.tables)
+            c.run_found.ensures.ok c.run_found.ensures.err c.self.invariant.1.0
             (effect-typed c.args.budget b.bound b.by_plan old found.fits makes c.self.invariant.1.0),
         (
-          left-listed c.run_bound.result (effect c.args.budget b.bound old) old
-              (database c.run_bound.new.catalog c.run_bound.new.tables)
-              c.run_bound.ensures.ok c.run_bound.ensures.err c.self.invariant.1.1.0
+          left-listed c.run_found.result (effect c.args.budget b.bound old) old
+              (database c.run_found.new.catalog c.run_found.new.tables)
+              c.run_found.ensures.ok c.run_found.ensures.err c.self.invariant.1.1.0
               (effect-listed c.args.budget b.bound b.by_plan old found.fits listed c.self.invariant.1.1.0),
-          (c.run_bound.ensures.names, c.run_bound.ensures.kept),
+          (c.run_found.ensures.names, c.run_found.ensures.kept),
         ),
       ),
     )

@@ -1,0 +1,7 @@
+pub mod ScalarLists
+pub mod Fronts
+pub mod Operators
+pub mod Margins
+pub mod NodeLines
+pub mod Steps
+pub mod Ways
