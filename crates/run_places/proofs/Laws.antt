@@ -32,6 +32,7 @@ pub use Rattle.run_places.proofs.Performing.{performed_does, performed_ends}
 pub use Rattle.run_places.proofs.RowByRow.{listed_stop, listed_go, kept_stop, kept_go, match_ends}
 pub use Rattle.run_places.proofs.RowRuns.{rows_again, rows_over, rows_spent}
 pub use Rattle.run_places.proofs.SeenStatements.{stmt_in-While, stmt_in-Repeat, stmt_in-SelectInto}
+pub use Rattle.run_places.proofs.SeenStatements.{stmt_in-Set}
 pub use Rattle.run_places.proofs.SelfCosts.{falls_to_again, falls_to_self, modes_known}
 pub use Rattle.run_places.proofs.Steps.{all_go, all_stop, args_go, args_stop, rows_go, rows_stop}
 pub use Rattle.run_places.proofs.Subqueries.{single_ends, exists_ends, ordered_ends}
@@ -42,5 +43,5 @@ pub use Rattle.run_places.proofs.Underway.{ends_with, underway, value_gives, Und
 pub use Rattle.run_places.proofs.Words.{arms_cost, case_of_ends, case_of_stops, is_strict}
 pub use Rattle.run_places.proofs.Words.{strict_ends, IsCaseOf}
 pub use Rattle.run_places.proofs.Seen.{expr_in-Literal, expr_in-Column, expr_in-Variable}
-pub use Rattle.run_places.proofs.Seen.{expr_in-Operation, item_in-Comma, select_in-parts}
-pub use Rattle.run_places.proofs.Seen.{source_in-Table}
+pub use Rattle.run_places.proofs.Seen.{expr_in-Operation, expr_in-Chain, link_in-parts}
+pub use Rattle.run_places.proofs.Seen.{item_in-Comma, select_in-parts, source_in-Table}

@@ -21,7 +21,7 @@ use Rattle.bound_trees.specs.declared.statement.BoundStmt.TheVariants.{rolls-Cas
 use Rattle.bound_trees.specs.declared.statement.BoundStmt.TheVariants.{rolls-While, rolls-Repeat}
 use Rattle.bound_trees.specs.declared.statement.BoundStmt.TheVariants.{rolls-For, rolls-Leave}
 use Rattle.bound_trees.specs.declared.statement.BoundStmt.TheVariants.{rolls-Iterate, rolls-Return}
-use Rattle.bound_trees.specs.declared.statement.BoundStmt.TheVariants.{rolls-SelectInto}
+use Rattle.bound_trees.specs.declared.statement.BoundStmt.TheVariants.{rolls-SelectInto, rolls-Set}
 use Rattle.rel_algebra.specs.Tree as tree
 use Rattle.rel_algebra.specs.Tree.{Query}
 use Rattle.routine_views.specs.Views.{Known, View, BranchView, HandlerView, expr_in, query_in}
@@ -105,6 +105,10 @@ module _ (k : Known) where
   pub stmt_in-Return : (e : BoundExpr) → stmt_in k (bound.Return e) ≡
       (λ (cursors : List Query). tree.Return (expr_in k e))
   stmt_in-Return e = ap (stmt_in k) (sym (rolls-Return e)) ∙ stmt_in-at (BoundStmt-F.Return e)
+
+  pub stmt_in-Set : (t : BoundTarget) (e : BoundExpr) → stmt_in k (bound.Set t e) ≡
+      (λ (cursors : List Query). tree.Set (target t) (expr_in k e))
+  stmt_in-Set t e = ap (stmt_in k) (sym (rolls-Set t e)) ∙ stmt_in-at (BoundStmt-F.Set t e)
 
   pub stmt_in-SelectInto : (q : BoundQuery) (ts : List BoundTarget) →
       stmt_in k (bound.SelectInto q ts) ≡

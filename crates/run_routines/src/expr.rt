@@ -20,6 +20,7 @@ use bound_trees::{BoundExpr, BoundLink, BoundOperation};
 use run_expressions::{
     Arguments, Frame, RowsInSight, Stop, World, column, is_false, is_true, passes,
 };
+use run_operands::at_once;
 use run_places::Place;
 use run_rows::{applied, exists_of, member_of, single_of, value_of, with_argument};
 use sql_values::{SqlType, Value};
@@ -29,6 +30,24 @@ use sql_values::{SqlType, Value};
 /// subquery (7.19) is evaluated to its end before its rows are judged.
 #[cycle(run)]
 pub fn eval(
+    expr: &BoundExpr,
+    rows: &RowsInSight,
+    frame: &Frame,
+    world: &mut World,
+    place: &Place,
+) -> Result<Value, Stop>
+    ensures { Ended world.old world.new result
+        (ev (expr_in (known_of place.now) expr.now) (self_of place.now) (seen rows.now) frame.now (world_of world.old)) }
+{
+    match at_once(world.allocator(), expr, rows, frame) {
+        Some(value) => value,
+        None => eval_node(expr, rows, frame, world, place),
+    }
+}
+
+// The same, by the parts of the expression.
+#[cycle(run)]
+fn eval_node(
     expr: &BoundExpr,
     rows: &RowsInSight,
     frame: &Frame,

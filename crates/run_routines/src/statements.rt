@@ -26,6 +26,7 @@ use bound_trees::{BoundBranch, BoundStmt};
 use run_choices::Raise;
 use run_expressions::{World, passes};
 use run_frames::Frame;
+use run_operands::done_at_once;
 use run_outcomes::{Outcome, level_of};
 use run_places::Place;
 use sql_conditions::EngineCondition;
@@ -123,13 +124,31 @@ pub fn run_list(
         (context_of place.now) frame.old (world_of world.old)) }
 {
     for stmt in stmts {
-        match run_stmt(stmt, frame, world, place) {
+        match run_next(stmt, frame, world, place) {
             Ok(Outcome::Next) => {}
             Ok(outcome) => return Ok(outcome),
             Err(NoMemory) => return Err(NoMemory),
         }
     }
     Ok(Outcome::Next)
+}
+
+// A statement of a list. One that is done at once is not run.
+#[cycle(run)]
+fn run_next(
+    stmt: &BoundStmt,
+    frame: &mut Frame,
+    world: &mut World,
+    place: &Place,
+) -> Result<Outcome, NoMemory>
+    ensures { Ran world.old world.new frame.new result
+        (does (stmt_in (known_of place.now) stmt.now (queries_of place.now)) (context_of place.now)
+        frame.old (world_of world.old)) }
+{
+    if done_at_once(world.allocator(), stmt, frame) {
+        return Ok(Outcome::Next);
+    }
+    run_stmt(stmt, frame, world, place)
 }
 
 /// The statements of the first branch whose test passes, by the operand of CASE or without one, and

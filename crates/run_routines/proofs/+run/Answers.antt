@@ -29,6 +29,7 @@ use Rattle.run_places.specs.Cost.{costs, from_cost, arguments_cost, stmt_cost}
 use Rattle.run_places.proofs.Laws.{from_left, item_stops, join_stops, item_joined, from_stops}
 use Rattle.run_places.proofs.Laws.{comma_ends, cross_ends}
 use Rattle.run_keys.proofs.Laws.{grouped_made, listed_made}
+use Rattle.run_operands.proofs.Laws.{at_once_ends, done_ends}
 use Rattle.run_routines.proofs.Selected.{all_ends, met_ends}
 use Rattle.run_places.proofs.Laws.{inner_ends, left_ends, on_ends}
 use Rattle.run_places.proofs.Laws.{listed_stop, listed_go, kept_stop, kept_go, match_ends}
@@ -417,15 +418,21 @@ lists::eval_rows-eval_all-more-requires t c = (
 
 -- what is made of an answer
 
-pub expr::eval-returns-in-Single : goal.expr::eval-returns-in-Single
-expr::eval-returns-in-Single t c =
+pub expr::eval-returns-in-Some : goal.expr::eval-returns-in-Some
+expr::eval-returns-in-Some t c =
+    at_once_ends c.args.expr.now (seen c.args.rows.now) c.args.frame.now (known_of c.args.place.now)
+    (self_of c.args.place.now) c.args.world.now c.at_once.result c.in-Some.value c.in-Some.is
+    c.at_once.ensures
+
+pub expr::eval_node-returns-in-Single : goal.expr::eval_node-returns-in-Single
+expr::eval_node-returns-in-Single t c =
     single_ends (self_of c.args.place.now) (known_of c.args.place.now) c.args.expr.now (seen c.args.rows.now) c.args.frame.now
     c.args.world.now c.answer_query.new.world c.single_of.result c.in-Single.query
     c.get-in-Single.result.now c.answer_query.result c.in-Single.is
     c.get-in-Single.ensures c.answer_query.ensures c.single_of.ensures
 
-pub expr::eval-returns-in-Exists : goal.expr::eval-returns-in-Exists
-expr::eval-returns-in-Exists t c =
+pub expr::eval_node-returns-in-Exists : goal.expr::eval_node-returns-in-Exists
+expr::eval_node-returns-in-Exists t c =
     exists_ends (self_of c.args.place.now) (known_of c.args.place.now) c.args.expr.now (seen c.args.rows.now) c.args.frame.now
     c.args.world.now c.answer_query-in-Exists.new.world c.exists_of.result c.in-Exists.query
     c.get-in-Exists.result.now c.answer_query-in-Exists.result c.in-Exists.is
@@ -930,6 +937,22 @@ looped p inner ss f g old new r is d =
 
 -- ---- statements
 
+pub statements::run_next-returns-then-done_at_once :
+    goal.statements::run_next-returns-then-done_at_once
+statements::run_next-returns-then-done_at_once t c =
+    let p = c.args.place.now in
+    done_ends c.args.stmt.now (known_of p) (queries_of p) (context_of p) c.args.world.now
+    c.args.frame.now c.done_at_once.new.frame
+    (c.done_at_once.ensures.done c.if-done_at_once.true)
+
+pub statements::run_next-returns : goal.statements::run_next-returns
+statements::run_next-returns t c =
+    let p = c.args.place.now in
+    subst (λ (f : Frame). Ran c.args.world.now c.run_stmt.new.world c.run_stmt.new.frame
+    c.run_stmt.result (does (stmt_in (known_of p) c.args.stmt.now (queries_of p)) (context_of p) f
+    (world_of c.args.world.now))) (c.done_at_once.ensures.left c.if-done_at_once.false)
+    c.run_stmt.ensures
+
 pub statements::run_list-loop-stmt-preserved : goal.statements::run_list-loop-stmt-preserved
 statements::run_list-loop-stmt-preserved t c =
     let p = c.args.place.now in
@@ -938,9 +961,9 @@ statements::run_list-loop-stmt-preserved t c =
           (queries_of p) (context_of p) c.loop-stmt.frame c.args.world.now c.loop-stmt.world
           (does_all (stmts_in k c.args.stmts.now (queries_of p)) (context_of p) c.args.frame.now
           (world_of c.args.world.now))
-          c.run_stmt.new.frame c.run_stmt.new.world (omega (arith, c.loop-stmt-test.true))
+          c.run_next.new.frame c.run_next.new.world (omega (arith, c.loop-stmt-test.true))
           c.stmt-item.is c.loop-stmt.invariant.underway
-          (subst (λ (o : Outcome). Ran c.loop-stmt.world c.run_stmt.new.world c.run_stmt.new.frame
+          (subst (λ (o : Outcome). Ran c.loop-stmt.world c.run_next.new.world c.run_next.new.frame
           (Ok o) (does (stmt_in k c.stmt-item.result (queries_of p)) (context_of p)
           c.loop-stmt.frame (world_of c.loop-stmt.world))) c.in-Ok-Next.field-0-is
           c.in-Ok-Next.ensures);

@@ -43,9 +43,13 @@ use Rattle.run_routines.proofs.+run.Given as goal
 abbrev pub decreases-expr::eval : goal.decreases-expr::eval
 decreases-expr::eval l = 8 * (cost (expr_in (known_of l.place.now) l.expr.now) + self_cost l.place.now) + 1
 
+abbrev pub decreases-expr::eval_node : goal.decreases-expr::eval_node
+decreases-expr::eval_node l = 8 * (cost (expr_in (known_of l.place.now) l.expr.now) +
+    self_cost l.place.now)
+
 abbrev pub decreases-expr::operate : goal.decreases-expr::operate
 decreases-expr::operate l = 8 * (cost (operated l.operation
-    (map (expr_in (known_of l.place.now)) l.operands.now)) + self_cost l.place.now)
+    (map (expr_in (known_of l.place.now)) l.operands.now)) + self_cost l.place.now) - 1
 
 abbrev pub decreases-expr::and : goal.decreases-expr::and
 decreases-expr::and l = 8 * (costs (exprs_in (known_of l.place.now) l.operands.now) + self_cost l.place.now)
@@ -309,7 +313,7 @@ invariant-records::records_of-loop-row l =
 
 abbrev pub decreases-calls::call : goal.decreases-calls::call
 decreases-calls::call l = 8 * (cost (called (known_of l.place.now) l.name.now
-    (exprs_in (known_of l.place.now) l.arguments.now)) + self_cost l.place.now)
+    (exprs_in (known_of l.place.now) l.arguments.now)) + self_cost l.place.now) - 1
 
 abbrev pub decreases-calls::call_itself : goal.decreases-calls::call_itself
 decreases-calls::call_itself l = 8 * (costs (exprs_in (known_of l.place.now) l.arguments.now) + 1 +
@@ -408,6 +412,11 @@ abbrev pub decreases-statements::run_stmt : goal.decreases-statements::run_stmt
 decreases-statements::run_stmt l =
     8 * (stmt_cost (stmt_in (known_of l.place.now) l.stmt.now (queries_of l.place.now)) +
     scopes_cost l.place.now + self_cost l.place.now)
+
+abbrev pub decreases-statements::run_next : goal.decreases-statements::run_next
+decreases-statements::run_next l =
+    8 * (stmt_cost (stmt_in (known_of l.place.now) l.stmt.now (queries_of l.place.now)) +
+    scopes_cost l.place.now + self_cost l.place.now) + 1
 
 abbrev pub decreases-statements::run_list : goal.decreases-statements::run_list
 decreases-statements::run_list l =
