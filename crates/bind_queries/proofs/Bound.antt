@@ -1,6 +1,6 @@
 -- What each kind of bound tree uses, and when it has a plan, of its parts.
 use Rattle.std.proofs.Common.{◌≡◌, refl, sym, ap, ap₂, ◌∙◌, ℕ, Bool, true, false, List, [], ◌∷◌}
-use Rattle.std.proofs.Common.{◌++◌, if◌then◌else◌, map, length}
+use Rattle.std.proofs.Common.{◌++◌, ◌&&◌, if◌then◌else◌, map, length, suc}
 use Rattle.std.proofs.lemmas.Bool.{and_parts, and_from}
 use Rattle.sql_values.specs.declared.value.Value.{Value}
 use Rattle.sql_values.specs.declared.value.Value.TheVariants.{Null}
@@ -17,9 +17,9 @@ use Rattle.bound_trees.specs.declared.expr.BoundExpr.TheVariants as bound
 use Rattle.bound_trees.specs.declared.expr.BoundOperation.{BoundOperation}
 use Rattle.bound_trees.specs.declared.expr.BoundOperation.TheVariants as word
 use Rattle.bound_trees.specs.declared.query.BoundQuery.{BoundQuery}
-use Rattle.rel_algebra.specs.Tree.{Expr, Literal}
+use Rattle.rel_algebra.specs.Tree.{Expr, Literal, count}
 use Rattle.rel_algebra.specs.Plain.{planned, planned_expr, planned_all, planned_links}
-use Rattle.rel_algebra.specs.Plain.{planned_routine}
+use Rattle.rel_algebra.specs.Plain.{as_many, planned_routine}
 use Rattle.catalog_store.specs.Catalog.{routine_named}
 use Rattle.catalog_store.specs.Uses.{Uses, calls, joined, uses_in, uses_in_link, uses_in_query}
 use Rattle.catalog_store.specs.View.{Link, Standing, over_all, as_and, as_or, as_coalesce, as_case}
@@ -38,6 +38,7 @@ use Rattle.bind_parts.specs.Subqueries.{if_negated}
 use Rattle.bind_queries.proofs.Marks.{Known, Mark, nothing, ◌⊕◌, mark, marks, Covers, Alike}
 use Rattle.bind_queries.proofs.Marks.{alike-same, alike-is, alike-then, marks-one, covers-nothing}
 use Rattle.bind_queries.proofs.Marks.{covers-as}
+use Rattle.bind_queries.proofs.Runs.{called_planned}
 
 -- ---- words
 
@@ -190,15 +191,29 @@ module _ (known : Known) where
   call-mark name arguments = record {
     uses = calls name arguments ∷ [];
     planned =
-        planned_routine (routine_named name known.catalog);
+        called_planned (routine_named name known.catalog) arguments;
   }
+
+  counted : (es : List BoundExpr) →
+      count (exprs_of known.catalog es) ≡ length (map uses_in es)
+  counted [] = refl
+  counted (e ∷ es) = ap (λ n. suc n) (counted es)
 
   pub alike-call : (name : List ℕ) (es : List BoundExpr) →
       Alike known (call-mark name (length (map uses_in es)) ⊕ MS es) (M (bound.Call name es))
   alike-call name es =
       alike-same known (call-mark name (length (map uses_in es)) ⊕ MS es) (M (bound.Call name es))
       (uses_in-Call name es)
-      (λ p. ap planned_expr (tree_of-Call known.catalog name es) ∙ p)
+      (λ p.
+      let r = routine_named name known.catalog in let n = length (map uses_in es) in
+      let both = and_parts (called_planned r n) (MS es).planned p in
+      let call = and_parts (planned_routine r) (as_many r n) both.0 in
+      let many : as_many r (count (exprs_of known.catalog es)) ≡ true =
+      ap (as_many r) (counted es) ∙ call.1 in
+      ap planned_expr (tree_of-Call known.catalog name es)
+      ∙ and_from (planned_routine r)
+      ((MS es).planned && as_many r (count (exprs_of known.catalog es))) call.0
+      (and_from (MS es).planned (as_many r (count (exprs_of known.catalog es))) both.1 many))
 
   -- ---- subqueries
 

@@ -134,7 +134,7 @@ module _ (known : Known) (planned : AllPlanned known.catalog) where
       Covers known (name ∷ []) (call-mark known name arguments)
   call-covers name h arguments p n = (
     ((h, p, sym n), tt),
-    λ may. planned-call known.catalog known.own name h planned may.0 p
+    λ may. planned-call known.catalog known.own name h arguments planned may.0 p n
         (and_parts (is_run (object_named name known.catalog)) true may.1).0,
     λ other. refl,
   )

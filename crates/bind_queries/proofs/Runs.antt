@@ -1,15 +1,16 @@
 -- What a plan may use: which of the names in sight have plans, and lists of such names.
-use Rattle.std.proofs.Common.{◌≡◌, refl, sym, ap, ◌∙◌, subst, ℕ, Bool, true, false, ◌||◌, List, []}
-use Rattle.std.proofs.Common.{◌∷◌, ◌++◌, length, Option, Some, None, if◌then◌else◌}
+use Rattle.std.proofs.Common.{◌≡◌, refl, sym, ap, ◌∙◌, subst, ℕ, Bool, true, false, ◌||◌, ◌&&◌}
+use Rattle.std.proofs.Common.{List, [], ◌∷◌, ◌++◌, length, Option, Some, None, if◌then◌else◌}
 use Rattle.std.specs.Str.{bytes_eq}
-use Rattle.std.proofs.lemmas.Bool.{and_parts, and_from, or_left, or_right}
+use Rattle.std.proofs.lemmas.Bool.{and_parts, and_from, eq-eqb, or_left, or_right}
 use Rattle.std.proofs.lemmas.List.Folds.{list_all-append}
 use Rattle.std.proofs.lemmas.Slice.Eq.{bytes_eq-Decides}
-use Rattle.rel_algebra.specs.Plain.{planned_routine}
+use Rattle.rel_algebra.specs.Plain.{as_many, planned_routine}
+use Rattle.rel_algebra.specs.Tree.{Returned, Routine, parameters_of}
 use Rattle.catalog_store.specs.Catalog.{Function, Object, TableObject, FunctionObject}
 use Rattle.catalog_store.specs.Catalog.{InterpretedObject, ProcedureObject, Catalog, object_named}
 use Rattle.catalog_store.specs.Catalog.{routine_in, routine_named}
-use Rattle.catalog_store.specs.Planning.{IsPlannedObject, AllPlanned}
+use Rattle.catalog_store.specs.Planning.{AllPlanned, IsPlannedFunction, IsPlannedObject}
 use Rattle.catalog_store.specs.Uses.{SameNames}
 use Rattle.catalog_store.specs.declared.entry.FunctionHead.{FunctionHead}
 use Rattle.bind_sight.specs.declared.scope.EnclosingRoutine.{EnclosingRoutine}
@@ -18,6 +19,15 @@ use Rattle.bind_queries.specs.Runs.{is_run, all_run, Runs, IsNew}
 use Rattle.bind_queries.proofs.Sets.{Names, has}
 
 -- ---- what a name in sight stands for in the catalog
+
+-- a routine has a plan, and is called with as many values as it takes
+abbrev pub called_planned : Routine → ℕ → Bool
+called_planned r arguments = planned_routine r && as_many r arguments
+
+-- a routine takes as many values as it has parameters
+as-many : (r : Routine) (n : ℕ) → n ≡ length (parameters_of r) → as_many r n ≡ true
+as-many (Returned types returns x) n h = refl
+as-many r n h = eq-eqb n (length (parameters_of r)) h
 
 pub not-own : (known : Catalog) (own : Option EnclosingRoutine) (name : List ℕ) → IsNew known own →
     is_run (object_named name known) ≡ true → is_own name own ≡ false
@@ -52,15 +62,20 @@ with-a-plan known name h (Some (FunctionObject f)) is p r =
 with-a-plan known name h (Some (InterpretedObject f)) is p r = absurd cc
 with-a-plan known name h (Some (ProcedureObject q)) is p r = absurd cc
 
--- a function in sight that may be run has a plan
+-- a function in sight that may be run has a plan, and is called with as many values as it takes
 pub planned-call : (known : Catalog) (own : Option EnclosingRoutine) (name : List ℕ)
-    (h : FunctionHead) → AllPlanned known → IsNew known own →
-    function_known name own known ≡ Some h → is_run (object_named name known) ≡ true →
-    planned_routine (routine_named name known) ≡ true
-planned-call known own name h all new p r =
+    (h : FunctionHead) (arguments : ℕ) → AllPlanned known → IsNew known own →
+    function_known name own known ≡ Some h → arguments ≡ length h.parameters
+    → is_run (object_named name known) ≡ true →
+    called_planned (routine_named name known) arguments ≡ true
+planned-call known own name h arguments all new p n r =
     let here = in-catalog known own name h (not-own known own name new r) p in
     let g = with-a-plan known name h (object_named name known) refl here r in
-    ap (λ o. planned_routine (routine_in o)) g.1 ∙ subst IsPlannedObject g.1 (all name)
+    let is : IsPlannedFunction g.0 = subst IsPlannedObject g.1 (all name) in
+    let many : as_many g.0.routine arguments ≡ true =
+    as-many g.0.routine arguments (n ∙ sym g.2 ∙ ap (λ ps. length ps) (sym is.parameters)) in
+    ap (λ o. called_planned (routine_in o) arguments) g.1
+    ∙ and_from (planned_routine g.0.routine) (as_many g.0.routine arguments) is.planned many
 
 -- ---- lists of names
 

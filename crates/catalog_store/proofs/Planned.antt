@@ -19,7 +19,8 @@ use Rattle.catalog_store.proofs.Sound.{Held, grown}
 planned_object : (known : Catalog) (o : HeldObject) → ObjectFits known o →
     IsPlannedObject (Some (object_of known o))
 planned_object known (Table row_type) fits = tt
-planned_object known (FunctionRecord r) fits = fits.planned
+planned_object known (FunctionRecord r) fits =
+    record { planned = fits.planned; parameters = refl }
 planned_object known (InterpretedRecord f) fits = tt
 planned_object known (ProcedureRecord p) fits = tt
 

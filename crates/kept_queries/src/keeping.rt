@@ -6,6 +6,7 @@ ghost use Rattle.catalog_store.specs.Catalog.{Catalog as PlainCatalog};
 ghost use Rattle.catalog_store.specs.View.{query_of};
 ghost use Rattle.kept_queries.specs.Keeping.{IsKept, ArePlans, KeptMean, KeptLast};
 
+use block_plans::Functions;
 use bound_equality::{copied_query, same_query};
 use bound_trees::BoundQuery;
 use catalog_store::Catalog;
@@ -41,7 +42,13 @@ pub fn keep(
     ensures query { IfOk result (λ k. k.query ≡ query.now) }
     ensures variables { IfOk result (λ k. k.variables ≡ variables) }
 {
-    let plan = plan_within(alloc, query, &NameSources::top(alloc, variables), catalog)?;
+    let functions = Functions::of(catalog);
+    let plan = plan_within(
+        alloc,
+        query,
+        &NameSources::top(alloc, variables),
+        &functions,
+    )?;
     let tables = scanned(alloc, &plan)?;
     let query = copied_query(alloc, query)?;
     Ok(KeptQuery {

@@ -1,3 +1,2 @@
 pub mod Into
 pub mod Operands
-pub mod WordView

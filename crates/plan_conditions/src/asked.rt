@@ -5,10 +5,10 @@ ghost use Rattle.std.specs.Prelude.{◌≡◌, IfOk};
 ghost use Rattle.std.specs.Option.{option_copied};
 ghost use Rattle.sql_conditions.specs.States.{is_class};
 ghost use Rattle.rel_algebra.specs.OnConditions as spec;
-ghost use Rattle.plan_conditions.specs.WordView.{item_word};
+ghost use Rattle.rel_algebra.specs.WordView.{item_word};
 
 use crate::raised::engine_cell;
-use crate::word::ItemWord;
+use rel_algebra::ItemWord;
 use row_types::Cell;
 use sql_conditions::{Area, Condition, EngineCondition, SqlState};
 use sql_values::{NoMemory, Value};

@@ -3,9 +3,9 @@
 ghost use Rattle.std.specs.Prelude.{◌≡◌};
 ghost use Rattle.rel_algebra.specs.OnConditions.{matches_cell as matches_cell_by};
 ghost use Rattle.rel_algebra.specs.States as states;
-ghost use Rattle.plan_conditions.specs.WordView.{condition_value};
+ghost use Rattle.rel_algebra.specs.WordView.{condition_value};
 
-use crate::word::ConditionValue;
+use rel_algebra::ConditionValue;
 use row_types::Cell;
 use sql_conditions::{Class, SqlState};
 use sql_values::Value;

@@ -13,4 +13,4 @@ pub use asked::{class_cell, item_cell, number_cell};
 pub use handled::matches_cell;
 pub use into::{into_cells, into_collapses, raised_cells};
 pub use raised::{push_cell, retext_cell};
-pub use word::{ConditionValue, ConditionWord, ItemWord, word_cell, word_of_one, word_of_two};
+pub use word::{word_cell, word_of_one, word_of_two};

@@ -82,6 +82,7 @@ fn own_place(scalar: &Scalar) -> Option<usize>
         Scalar::Unary(_, _) => None,
         Scalar::Compare(_, _, _) => None,
         Scalar::Listed(_, _) => None,
+        Scalar::OnCondition(_, _) => None,
     }
 }
 

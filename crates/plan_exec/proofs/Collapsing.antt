@@ -21,6 +21,7 @@ use Rattle.rel_algebra.specs.Plan.{values_of}
 use Rattle.rel_algebra.specs.Joins.{places}
 use Rattle.rel_algebra.specs.States.{no_data}
 use Rattle.rel_algebra.specs.PlanView.{aggregates_of}
+use Rattle.plan_conditions.specs.Into.{into_end}
 use Rattle.plan_rows.specs.Subqueries.{exists_end, member_end, single_end}
 use Rattle.plan_nodes.specs.declared.received.Received.{Received}
 use Rattle.plan_nodes.specs.declared.received.Received.TheVariants.{Rows}
@@ -57,6 +58,12 @@ pub member_ended : (s : Scalar) (c : Cell) (end : Ending (List Row)) →
 member_ended s (Val v) (Ok rs) = refl
 member_ended s (Val v) (Err a) = refl
 member_ended s (Cond a) end = refl
+
+-- ---- SELECT INTO
+
+into_ended : (n : ℕ) (c : Cell) (end : Ending (List Row)) → into_end n end ≡ ended_as (into n) c end
+into_ended n c (Ok rs) = refl
+into_ended n c (Err a) = refl
 
 -- ---- aggregates
 
@@ -196,3 +203,9 @@ module _ (start came : Received) (rows list : List PlanRow) (b : start ≡ Rows 
   pub judged_cells : (k : Kind) (m : Cell) → ended_as k m (collected list) ≡ collapse k m rows
   judged_cells k m = ap (λ xs. ended_as k m (collected xs)) (sym list_is) ∙
       sym (collapse_is k m rows)
+
+  pub into_judged : (k : Kind) (n : ℕ) (m : Cell) → k ≡ into n →
+      into_end n (collected list) ≡ collapse k m rows
+  into_judged k n m is =
+      into_ended n m (collected list) ∙ (ap (λ j. ended_as j m (collected list)) (sym is) ∙
+      judged_cells k m)

@@ -1,12 +1,13 @@
 -- What an Apply adds to rows, and what that costs. ISO/IEC 9075-2, 7.19 (subquery), 8.4 (in
 -- predicate), 8.10 (exists predicate) and 10.9 (aggregate function).
-use Rattle.std.specs.Prelude.{ℕ, ◌+◌, Bool, false, List, [], ◌∷◌, ◌++◌, length, replicate, is_some}
-use Rattle.std.specs.Prelude.{Ok, Err}
+use Rattle.std.specs.Prelude.{ℕ, ◌+◌, Bool, false, true, List, [], ◌∷◌, ◌++◌, length, replicate}
+use Rattle.std.specs.Prelude.{is_some, Ok, Err}
 use Rattle.row_types.specs.Rows.{Row}
 use Rattle.row_types.specs.declared.cell.Cell.{Cell}
 use Rattle.row_types.specs.declared.cell.Cell.TheVariants.{Cond}
 use Rattle.row_types.specs.Cells.{PlanRow, Whole, Poisoned, area_in}
 use Rattle.rel_algebra.specs.declared.plan.ApplyKind.{ApplyKind}
+use Rattle.rel_algebra.specs.declared.plan.ApplyKind.TheVariants.{Aggregate, Into}
 use Rattle.rel_algebra.specs.declared.scalar.Scalar.{Scalar}
 use Rattle.rel_algebra.specs.Endings.{Ending}
 use Rattle.rel_algebra.specs.Plain.{Inputs}
@@ -32,6 +33,12 @@ applied_rows when kind inner w o rows =
 -- the steps of an inner plan under a row, and one for each row that it gives
 abbrev pub inner_work : PlanTree → Inputs → List (List Cell) → List Cell → ℕ
 inner_work inner w o row = work_below inner w (row ∷ o) + length (den inner w (row ∷ o))
+
+-- a kind that makes one cell of a list of rows
+abbrev pub makes_one : ApplyKind → Bool
+makes_one (Aggregate aggregates) = false
+makes_one (Into columns) = false
+makes_one _ = true
 
 -- what a kind makes of what the rows of an inner plan come to; the area of the scalar whose value
 -- is looked for goes before theirs

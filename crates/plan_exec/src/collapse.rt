@@ -11,10 +11,11 @@ ghost use Rattle.rel_algebra.specs.Plan.{member_cell as member_by};
 ghost use Rattle.rel_algebra.specs.PlanView.{kind_of};
 ghost use Rattle.plan_scalars.specs.Sights.{sight_of};
 ghost use Rattle.plan_rows.specs.Firsts.{values_end};
-ghost use Rattle.plan_exec.specs.Applying.{aggregate_cells, ended_as};
+ghost use Rattle.plan_exec.specs.Applying.{aggregate_cells, ended_as, makes_one};
 ghost use Rattle.plan_nodes.specs.Receiving.{is_list, nothing_of, nothing_wanted};
 ghost use Rattle.plan_nodes.specs.Receiving.{received as received_by};
 
+use crate::into::add_into;
 use plan_nodes::{Received, Wanted, grouped_passed};
 use plan_rows::{Values, among_cell, collect_values, exists_cell, is_true, single_cell};
 use plan_scalars::eval_on;
@@ -41,6 +42,7 @@ pub fn width(kind: &ApplyKind) -> usize
 {
     match kind {
         ApplyKind::Aggregate(columns) => columns.len(),
+        ApplyKind::Into(columns) => *columns,
         _ => 1,
     }
 }
@@ -122,6 +124,7 @@ pub fn add_collapsed<L: Ledger>(
         ApplyKind::Single => add_judged(cells, alloc, kind, member, came.into_list(), steps),
         ApplyKind::Exists => add_judged(cells, alloc, kind, member, came.into_list(), steps),
         ApplyKind::Member(_) => add_judged(cells, alloc, kind, member, came.into_list(), steps),
+        ApplyKind::Into(columns) => add_into(cells, alloc, *columns, came.into_list(), steps),
     }
 }
 
@@ -134,7 +137,7 @@ fn add_judged<L: Ledger>(
     rows: RowList,
     steps: &mut Steps<L>,
 ) -> Result<(), NoMemory>
-    requires { is_list (nothing_of kind.now) ≡ true }
+    requires { makes_one kind.now ≡ true }
     ensures cells { OnOk result (cells.new.items ≡ cells.old.items ++ ended_as (kind_of kind.now)
         member (collected rows)) }
     ensures work { steps.new ≤ steps.old + length rows }
@@ -184,7 +187,7 @@ fn judged<L: Ledger>(
     rows: RowList,
     steps: &mut Steps<L>,
 ) -> Result<Cell, NoMemory>
-    requires { is_list (nothing_of kind.now) ≡ true }
+    requires { makes_one kind.now ≡ true }
     ensures cell { IfOk result (λ c. c ∷ [] ≡ ended_as (kind_of kind.now) member (collected rows)) }
     ensures work { steps.new ≤ steps.old + length rows }
 {
@@ -193,5 +196,6 @@ fn judged<L: Ledger>(
         ApplyKind::Exists => exists_cell(alloc, rows, steps),
         ApplyKind::Member(_) => among_cell(alloc, member, rows, steps),
         ApplyKind::Aggregate(_) => unreachable!(),
+        ApplyKind::Into(_) => unreachable!(),
     }
 }

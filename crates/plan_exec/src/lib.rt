@@ -3,6 +3,7 @@
 
 mod collapse;
 mod collecting;
+mod into;
 mod opened;
 mod outer;
 mod running;

@@ -1,11 +1,11 @@
 -- Where names are read from further in.
 use Rattle.std.proofs.Common.{ℕ, ◌≡◌, ◌<◌, ◌≤◌, ◌+◌, zero, suc, true, false, List, [], ◌∷◌, ◌++◌}
 use Rattle.std.proofs.Common.{map, length, Option, Some, None, slice_get, refl, sym, ap, ◌∙◌, arith}
-use Rattle.plan_expressions.specs.Scopes.{in_span, in_spans, in_parameters, outward_span}
-use Rattle.plan_expressions.specs.Scopes.{outward_parameters, is_zero}
+use Rattle.plan_expressions.specs.Scopes.{in_list, in_span, in_spans, in_parameters}
+use Rattle.plan_expressions.specs.Scopes.{outward_parameters, outward_span, is_zero}
 use Rattle.plan_expressions.specs.declared.scope.Span.{Span}
 use Rattle.plan_expressions.specs.declared.scope.Parameters.{Parameters}
-use Rattle.plan_expressions.specs.declared.scope.Parameters.TheVariants.{Arguments, Columns}
+use Rattle.plan_expressions.specs.declared.scope.Parameters.TheVariants.{Arguments, Columns, Listed}
 use Rattle.rel_algebra.specs.Emit.{Env, Place, at, given, nowhere, outward, below, columns_within}
 use Rattle.rel_algebra.specs.Emit.{entered, lifted, folded_columns, folded_env, passed}
 
@@ -38,10 +38,18 @@ spans_outward [] d i = refl
 spans_outward (s ∷ ss) zero i = span_outward s i
 spans_outward (s ∷ ss) (suc d) i = spans_outward ss d i
 
+list_outward : (level : ℕ) (is : List ℕ) (i : ℕ) →
+    in_list (level + 1) is i ≡ outward (in_list level is i)
+list_outward level [] i = refl
+list_outward level (c ∷ cs) zero =
+    let next : level + 1 ≡ suc level = omega arith in ap (λ l. at l c) next
+list_outward level (c ∷ cs) (suc i) = list_outward level cs i
+
 parameters_outward : (p : Parameters) (i : ℕ) →
     in_parameters (outward_parameters p) i ≡ outward (in_parameters p i)
 parameters_outward (Arguments n) i = below_outward n i (given i)
 parameters_outward (Columns s) i = span_outward s i
+parameters_outward (Listed level is) i = list_outward level is i
 
 own_span : (n i : ℕ) → below n i (at 0 (0 + i)) ≡ below n i (at 0 i)
 own_span n i = let same : 0 + i ≡ i = omega arith in ap (λ q. below n i (at 0 q)) same
@@ -81,12 +89,12 @@ own_columns : (ss : List Span) (p : Parameters) (first n d i : ℕ) →
 own_columns ss p first n zero i = refl
 own_columns ss p first n (suc d) i = refl
 
-pub folded_there : (ss ts : List Span) (p : Parameters) (first n : ℕ) →
-    ts ≡ record { level = 0; first = first; count = n } ∷ ss →
-    record { columns = in_spans ts; params = in_parameters p } ≡ folded_env
+pub folded_there : (ss ts : List Span) (p q : Parameters) (first n : ℕ) →
+    ts ≡ record { level = 0; first = first; count = n } ∷ ss → q ≡ p →
+    record { columns = in_spans ts; params = in_parameters q } ≡ folded_env
     (record { columns = in_spans ss; params = in_parameters p }) first n
-folded_there ss ts p first n h =
-    (λ j. record { columns = in_spans (h j); params = in_parameters p })
+folded_there ss ts p q first n h g =
+    (λ j. record { columns = in_spans (h j); params = in_parameters (g j) })
     ∙ (λ j. record { columns = λ d i. own_columns ss p first n d i j; params = in_parameters p })
 
 -- ---- the columns at a level
@@ -101,6 +109,21 @@ pub no_span : (ss : List Span) (d i : ℕ) → None ≡ slice_get ss d → nowhe
 no_span [] d i h = refl
 no_span (t ∷ ss) zero i h = absurd (let never = h in cc)
 no_span (t ∷ ss) (suc d) i h = no_span ss d i h
+
+-- ---- the columns that are listed
+
+pub listed_there : (level : ℕ) (is : List ℕ) (i c : ℕ) → Some c ≡ slice_get is i →
+    at level c ≡ in_list level is i
+listed_there level [] i c h = absurd (let never = h in cc)
+listed_there level (d ∷ ds) zero c h =
+    (let same : c ≡ d = cc in ap (λ (x : ℕ). at level x) same)
+listed_there level (d ∷ ds) (suc i) c h = listed_there level ds i c h
+
+pub not_listed : (level : ℕ) (is : List ℕ) (i : ℕ) → None ≡ slice_get is i →
+    nowhere ≡ in_list level is i
+not_listed level [] i h = refl
+not_listed level (d ∷ ds) zero h = absurd (let never = h in cc)
+not_listed level (d ∷ ds) (suc i) h = not_listed level ds i h
 
 pub zero_is : (n : ℕ) → n ≡ 0 → true ≡ is_zero n
 zero_is n h = sym (ap is_zero h)

@@ -35,6 +35,10 @@ pub fn copied_scalar(alloc: Global, scalar: &Scalar) -> Result<Scalar, NoMemory>
             let operands = copied_list(alloc, operands.as_slice())?;
             Ok(Scalar::Listed(*word, operands))
         }
+        Scalar::OnCondition(word, operands) => {
+            let operands = copied_list(alloc, operands.as_slice())?;
+            Ok(Scalar::OnCondition(*word, operands))
+        }
     }
 }
 

@@ -250,5 +250,6 @@ fn cells_of(kind: &ApplyKind) -> usize
         ApplyKind::Exists => 1,
         ApplyKind::Member(_) => 1,
         ApplyKind::Aggregate(columns) => columns.len(),
+        ApplyKind::Into(columns) => *columns,
     }
 }

@@ -54,6 +54,10 @@ pub fn moved_scalar(
             let operands = moved_list(alloc, shift, depth, operands.as_slice())?;
             Ok(Scalar::Listed(*word, operands))
         }
+        Scalar::OnCondition(word, operands) => {
+            let operands = moved_list(alloc, shift, depth, operands.as_slice())?;
+            Ok(Scalar::OnCondition(*word, operands))
+        }
     }
 }
 
@@ -118,6 +122,7 @@ pub fn moved_kind(
             let columns = Items::from_slice(alloc, columns.as_slice())?;
             Ok(ApplyKind::Aggregate(columns))
         }
+        ApplyKind::Into(columns) => Ok(ApplyKind::Into(*columns)),
     }
 }
 

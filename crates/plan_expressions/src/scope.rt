@@ -3,8 +3,8 @@
 ghost use Rattle.std.specs.Prelude.{◌≡◌, ◌+◌, ◌++◌, map, IfOk, OnOk};
 ghost use Rattle.rel_algebra.specs.Emit.{read, at, entered, lifted, folded_env, passed, top};
 ghost use Rattle.rel_algebra.specs.PlanView.{scalar_of};
-ghost use Rattle.plan_expressions.specs.Scopes.{env_of, place_of, in_span, outward_span};
-ghost use Rattle.plan_expressions.specs.Scopes.{outward_parameters, is_zero};
+ghost use Rattle.plan_expressions.specs.Scopes.{env_of, place_of, in_list, in_span, listed_env};
+ghost use Rattle.plan_expressions.specs.Scopes.{outward_parameters, outward_span, is_zero};
 
 use rel_algebra::Scalar;
 use sql_values::{NoMemory, Value};
@@ -20,12 +20,14 @@ pub struct Span {
 }
 
 /// Where parameters are read.
-#[derive(Clone, Copy, Debug)]
+#[derive(Drop)]
 pub enum Parameters {
     /// As arguments, of which there are so many.
     Arguments(usize),
     /// In columns.
     Columns(Span),
+    /// Each in a column of its own of the row of a level.
+    Listed(usize, Items<usize>),
 }
 
 /// Where a name is read.
@@ -86,6 +88,17 @@ impl NameSources {
         }
     }
 
+    /// The body of a function whose variables stand in these columns.
+    pub fn listed(alloc: Global, columns: &[usize]) -> Result<NameSources, NoMemory>
+        ensures { IfOk result (λ s. env_of s ≡ listed_env columns.now) }
+    {
+        let columns = Items::from_slice(alloc, columns)?;
+        Ok(NameSources {
+            spans: Items::new(alloc),
+            parameters: Parameters::Listed(0, columns),
+        })
+    }
+
     /// A query on rows of so many columns, within these names.
     pub fn entered(&self, alloc: Global, columns: usize) -> Result<NameSources, NoMemory>
         ensures { IfOk result (λ s. env_of s ≡ entered (env_of self.now) columns) }
@@ -97,7 +110,7 @@ impl NameSources {
             count: columns,
         })?;
         add_outward(self.spans.as_slice(), &mut spans)?;
-        let parameters = parameters_outward(self.parameters)?;
+        let parameters = parameters_outward(alloc, &self.parameters)?;
         Ok(NameSources { spans, parameters })
     }
 
@@ -107,7 +120,7 @@ impl NameSources {
     {
         let mut spans = Items::new(alloc);
         add_outward(self.spans.as_slice(), &mut spans)?;
-        let parameters = parameters_outward(self.parameters)?;
+        let parameters = parameters_outward(alloc, &self.parameters)?;
         Ok(NameSources { spans, parameters })
     }
 
@@ -127,10 +140,8 @@ impl NameSources {
             count: columns,
         })?;
         spans.append(Items::from_slice(alloc, self.spans.as_slice())?)?;
-        Ok(NameSources {
-            spans,
-            parameters: self.parameters,
-        })
+        let parameters = copied_parameters(alloc, &self.parameters)?;
+        Ok(NameSources { spans, parameters })
     }
 
     /// Where a column is read, by its level and its place.
@@ -147,9 +158,10 @@ impl NameSources {
     pub fn parameter(&self, place: usize) -> Result<Place, NoMemory>
         ensures { IfOk result (λ p. place_of p ≡ (env_of self.now).params place) }
     {
-        match self.parameters {
-            Parameters::Arguments(count) => Ok(argument(count, place)),
-            Parameters::Columns(span) => column_in(span, place),
+        match &self.parameters {
+            Parameters::Arguments(count) => Ok(argument(*count, place)),
+            Parameters::Columns(span) => column_in(*span, place),
+            Parameters::Listed(level, columns) => Ok(listed(*level, columns, place)),
         }
     }
 }
@@ -186,12 +198,33 @@ fn span_outward(span: Span) -> Result<Span, NoMemory>
 }
 
 // Parameters, seen from a row further in.
-fn parameters_outward(parameters: Parameters) -> Result<Parameters, NoMemory>
-    ensures { IfOk result (λ p. p ≡ outward_parameters parameters) }
+fn parameters_outward(alloc: Global, parameters: &Parameters) -> Result<Parameters, NoMemory>
+    ensures { IfOk result (λ p. p ≡ outward_parameters parameters.now) }
 {
     match parameters {
-        Parameters::Arguments(count) => Ok(Parameters::Arguments(count)),
-        Parameters::Columns(span) => Ok(Parameters::Columns(span_outward(span)?)),
+        Parameters::Arguments(count) => Ok(Parameters::Arguments(*count)),
+        Parameters::Columns(span) => Ok(Parameters::Columns(span_outward(*span)?)),
+        Parameters::Listed(level, columns) => match level.checked_add(1) {
+            Some(level) => {
+                let columns = Items::from_slice(alloc, columns.as_slice())?;
+                Ok(Parameters::Listed(level, columns))
+            }
+            None => Err(NoMemory),
+        },
+    }
+}
+
+// The same parameters once more.
+fn copied_parameters(alloc: Global, parameters: &Parameters) -> Result<Parameters, NoMemory>
+    ensures { IfOk result (λ p. p ≡ parameters.now) }
+{
+    match parameters {
+        Parameters::Arguments(count) => Ok(Parameters::Arguments(*count)),
+        Parameters::Columns(span) => Ok(Parameters::Columns(*span)),
+        Parameters::Listed(level, columns) => {
+            let columns = Items::from_slice(alloc, columns.as_slice())?;
+            Ok(Parameters::Listed(*level, columns))
+        }
     }
 }
 
@@ -205,6 +238,16 @@ fn column_in(span: Span, place: usize) -> Result<Place, NoMemory>
     match span.first.checked_add(place) {
         Some(column) => Ok(Place::Column(span.level, column)),
         None => Err(NoMemory),
+    }
+}
+
+// The column of a level that is listed at a place.
+fn listed(level: usize, columns: &Items<usize>, place: usize) -> Place
+    ensures { place_of result ≡ in_list level columns.now place }
+{
+    match columns.get(place) {
+        Some(column) => Place::Column(level, *column),
+        None => Place::Nowhere,
     }
 }
 

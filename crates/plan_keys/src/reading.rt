@@ -30,6 +30,7 @@ pub fn reads_row(scalar: &Scalar) -> bool
             links_read(links.as_slice())
         }
         Scalar::Listed(_, operands) => any_reads(operands.as_slice()),
+        Scalar::OnCondition(_, operands) => any_reads(operands.as_slice()),
     }
 }
 

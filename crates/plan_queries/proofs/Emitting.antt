@@ -9,11 +9,10 @@ use Rattle.bound_trees.specs.declared.expr.BoundOperation.{BoundOperation}
 use Rattle.bound_trees.specs.declared.expr.BoundOperation.TheVariants.{CaseOf}
 use Rattle.bound_trees.specs.Operands.{takes}
 use Rattle.bound_trees.specs.declared.expr.BoundLink.{BoundLink}
-use Rattle.catalog_store.specs.Catalog.{Catalog, routine_named}
+use Rattle.block_plans.specs.Callees.{Callees, width_in}
 use Rattle.catalog_store.specs.View.{Standing, over_all, as_and, as_or, as_coalesce, as_case}
-use Rattle.catalog_store.specs.View.{as_case_of, standing, stood, case_of, exprs, tree_of, exprs_of}
-use Rattle.catalog_store.specs.View.{operated}
-use Rattle.catalog_store.specs.View.{links_of}
+use Rattle.catalog_store.specs.View.{as_case_of, standing, stood, case_of, exprs, operated}
+use Rattle.block_plans.specs.View.{expr_seen, exprs_seen, links_seen}
 use Rattle.rel_algebra.specs.declared.scalar.Scalar.{Scalar as ScalarCode}
 use Rattle.rel_algebra.specs.declared.scalar.ScalarLink.{ScalarLink as LinkCode}
 use Rattle.sql_values.specs.declared.value.SqlType.{SqlType}
@@ -35,8 +34,7 @@ use Rattle.plan_expressions.specs.Drafts.{drafted}
 use Rattle.plan_expressions.specs.Emission.{Emits, EmitsAll, put, guarded}
 use Rattle.plan_expressions.specs.Words.{word_by, word_of}
 use Rattle.plan_queries.specs.Cost.{cost, costs, links_cost}
-use Rattle.catalog_store.specs.Widths.{width_in}
-use Rattle.catalog_store.proofs.Laws.{link_of-parts as bound_link-parts}
+use Rattle.block_plans.proofs.Laws.{link_seen-parts as bound_link-parts}
 use Rattle.plan_expressions.proofs.Laws.{on_each-joined, width-joined, joined-joined}
 use Rattle.plan_expressions.proofs.Laws.{joined-nothing, rest, drop-next, put-none, put-append}
 use Rattle.plan_expressions.proofs.Laws.{scalars-counted, map-last, guarded-values, scalar_of-Chain}
@@ -60,22 +58,22 @@ then_width a b n m w = ap (λ x. width (b x).nodes x) w ∙
 -- ---- lists
 
 -- of a list's emission this much is done: these scalars stand, and what is left goes on from here
-pub record Listing (k : Catalog) (e : Env) (es : List BoundExpr) (i : ℕ) (start now : Draft)
+pub record Listing (k : Callees) (e : Env) (es : List BoundExpr) (i : ℕ) (start now : Draft)
     (front : List ScalarCode) : Type 0 where
-  pub tree : on_each (emit_all (exprs_of k (drop i es)) (width_in k) e (drafted now).width).nodes
+  pub tree : on_each (emit_all (exprs_seen k (drop i es)) (width_in k) e (drafted now).width).nodes
       (drafted now).tree
-      ≡ on_each (emit_all (exprs_of k es) (width_in k) e (drafted start).width).nodes
+      ≡ on_each (emit_all (exprs_seen k es) (width_in k) e (drafted start).width).nodes
       (drafted start).tree
-  pub columns : width (emit_all (exprs_of k (drop i es)) (width_in k) e (drafted now).width).nodes
+  pub columns : width (emit_all (exprs_seen k (drop i es)) (width_in k) e (drafted now).width).nodes
       (drafted now).width
-      ≡ width (emit_all (exprs_of k es) (width_in k) e (drafted start).width).nodes
+      ≡ width (emit_all (exprs_seen k es) (width_in k) e (drafted start).width).nodes
       (drafted start).width
-  pub scalars : put front (emit_all (exprs_of k (drop i es)) (width_in k) e
-      (drafted now).width).scalars ≡ (emit_all (exprs_of k es) (width_in k) e
+  pub scalars : put front (emit_all (exprs_seen k (drop i es)) (width_in k) e
+      (drafted now).width).scalars ≡ (emit_all (exprs_seen k es) (width_in k) e
       (drafted start).width).scalars
-  pub small : costs (exprs_of k (drop i es)) ≤ costs (exprs_of k es)
+  pub small : costs (exprs_seen k (drop i es)) ≤ costs (exprs_seen k es)
 
-pub listing_first : (k : Catalog) (e : Env) (es : List BoundExpr) (start : Draft) →
+pub listing_first : (k : Callees) (e : Env) (es : List BoundExpr) (start : Draft) →
     Listing k e es 0 start start []
 listing_first k e es start = record {
   tree = refl;
@@ -86,28 +84,30 @@ listing_first k e es start = record {
 }
 
 -- what is left begins with the expression at its place
-pub list_at : (k : Catalog) (e : Env) (es : List BoundExpr) (i : ℕ) (x : BoundExpr) (n : ℕ) →
+pub list_at : (k : Callees) (e : Env) (es : List BoundExpr) (i : ℕ) (x : BoundExpr) (n : ℕ) →
     i < length es → x ≡ get_or es i x →
-    emit_all (exprs_of k (drop i es)) (width_in k) e n ≡ first_and
-    (emit (tree_of k x) (width_in k) e n)
-    (emit_all (exprs_of k (drop (i + 1) es)) (width_in k) e) n
-list_at k e es i x n h is = ap (λ (xs : List BoundExpr). emit_all (exprs_of k xs) (width_in k) e n)
+    emit_all (exprs_seen k (drop i es)) (width_in k) e n ≡ first_and
+    (emit (expr_seen k x) (width_in k) e n)
+    (emit_all (exprs_seen k (drop (i + 1) es)) (width_in k) e) n
+list_at k e es i x n h is = ap (λ (xs : List BoundExpr). emit_all (exprs_seen k xs) (width_in k) e
+    n)
     (rest es i x h is)
 
-pub costs-rest : (k : Catalog) (es : List BoundExpr) (i : ℕ) (x : BoundExpr) → i < length es →
+pub costs-rest : (k : Callees) (es : List BoundExpr) (i : ℕ) (x : BoundExpr) → i < length es →
     x ≡ get_or es i x →
-    costs (exprs_of k (drop i es)) ≡ cost (tree_of k x) + costs (exprs_of k (drop (i + 1) es)) + 1
-costs-rest k es i x h is = ap (λ (xs : List BoundExpr). costs (exprs_of k xs)) (rest es i x h is)
+    costs (exprs_seen k (drop i es)) ≡ cost (expr_seen k x) + costs (exprs_seen k (drop (i + 1) es))
+    + 1
+costs-rest k es i x h is = ap (λ (xs : List BoundExpr). costs (exprs_seen k xs)) (rest es i x h is)
 
-pub listing_next : (k : Catalog) (e : Env) (es : List BoundExpr) (i : ℕ) (x : BoundExpr)
+pub listing_next : (k : Callees) (e : Env) (es : List BoundExpr) (i : ℕ) (x : BoundExpr)
     (start old new : Draft) (front more_front : List ScalarCode) (s : ScalarCode) →
     i < length es → x ≡ get_or es i x → Listing k e es i start old front →
-    Emits old new (scalar_of s) (emit (tree_of k x) (width_in k) e (drafted old).width) →
+    Emits old new (scalar_of s) (emit (expr_seen k x) (width_in k) e (drafted old).width) →
     more_front ≡ front ++ s ∷ [] → Listing k e es (i + 1) start new more_front
 listing_next k e es i x start old new front more_front s h is l d f =
     let n = (drafted old).width in
-    let a = emit (tree_of k x) (width_in k) e n in
-    let b = emit_all (exprs_of k (drop (i + 1) es)) (width_in k) e in
+    let a = emit (expr_seen k x) (width_in k) e n in
+    let b = emit_all (exprs_seen k (drop (i + 1) es)) (width_in k) e in
     let at = list_at k e es i x n h is in
     record {
       tree = then_tree a b n (drafted new).width (drafted old).tree (drafted new).tree d.columns
@@ -123,21 +123,21 @@ listing_next k e es i x start old new front more_front s h is l d f =
       small = omega (arith, costs-rest k es i x h is, l.small);
     }
 
-pub listing_done : (k : Catalog) (e : Env) (es : List BoundExpr) (i : ℕ) (start now : Draft)
+pub listing_done : (k : Callees) (e : Env) (es : List BoundExpr) (i : ℕ) (start now : Draft)
     (front : List ScalarCode) → length es ≤ i → Listing k e es i start now front →
-    EmitsAll start now (scalars_of front) (emit_all (exprs_of k es) (width_in k) e
+    EmitsAll start now (scalars_of front) (emit_all (exprs_seen k es) (width_in k) e
     (drafted start).width)
 listing_done k e es i start now front h l =
     let none_left = drop_all i es h in
     record {
       tree = ap (λ (xs : List BoundExpr). on_each
-          (emit_all (exprs_of k xs) (width_in k) e (drafted now).width).nodes (drafted now).tree)
+          (emit_all (exprs_seen k xs) (width_in k) e (drafted now).width).nodes (drafted now).tree)
           (sym none_left) ∙ l.tree;
       columns = ap (λ (xs : List BoundExpr). width
-          (emit_all (exprs_of k xs) (width_in k) e (drafted now).width).nodes (drafted now).width)
+          (emit_all (exprs_seen k xs) (width_in k) e (drafted now).width).nodes (drafted now).width)
           (sym none_left) ∙ l.columns;
       scalars = sym (put-none front) ∙ ap (λ (xs : List BoundExpr).
-          put front (emit_all (exprs_of k xs) (width_in k) e (drafted now).width).scalars)
+          put front (emit_all (exprs_seen k xs) (width_in k) e (drafted now).width).scalars)
           (sym none_left) ∙ l.scalars;
     }
 
@@ -199,23 +199,24 @@ chain_emits links S e start now new p q a first more_links =
       scalar = more_links.scalar ∙ ap (λ y. y.scalar) same ∙ sym (links_scalar links a S e n);
     }
 
-pub record Chaining (k : Catalog) (e : Env) (ls : List BoundLink) (i : ℕ) (start now : Draft)
+pub record Chaining (k : Callees) (e : Env) (ls : List BoundLink) (i : ℕ) (start now : Draft)
     (first : Scalar) (front : List LinkCode) : Type 0 where
-  pub tree : on_each (emit_links (links_of k (drop i ls))
+  pub tree : on_each (emit_links (links_seen k (drop i ls))
       (plain (chained first (map link_of front))) (width_in k) e (drafted now).width).nodes
       (drafted now).tree
-      ≡ on_each (emit_links (links_of k ls) (plain first) (width_in k) e
+      ≡ on_each (emit_links (links_seen k ls) (plain first) (width_in k) e
       (drafted start).width).nodes (drafted start).tree
-  pub columns : width (emit_links (links_of k (drop i ls))
+  pub columns : width (emit_links (links_seen k (drop i ls))
       (plain (chained first (map link_of front))) (width_in k) e (drafted now).width).nodes
       (drafted now).width
-      ≡ width (emit_links (links_of k ls) (plain first) (width_in k) e (drafted start).width).nodes
+      ≡ width (emit_links (links_seen k ls) (plain first) (width_in k) e
+      (drafted start).width).nodes
       (drafted start).width
-  pub scalar : (emit_links (links_of k (drop i ls)) (plain (chained first (map link_of front)))
+  pub scalar : (emit_links (links_seen k (drop i ls)) (plain (chained first (map link_of front)))
       (width_in k) e (drafted now).width).scalar
-      ≡ (emit_links (links_of k ls) (plain first) (width_in k) e (drafted start).width).scalar
+      ≡ (emit_links (links_seen k ls) (plain first) (width_in k) e (drafted start).width).scalar
 
-pub chaining_first : (k : Catalog) (e : Env) (ls : List BoundLink) (start : Draft)
+pub chaining_first : (k : Callees) (e : Env) (ls : List BoundLink) (start : Draft)
     (first : Scalar) → Chaining k e ls 0 start start first []
 chaining_first k e ls start first = record { tree = refl; columns = refl; scalar = refl }
 
@@ -227,17 +228,17 @@ chained-last first (m ∷ ls) l = chained-last (word (strict (Arithmetic m.opera
     (more first (more m.operand none))) ls l
 
 -- what is left of a chain begins with the link at its place
-pub links_at : (k : Catalog) (ls : List BoundLink) (i : ℕ) (x : BoundLink) → i < length ls →
+pub links_at : (k : Callees) (ls : List BoundLink) (i : ℕ) (x : BoundLink) → i < length ls →
     x ≡ get_or ls i x →
-    links_of k (drop i ls) ≡ MoreLinks x.operator (tree_of k x.operand)
-    (links_of k (drop (i + 1) ls))
-links_at k ls i x h is = ap (links_of k) (rest ls i x h is) ∙
-    ap (λ l. MoreLinks l.operator l.operand (links_of k (drop (i + 1) ls))) (bound_link-parts k x)
+    links_seen k (drop i ls) ≡ MoreLinks x.operator (expr_seen k x.operand)
+    (links_seen k (drop (i + 1) ls))
+links_at k ls i x h is = ap (links_seen k) (rest ls i x h is) ∙
+    ap (λ l. MoreLinks l.operator l.operand (links_seen k (drop (i + 1) ls))) (bound_link-parts k x)
 
-pub chaining_next : (k : Catalog) (e : Env) (ls : List BoundLink) (i : ℕ) (x : BoundLink)
+pub chaining_next : (k : Callees) (e : Env) (ls : List BoundLink) (i : ℕ) (x : BoundLink)
     (start old new : Draft) (first : Scalar) (front more_front : List LinkCode) (s : ScalarCode) →
     i < length ls → x ≡ get_or ls i x → Chaining k e ls i start old first front →
-    Emits old new (scalar_of s) (emit (tree_of k x.operand) (width_in k) e (drafted old).width)
+    Emits old new (scalar_of s) (emit (expr_seen k x.operand) (width_in k) e (drafted old).width)
     →
     more_front ≡ front ++ record { operator = x.operator; operand = s } ∷ [] →
     Chaining k e ls (i + 1) start new first more_front
@@ -246,11 +247,11 @@ chaining_next k e ls i x start old new first front more_front s h is c d f =
     let S = width_in k in
     let p = chained first (map link_of front) in
     let operator = x.operator in let l : LinkCode = record { operator = x.operator; operand = s } in
-    let a = emit (tree_of k x.operand) S e n in
-    let left = links_of k (drop (i + 1) ls) in
+    let a = emit (expr_seen k x.operand) S e n in
+    let left = links_seen k (drop (i + 1) ls) in
     let step = word_on (strict (Arithmetic operator))
-    (first_and (plain p) (λ m. singly (emit (tree_of k x.operand) S e m)) n) in
-    let at : emit_links (links_of k (drop i ls)) (plain p) S e n ≡ emit_links left step S e n =
+    (first_and (plain p) (λ m. singly (emit (expr_seen k x.operand) S e m)) n) in
+    let at : emit_links (links_seen k (drop i ls)) (plain p) S e n ≡ emit_links left step S e n =
     ap (λ y. emit_links y (plain p) S e n) (links_at k ls i x h is) in
     let q = word (strict (Arithmetic operator)) (more p (more a.scalar none)) in
     let built : chained first (map link_of more_front) ≡ q =
@@ -282,35 +283,35 @@ chaining_next k e ls i x start old new first front more_front s h is c d f =
     }
 
 -- the links that are left are no more than all
-pub links_small : (k : Catalog) (ls : List BoundLink) (i : ℕ) (x : BoundLink) → i < length ls →
+pub links_small : (k : Callees) (ls : List BoundLink) (i : ℕ) (x : BoundLink) → i < length ls →
     x ≡ get_or ls i x →
-    links_cost (links_of k (drop i ls)) ≡ cost (tree_of k x.operand) + links_cost
-    (links_of k (drop (i + 1) ls)) + 1
+    links_cost (links_seen k (drop i ls)) ≡ cost (expr_seen k x.operand) + links_cost
+    (links_seen k (drop (i + 1) ls)) + 1
 links_small k ls i x h is = ap links_cost (links_at k ls i x h is)
 
-pub chain_done : (k : Catalog) (e : Env) (ls : List BoundLink) (i : ℕ) (start now : Draft)
+pub chain_done : (k : Callees) (e : Env) (ls : List BoundLink) (i : ℕ) (start now : Draft)
     (front : List LinkCode) → length ls ≤ i →
     ((first : Scalar) → Chaining k e ls i start now first front) → (first : Scalar) →
     Emits start now (chained first (map link_of front))
-    (emit_links (links_of k ls) (plain first) (width_in k) e (drafted start).width)
+    (emit_links (links_seen k ls) (plain first) (width_in k) e (drafted start).width)
 chain_done k e ls i start now front h all first =
     let c = all first in
     let none_left = drop_all i ls h in
     let so_far = plain (chained first (map link_of front)) in
     record {
       tree = ap (λ (xs : List BoundLink). on_each
-          (emit_links (links_of k xs) so_far (width_in k) e (drafted now).width).nodes
+          (emit_links (links_seen k xs) so_far (width_in k) e (drafted now).width).nodes
           (drafted now).tree) (sym none_left) ∙ c.tree;
       columns = ap (λ (xs : List BoundLink). width
-          (emit_links (links_of k xs) so_far (width_in k) e (drafted now).width).nodes
+          (emit_links (links_seen k xs) so_far (width_in k) e (drafted now).width).nodes
           (drafted now).width) (sym none_left) ∙ c.columns;
       scalar = ap (λ (xs : List BoundLink).
-          (emit_links (links_of k xs) so_far (width_in k) e (drafted now).width).scalar)
+          (emit_links (links_seen k xs) so_far (width_in k) e (drafted now).width).scalar)
           (sym none_left) ∙ c.scalar;
     }
 
 -- the first operand, and then the links over its scalar
-pub chain_whole : {B : Type 0} → (k : Catalog) (x : Expr) (ls : Links) (e : Env)
+pub chain_whole : {B : Type 0} → (k : Callees) (x : Expr) (ls : Links) (e : Env)
     (start now new : Draft) (p : ScalarCode) (front : List LinkCode) (r : Result ScalarCode B) →
     Emits start now (scalar_of p) (emit x (width_in k) e (drafted start).width) →
     ((q : Scalar) → Emits now new (chained q (map link_of front))
@@ -389,22 +390,22 @@ case_emits x (test ∷ result ∷ arms) S e start compared wide new first ss s m
 -- ---- arguments
 
 -- of the emission of arguments this much is done
-pub record Passing (k : Catalog) (e : Env) (es : List BoundExpr) (types : List SqlType) (i : ℕ)
+pub record Passing (k : Callees) (e : Env) (es : List BoundExpr) (types : List SqlType) (i : ℕ)
     (start now : Draft) (front : List ScalarCode) : Type 0 where
-  pub tree : on_each (emit_args (exprs_of k (drop i es)) (drop i types) (width_in k) e
+  pub tree : on_each (emit_args (exprs_seen k (drop i es)) (drop i types) (width_in k) e
       (drafted now).width).nodes (drafted now).tree
-      ≡ on_each (emit_args (exprs_of k es) types (width_in k) e (drafted start).width).nodes
+      ≡ on_each (emit_args (exprs_seen k es) types (width_in k) e (drafted start).width).nodes
       (drafted start).tree
-  pub columns : width (emit_args (exprs_of k (drop i es)) (drop i types) (width_in k) e
+  pub columns : width (emit_args (exprs_seen k (drop i es)) (drop i types) (width_in k) e
       (drafted now).width).nodes (drafted now).width
-      ≡ width (emit_args (exprs_of k es) types (width_in k) e (drafted start).width).nodes
+      ≡ width (emit_args (exprs_seen k es) types (width_in k) e (drafted start).width).nodes
       (drafted start).width
-  pub scalars : put front (emit_args (exprs_of k (drop i es)) (drop i types) (width_in k) e
+  pub scalars : put front (emit_args (exprs_seen k (drop i es)) (drop i types) (width_in k) e
       (drafted now).width).scalars
-      ≡ (emit_args (exprs_of k es) types (width_in k) e (drafted start).width).scalars
-  pub small : costs (exprs_of k (drop i es)) ≤ costs (exprs_of k es)
+      ≡ (emit_args (exprs_seen k es) types (width_in k) e (drafted start).width).scalars
+  pub small : costs (exprs_seen k (drop i es)) ≤ costs (exprs_seen k es)
 
-pub passing_first : (k : Catalog) (e : Env) (es : List BoundExpr) (types : List SqlType)
+pub passing_first : (k : Callees) (e : Env) (es : List BoundExpr) (types : List SqlType)
     (start : Draft) → Passing k e es types 0 start start []
 passing_first k e es types start = record {
   tree = refl;
@@ -414,21 +415,21 @@ passing_first k e es types start = record {
       omega arith;
 }
 
-pub passing_next : (k : Catalog) (e : Env) (es : List BoundExpr) (types : List SqlType) (i : ℕ)
+pub passing_next : (k : Callees) (e : Env) (es : List BoundExpr) (types : List SqlType) (i : ℕ)
     (x : BoundExpr) (start old new : Draft) (front longer : List ScalarCode) (s t : ScalarCode) →
     i < length es → x ≡ get_or es i x → Passing k e es types i start old front →
-    Emits old new (scalar_of s) (emit (tree_of k x) (width_in k) e (drafted old).width) →
+    Emits old new (scalar_of s) (emit (expr_seen k x) (width_in k) e (drafted old).width) →
     scalar_of t ≡ assigning_first (drop i types) (scalar_of s) → longer ≡ front ++ t ∷ [] →
     Passing k e es types (i + 1) start new longer
 passing_next k e es types i x start old new front longer s t h is l d assigned f =
     let n = (drafted old).width in
     let S = width_in k in
     let ts = drop i types in
-    let a = assigning_in ts (emit (tree_of k x) S e n) in
-    let left = exprs_of k (drop (i + 1) es) in
+    let a = assigning_in ts (emit (expr_seen k x) S e n) in
+    let left = exprs_seen k (drop (i + 1) es) in
     let b = emit_args left (drop (i + 1) types) S e in
-    let at : emit_args (exprs_of k (drop i es)) ts S e n ≡ first_and a b n =
-    ap (λ (xs : List BoundExpr). emit_args (exprs_of k xs) ts S e n) (rest es i x h is) ∙
+    let at : emit_args (exprs_seen k (drop i es)) ts S e n ≡ first_and a b n =
+    ap (λ (xs : List BoundExpr). emit_args (exprs_seen k xs) ts S e n) (rest es i x h is) ∙
     ap (λ (us : List SqlType). first_and a (emit_args left us S e) n) (drop-next i types) in
     record {
       tree = then_tree a b n (drafted new).width (drafted old).tree (drafted new).tree d.columns
@@ -445,22 +446,22 @@ passing_next k e es types i x start old new front longer s t h is l d assigned f
       small = omega (arith, costs-rest k es i x h is, l.small);
     }
 
-pub passing_done : (k : Catalog) (e : Env) (es : List BoundExpr) (types : List SqlType) (i : ℕ)
+pub passing_done : (k : Callees) (e : Env) (es : List BoundExpr) (types : List SqlType) (i : ℕ)
     (start now : Draft) (front : List ScalarCode) → length es ≤ i →
     Passing k e es types i start now front → EmitsAll start now (scalars_of front)
-    (emit_args (exprs_of k es) types (width_in k) e (drafted start).width)
+    (emit_args (exprs_seen k es) types (width_in k) e (drafted start).width)
 passing_done k e es types i start now front h l =
     let none_left = drop_all i es h in
     let ts = drop i types in
     record {
       tree = ap (λ (xs : List BoundExpr). on_each
-          (emit_args (exprs_of k xs) ts (width_in k) e (drafted now).width).nodes
+          (emit_args (exprs_seen k xs) ts (width_in k) e (drafted now).width).nodes
           (drafted now).tree) (sym none_left) ∙ l.tree;
       columns = ap (λ (xs : List BoundExpr). width
-          (emit_args (exprs_of k xs) ts (width_in k) e (drafted now).width).nodes
+          (emit_args (exprs_seen k xs) ts (width_in k) e (drafted now).width).nodes
           (drafted now).width) (sym none_left) ∙ l.columns;
       scalars = sym (put-none front) ∙ ap (λ (xs : List BoundExpr).
-          put front (emit_args (exprs_of k xs) ts (width_in k) e (drafted now).width).scalars)
+          put front (emit_args (exprs_seen k xs) ts (width_in k) e (drafted now).width).scalars)
           (sym none_left) ∙ l.scalars;
     }
 
@@ -519,19 +520,19 @@ call_emits name routine args S e start listed extended new ss body result m k fi
 -- ---- the same of bound expressions
 
 -- what is emitted of the tree that an expression stands for
-pub emits_as : {B : Type 0} → (k : Catalog) (x : BoundExpr) (t : Expr) (e : Env)
-    (start new : Draft) (r : Result ScalarCode B) → t ≡ tree_of k x →
+pub emits_as : {B : Type 0} → (k : Callees) (x : BoundExpr) (t : Expr) (e : Env)
+    (start new : Draft) (r : Result ScalarCode B) → t ≡ expr_seen k x →
     IfOk r (λ s. Emits start new (scalar_of s) (emit t (width_in k) e (drafted start).width)) →
-    IfOk r (λ s. Emits start new (scalar_of s) (emit (tree_of k x) (width_in k) e
+    IfOk r (λ s. Emits start new (scalar_of s) (emit (expr_seen k x) (width_in k) e
     (drafted start).width))
 emits_as k x t e start new r tree d = subst (λ u. IfOk r (λ s. Emits start new (scalar_of s)
     (emit u (width_in k) e (drafted start).width))) tree d
 
 -- a name or a literal
-pub leaf_emits : {B : Type 0} → (k : Catalog) (x : BoundExpr) (t : Expr) (e : Env)
-    (start : Draft) (r : Result ScalarCode B) (p : Scalar) → t ≡ tree_of k x →
+pub leaf_emits : {B : Type 0} → (k : Callees) (x : BoundExpr) (t : Expr) (e : Env)
+    (start : Draft) (r : Result ScalarCode B) (p : Scalar) → t ≡ expr_seen k x →
     emit t (width_in k) e (drafted start).width ≡ plain p → IfOk r (λ s. scalar_of s ≡ p) →
-    IfOk r (λ s. Emits start start (scalar_of s) (emit (tree_of k x) (width_in k) e
+    IfOk r (λ s. Emits start start (scalar_of s) (emit (expr_seen k x) (width_in k) e
     (drafted start).width))
 leaf_emits k x t e start r p tree alone d =
     emits_as k x t e start start r tree
@@ -541,25 +542,25 @@ leaf_emits k x t e start r p tree alone d =
     (record { tree = refl; columns = refl; scalar = is })))
 
 -- a word over as many operands as it takes
-pub operated-taken : (k : Catalog) (operation : BoundOperation) (es : List BoundExpr) →
+pub operated-taken : (k : Callees) (operation : BoundOperation) (es : List BoundExpr) →
     takes operation (length es) ≡ true →
-    operated operation (map (tree_of k) es) ≡ stood (standing operation) (map (tree_of k) es)
+    operated operation (map (expr_seen k) es) ≡ stood (standing operation) (map (expr_seen k) es)
 operated-taken k operation es h =
     ap (λ n. if takes operation n then stood (standing operation)
-    (map (tree_of k) es) else Literal Null) (length-map (tree_of k) es)
-    ∙ ap (λ b. if b then stood (standing operation) (map (tree_of k) es) else Literal Null) h
+    (map (expr_seen k) es) else Literal Null) (length-map (expr_seen k) es)
+    ∙ ap (λ b. if b then stood (standing operation) (map (expr_seen k) es) else Literal Null) h
 
 -- and over another number
-pub operated-refused : (k : Catalog) (operation : BoundOperation) (es : List BoundExpr) →
-    takes operation (length es) ≡ false → operated operation (map (tree_of k) es) ≡ Literal Null
+pub operated-refused : (k : Callees) (operation : BoundOperation) (es : List BoundExpr) →
+    takes operation (length es) ≡ false → operated operation (map (expr_seen k) es) ≡ Literal Null
 operated-refused k operation es h =
     ap (λ n. if takes operation n then stood (standing operation)
-    (map (tree_of k) es) else Literal Null) (length-map (tree_of k) es)
-    ∙ ap (λ b. if b then stood (standing operation) (map (tree_of k) es) else Literal Null) h
+    (map (expr_seen k) es) else Literal Null) (length-map (expr_seen k) es)
+    ∙ ap (λ b. if b then stood (standing operation) (map (expr_seen k) es) else Literal Null) h
 
-pub refused_emits : (k : Catalog) (operation : BoundOperation) (es : List BoundExpr) (e : Env)
+pub refused_emits : (k : Callees) (operation : BoundOperation) (es : List BoundExpr) (e : Env)
     (start : Draft) → takes operation (length es) ≡ false →
-    Emits start start (scalar_of (Constant Null)) (emit (operated operation (map (tree_of k) es))
+    Emits start start (scalar_of (Constant Null)) (emit (operated operation (map (expr_seen k) es))
     (width_in k) e (drafted start).width)
 refused_emits k operation es e start h =
     subst (λ y. Emits start start (scalar_of (Constant Null))
@@ -567,31 +568,32 @@ refused_emits k operation es e start h =
     (record { tree = refl; columns = refl; scalar = scalar_of-Constant Null })
 
 -- a word that is no CASE with an operand
-pub words_emit : {B : Type 0} → (k : Catalog) (operation : BoundOperation) (es : List BoundExpr)
+pub words_emit : {B : Type 0} → (k : Callees) (operation : BoundOperation) (es : List BoundExpr)
     (e : Env) (start new : Draft) (r : Result ScalarCode B) →
     ¬ (standing operation ≡ as_case_of) → takes operation (length es) ≡ true →
     IfOk r (λ s. Emits start new (scalar_of s) (word_on (word_of operation)
-    (emit_all (exprs_of k es) (width_in k) e (drafted start).width))) →
-    IfOk r (λ s. Emits start new (scalar_of s) (emit (operated operation (map (tree_of k) es))
+    (emit_all (exprs_seen k es) (width_in k) e (drafted start).width))) →
+    IfOk r (λ s. Emits start new (scalar_of s) (emit (operated operation (map (expr_seen k) es))
     (width_in k) e (drafted start).width))
 words_emit k operation es e start new r other taken d =
     subst (λ a. IfOk r (λ s. Emits start new (scalar_of s) a))
-    (sym (emit-stood (standing operation) (map (tree_of k) es) (width_in k) e (drafted start).width
+    (sym (emit-stood (standing operation) (map (expr_seen k) es) (width_in k) e
+    (drafted start).width
     other) ∙ ap (λ y. emit y (width_in k) e (drafted start).width)
     (sym (operated-taken k operation es taken))) d
 
 -- CASE with an operand
-pub case_of_emits : {B : Type 0} → (k : Catalog) (operation : BoundOperation)
+pub case_of_emits : {B : Type 0} → (k : Callees) (operation : BoundOperation)
     (es : List BoundExpr) (e : Env) (start new : Draft) (r : Result ScalarCode B) →
     operation ≡ CaseOf → takes operation (length es) ≡ true →
-    IfOk r (λ s. Emits start new (scalar_of s) (emit (case_of (map (tree_of k) es)) (width_in k) e
+    IfOk r (λ s. Emits start new (scalar_of s) (emit (case_of (map (expr_seen k) es)) (width_in k) e
     (drafted start).width)) →
-    IfOk r (λ s. Emits start new (scalar_of s) (emit (operated operation (map (tree_of k) es))
+    IfOk r (λ s. Emits start new (scalar_of s) (emit (operated operation (map (expr_seen k) es))
     (width_in k) e (drafted start).width))
 case_of_emits k operation es e start new r is taken d =
     subst (λ t. IfOk r (λ s. Emits start new (scalar_of s) (emit t (width_in k) e
     (drafted start).width)))
-    (ap (λ (w : BoundOperation). stood (standing w) (map (tree_of k) es)) (sym is) ∙
+    (ap (λ (w : BoundOperation). stood (standing w) (map (expr_seen k) es)) (sym is) ∙
     sym (operated-taken k operation es taken)) d
 
 -- of a word the scalar is that of its operands
@@ -627,13 +629,13 @@ case_many CaseOf n h q = leb-true 3 n h
 case_many _ n h q = absurd (let never = q in cc)
 
 -- a word over as many operands as it takes is more than these
-pub cost-taken : (k : Catalog) (operation : BoundOperation) (es : List BoundExpr) →
+pub cost-taken : (k : Callees) (operation : BoundOperation) (es : List BoundExpr) →
     takes operation (length es) ≡ true →
-    cost (operated operation (map (tree_of k) es)) ≡ costs (exprs_of k es) + 3
+    cost (operated operation (map (expr_seen k) es)) ≡ costs (exprs_seen k es) + 3
 cost-taken k operation es h =
     ap cost (operated-taken k operation es h)
-    ∙ cost-stood (standing operation) (map (tree_of k) es)
-    (λ q. subst (λ n. 3 ≤ n) (sym (length-map (tree_of k) es))
+    ∙ cost-stood (standing operation) (map (expr_seen k) es)
+    (λ q. subst (λ n. 3 ≤ n) (sym (length-map (expr_seen k) es))
     (case_many operation (length es) h q))
 
 -- any expression costs something
@@ -660,76 +662,45 @@ all-counted : (es : List Expr) (S : List ℕ → ℕ) (e : Env) (n : ℕ) →
 all-counted [] S e n = refl
 all-counted (x ∷ es) S e n = ap suc (all-counted es S e (width (emit x S e n).nodes n))
 
-pub as_many : (k : Catalog) (es : List BoundExpr) (e : Env) (start new : Draft)
+pub as_many : (k : Callees) (es : List BoundExpr) (e : Env) (start new : Draft)
     (ss : List ScalarCode) →
-    EmitsAll start new (scalars_of ss) (emit_all (exprs_of k es) (width_in k) e
+    EmitsAll start new (scalars_of ss) (emit_all (exprs_seen k es) (width_in k) e
     (drafted start).width) → length es ≡ length ss
 as_many k es e start new ss d =
-    sym (length-map (tree_of k) es) ∙ sym (all-counted (map (tree_of k) es) (width_in k) e
+    sym (length-map (expr_seen k) es) ∙ sym (all-counted (map (expr_seen k) es) (width_in k) e
     (drafted start).width) ∙ ap scalar_count (sym d.scalars) ∙ scalars-counted ss
 
 -- ---- CASE with an operand, of bound expressions
 
 -- the first operand and the others
-pub case_bound : {B : Type 0} → (k : Catalog) (es bs : List BoundExpr) (x : BoundExpr) (e : Env)
+pub case_bound : {B : Type 0} → (k : Callees) (es bs : List BoundExpr) (x : BoundExpr) (e : Env)
     (start compared wide new : Draft) (first : ScalarCode) (ss : List ScalarCode) (m : ℕ)
     (r : Result ScalarCode B) →
     3 ≤ length es → x ≡ slice_index_or es 0 x → bs ≡ take (length es - 1) (drop 1 es) →
     Emits start compared (scalar_of first)
-    (emit (tree_of k x) (width_in k) e (drafted start).width) →
+    (emit (expr_seen k x) (width_in k) e (drafted start).width) →
     m ≡ (drafted compared).width →
     (drafted wide).tree ≡ extend (more (scalar_of first) none) (drafted compared).tree →
     (drafted wide).width ≡ (drafted compared).width + 1 →
-    EmitsAll wide new (scalars_of ss) (emit_all (exprs_of k bs) (width_in k) e
+    EmitsAll wide new (scalars_of ss) (emit_all (exprs_seen k bs) (width_in k) e
     (drafted wide).width) →
     IfOk r (λ s. scalar_of s ≡ word case_word (against m (scalars_of ss))) →
-    IfOk r (λ s. Emits start new (scalar_of s) (emit (case_of (map (tree_of k) es)) (width_in k) e
+    IfOk r (λ s. Emits start new (scalar_of s) (emit (case_of (map (expr_seen k) es)) (width_in k) e
     (drafted start).width))
 case_bound k [] bs x e start compared wide new first ss m r many head tail one at tree
     columns others made = absurd (omega (arith, many))
 case_bound k (y ∷ es) bs x e start compared wide new first ss m r many head tail one at tree
     columns others made =
-    let rest_many : 2 ≤ length (map (tree_of k) es) =
-    subst (λ n. 2 ≤ n) (sym (length-map (tree_of k) es)) (omega (arith, many)) in
+    let rest_many : 2 ≤ length (map (expr_seen k) es) =
+    subst (λ n. 2 ≤ n) (sym (length-map (expr_seen k) es)) (omega (arith, many)) in
     if_ok r (λ s. scalar_of s ≡ word case_word (against m (scalars_of ss)))
-    (λ s. Emits start new (scalar_of s) (emit (case_of (map (tree_of k) (y ∷ es))) (width_in k) e
+    (λ s. Emits start new (scalar_of s) (emit (case_of (map (expr_seen k) (y ∷ es))) (width_in k) e
     (drafted start).width)) made
-    (λ s is. case_emits (tree_of k y) (map (tree_of k) es) (width_in k) e start compared wide new
+    (λ s is. case_emits (expr_seen k y) (map (expr_seen k) es) (width_in k) e start compared wide
+    new
     (scalar_of first) (scalars_of ss) (scalar_of s) m rest_many
     (subst (λ z. Emits start compared (scalar_of first)
-    (emit (tree_of k z) (width_in k) e (drafted start).width)) head one) at tree columns
+    (emit (expr_seen k z) (width_in k) e (drafted start).width)) head one) at tree columns
     (subst (λ (ys : List BoundExpr). EmitsAll wide new (scalars_of ss)
-    (emit_all (exprs_of k ys) (width_in k) e (drafted wide).width))
+    (emit_all (exprs_seen k ys) (width_in k) e (drafted wide).width))
     (tail ∙ take_all (length (y ∷ es) - 1) es (omega arith)) others) is)
-
--- ---- names of functions, of bound expressions
-
--- the emission of a call, by its body
-pub call_bound : {B : Type 0} → (k : Catalog) (name : List ℕ) (es : List BoundExpr)
-    (types : List SqlType) (e : Env) (start listed extended new : Draft) (ss : List ScalarCode)
-    (body : ScalarCode) (m n : ℕ) (r : Result ScalarCode B) →
-    types ≡ parameters_of (routine_named name k) →
-    EmitsAll start listed (scalars_of ss)
-    (emit_args (exprs_of k es) types (width_in k) e (drafted start).width) →
-    m ≡ (drafted listed).width → n ≡ length ss →
-    (drafted extended).tree ≡ extend (scalars_of ss) (drafted listed).tree →
-    (drafted extended).width ≡ (drafted listed).width + length ss →
-    Emits extended new (scalar_of body) (emit_body (routine_named name k) (width_in k)
-    (passed m n) (drafted extended).width) →
-    IfOk r (λ s. (known : Catalog) → scalar_of s ≡ guarded
-    (checks (raising (exprs_of known es) types m)) (scalar_of body)) →
-    IfOk r (λ s. Emits start new (scalar_of s) (emit (Call name (routine_named name k)
-    (exprs_of k es)) (width_in k) e (drafted start).width))
-call_bound k name es types e start listed extended new ss body m n r typed first from many tree
-    columns second made =
-    if_ok r (λ s. (known : Catalog) → scalar_of s ≡ guarded
-    (checks (raising (exprs_of known es) types m)) (scalar_of body))
-    (λ s. Emits start new (scalar_of s) (emit (Call name (routine_named name k)
-    (exprs_of k es)) (width_in k) e (drafted start).width)) made
-    (λ s is. call_emits name (routine_named name k) (exprs_of k es) (width_in k) e start listed
-    extended new ss (scalar_of body) (scalar_of s) m n
-    (subst (λ (ts : List SqlType). EmitsAll start listed (scalars_of ss)
-    (emit_args (exprs_of k es) ts (width_in k) e (drafted start).width)) typed first) from many
-    tree columns second
-    (is k ∙ ap (λ (ts : List SqlType). guarded (checks (raising (exprs_of k es) ts m))
-    (scalar_of body)) typed))

@@ -3,5 +3,6 @@ pub mod Queries
 pub mod Joining
 pub mod Tests
 pub mod Emitting
+pub mod Calling
 pub mod Asked
 pub mod Costs

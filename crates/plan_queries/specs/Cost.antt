@@ -7,8 +7,9 @@ use Rattle.rel_algebra.specs.Tree.{MoreExprs, Routine, Returned, Rows, NoRow, Mo
 use Rattle.rel_algebra.specs.Tree.{Derived, Cross, Inner, LeftOuter, Query, Select, Grouped, Values}
 use Rattle.rel_algebra.specs.Tree.{Ordered}
 use Rattle.catalog_store.specs.View.{Joining, after_comma, crossing, matching, matching_or_nulls}
-use Rattle.catalog_store.specs.View.{itself, exprs_of}
-use Rattle.catalog_store.specs.Catalog.{Catalog}
+use Rattle.catalog_store.specs.View.{itself}
+use Rattle.block_plans.specs.View.{exprs_seen}
+use Rattle.block_plans.specs.Callees.{Callees}
 use Rattle.bound_trees.specs.declared.query.BoundGrouping.{BoundGrouping}
 
 abbrev mutual
@@ -24,7 +25,7 @@ abbrev mutual
   cost (In e query) = cost e + query_cost query + 4
   cost (Exists query) = query_cost query + 3
   cost (Single query) = query_cost query + 3
-  cost (Call name routine args) = costs args + routine_cost routine + 2
+  cost (Call name routine args) = costs args + routine_cost routine + 3
   cost _ = 1
 
   pub links_cost : Links → ℕ
@@ -79,6 +80,6 @@ items_cost (i ∷ is) = from_cost (itself i) + joinings_cost is
 -- ---- groups
 
 -- the parts of a grouping with its HAVING
-abbrev pub grouping_cost : Catalog → Option BoundGrouping → ℕ
+abbrev pub grouping_cost : Callees → Option BoundGrouping → ℕ
 grouping_cost k None = 0
-grouping_cost k (Some g) = costs (exprs_of k g.parts) + costs (exprs_of k g.having)
+grouping_cost k (Some g) = costs (exprs_seen k g.parts) + costs (exprs_seen k g.having)

@@ -8,9 +8,8 @@ use Rattle.rel_algebra.specs.Plan.{PlanTree}
 use Rattle.rel_algebra.specs.PlanView.{scalars_of, lists_of}
 use Rattle.rel_algebra.specs.Emit.{Env, EmittedAll, all_plain, chosen, emit_rows, is_plain}
 use Rattle.rel_algebra.specs.Emit.{list_nodes, scalars_of as all_scalars_of, values_plan}
-use Rattle.catalog_store.specs.Catalog.{Catalog}
-use Rattle.catalog_store.specs.View.{rows_of}
-use Rattle.catalog_store.specs.Widths.{width_in}
+use Rattle.block_plans.specs.Callees.{Callees, width_in}
+use Rattle.block_plans.specs.View.{rows_seen}
 
 -- the lists of rows, where none needs nodes
 abbrev pub ArePlain : Option (List ScalarRow) → List EmittedAll → Type 0
@@ -27,6 +26,6 @@ abbrev pub by_number : ℕ → List EmittedAll → EmittedAll
 by_number w lists = record { nodes = list_nodes lists; scalars = chosen w 0 lists }
 
 -- the plan of rows of VALUES, by where their names are read
-abbrev pub rows_plan : Catalog → List BoundRow → Env → PlanTree
-rows_plan k rs e = values_plan (rows_width (rows_of k rs))
-    (emit_rows (rows_of k rs) (width_in k) e 0) (emit_rows (rows_of k rs) (width_in k) e 1)
+abbrev pub rows_plan : Callees → List BoundRow → Env → PlanTree
+rows_plan k rs e = values_plan (rows_width (rows_seen k rs))
+    (emit_rows (rows_seen k rs) (width_in k) e 0) (emit_rows (rows_seen k rs) (width_in k) e 1)

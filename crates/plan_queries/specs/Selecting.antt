@@ -1,8 +1,8 @@
 -- The plan of a query over the rows of a plan. ISO/IEC 9075-2, 7.16 (query specification).
 use Rattle.std.specs.Prelude.{ℕ, ◌+◌, List, length, Option, Some, None}
 use Rattle.bound_trees.specs.declared.query.BoundGrouping.{BoundGrouping}
-use Rattle.catalog_store.specs.Catalog.{Catalog}
-use Rattle.catalog_store.specs.View.{exprs_of}
+use Rattle.block_plans.specs.Callees.{Callees}
+use Rattle.block_plans.specs.View.{exprs_seen}
 use Rattle.rel_algebra.specs.Tree.{Exprs}
 use Rattle.rel_algebra.specs.Plan.{PlanTree}
 use Rattle.rel_algebra.specs.Emit.{Env, entered, none_waits, emit_all, emit_tests, selected}
@@ -15,9 +15,9 @@ selected_rows list conjuncts S e n input =
     (emit_all list S within) n input
 
 -- the same, or of the groups of these rows those that HAVING leaves, and of each the list
-abbrev pub selected_groups : Catalog → Option BoundGrouping → Exprs → Exprs → (List ℕ → ℕ) → Env →
+abbrev pub selected_groups : Callees → Option BoundGrouping → Exprs → Exprs → (List ℕ → ℕ) → Env →
     ℕ → PlanTree → PlanTree
 selected_groups k None list conjuncts S e n input = selected_rows list conjuncts S e n input
 selected_groups k (Some g) list conjuncts S e n input =
-    selected_rows list (exprs_of k g.having) S e (g.keys + length g.aggregates)
-    (grouped_rows g.keys g.aggregates (selected_rows (exprs_of k g.parts) conjuncts S e n input))
+    selected_rows list (exprs_seen k g.having) S e (g.keys + length g.aggregates)
+    (grouped_rows g.keys g.aggregates (selected_rows (exprs_seen k g.parts) conjuncts S e n input))

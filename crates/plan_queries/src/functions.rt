@@ -11,6 +11,7 @@ ghost use Rattle.catalog_store.specs.View.{tree_of};
 ghost use Rattle.catalog_store.specs.Widths.{width_in};
 
 use crate::emit::emit_expr;
+use block_plans::Functions;
 use bound_trees::BoundExpr;
 use catalog_store::{Catalog, FunctionPlan, Object, RoutineRecord};
 use plan_expressions::{Draft, NameSources, assigned};
@@ -34,7 +35,8 @@ pub fn plan_function(
 {
     let mut draft = Draft::over(alloc, Leaf::Unit, 0);
     let scope = NameSources::top(alloc, parameters);
-    let value = emit_expr(returned, &scope, &mut draft, catalog)?;
+    let functions = Functions::of(catalog);
+    let value = emit_expr(returned, &scope, &mut draft, &functions)?;
     let scalar = assigned(alloc, returns, value)?;
     let nodes = draft.into_nodes();
     Ok(FunctionPlan { nodes, scalar })

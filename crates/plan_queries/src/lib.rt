@@ -13,6 +13,8 @@ mod plans;
 mod selects;
 mod values;
 
+pub use asking::emit_folded;
+pub use emit::emit_expr;
 pub use functions::{plan_function, with_plan};
 pub use plans::{plan_query, plan_within};
 

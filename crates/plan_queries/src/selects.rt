@@ -3,8 +3,8 @@
 ghost use Rattle.std.specs.Prelude.{◌≡◌, IfOk, OnOk};
 ghost use Rattle.rel_algebra.specs.Emit.{plan};
 ghost use Rattle.rel_algebra.specs.PlanView.{tree_of};
-ghost use Rattle.catalog_store.specs.View.{exprs_of, select_of};
-ghost use Rattle.catalog_store.specs.Widths.{width_in};
+ghost use Rattle.block_plans.specs.View.{exprs_seen, select_seen};
+ghost use Rattle.block_plans.specs.Callees.{width_in};
 ghost use Rattle.plan_expressions.specs.Drafts.{drafted};
 ghost use Rattle.plan_expressions.specs.Scopes.{env_of};
 ghost use Rattle.plan_queries.specs.Selecting.{selected_rows, selected_groups};
@@ -12,8 +12,8 @@ ghost use Rattle.plan_queries.specs.Selecting.{selected_rows, selected_groups};
 use crate::conjuncts::filter_by;
 use crate::emit::emit_list;
 use crate::from::draft_from;
+use block_plans::Functions;
 use bound_trees::{BoundExpr, BoundGrouping, BoundSelect};
-use catalog_store::Catalog;
 use plan_drafts::{group, list};
 use plan_expressions::{Draft, NameSources};
 use rel_algebra::Plan;
@@ -27,21 +27,21 @@ pub fn plan_select(
     alloc: Global,
     select: &BoundSelect,
     scope: &NameSources,
-    catalog: &Catalog,
+    functions: &Functions,
 ) -> Result<Plan, NoMemory>
-    ensures { IfOk result (λ p. tree_of p ≡ plan (select_of catalog.now select.now)
-        (width_in catalog.now) (env_of scope.now)) }
+    ensures { IfOk result (λ p. tree_of p ≡ plan (select_seen functions.now select.now)
+        (width_in functions.now) (env_of scope.now)) }
 {
     let items = select.items.as_slice();
     let conjuncts = select.conjuncts.as_slice();
-    let mut draft = draft_from(alloc, select.from.as_slice(), scope, catalog)?;
+    let mut draft = draft_from(alloc, select.from.as_slice(), scope, functions)?;
     select_over(
         &select.grouping,
         items,
         conjuncts,
         scope,
         &mut draft,
-        catalog,
+        functions,
     )?;
     Ok(draft.into_plan())
 }
@@ -54,20 +54,26 @@ fn select_over(
     conjuncts: &[BoundExpr],
     scope: &NameSources,
     draft: &mut Draft,
-    catalog: &Catalog,
+    functions: &Functions,
 ) -> Result<(), NoMemory>
-    ensures { OnOk result ((drafted draft.new).tree ≡ selected_groups catalog.now grouping.now
-        (exprs_of catalog.now items.now) (exprs_of catalog.now conjuncts.now)
-        (width_in catalog.now) (env_of scope.now) (drafted draft.old).width
+    ensures { OnOk result ((drafted draft.new).tree ≡ selected_groups functions.now grouping.now
+        (exprs_seen functions.now items.now) (exprs_seen functions.now conjuncts.now)
+        (width_in functions.now) (env_of scope.now) (drafted draft.old).width
         (drafted draft.old).tree) }
 {
     match grouping {
         Some(grouping) => {
-            select_rows(grouping.parts.as_slice(), conjuncts, scope, draft, catalog)?;
+            select_rows(
+                grouping.parts.as_slice(),
+                conjuncts,
+                scope,
+                draft,
+                functions,
+            )?;
             group(grouping.keys, grouping.aggregates.as_slice(), draft)?;
-            select_rows(items, grouping.having.as_slice(), scope, draft, catalog)
+            select_rows(items, grouping.having.as_slice(), scope, draft, functions)
         }
-        None => select_rows(items, conjuncts, scope, draft, catalog),
+        None => select_rows(items, conjuncts, scope, draft, functions),
     }
 }
 
@@ -78,15 +84,15 @@ pub fn select_rows(
     conjuncts: &[BoundExpr],
     scope: &NameSources,
     draft: &mut Draft,
-    catalog: &Catalog,
+    functions: &Functions,
 ) -> Result<(), NoMemory>
     ensures { OnOk result ((drafted draft.new).tree ≡ selected_rows
-        (exprs_of catalog.now items.now) (exprs_of catalog.now conjuncts.now)
-        (width_in catalog.now) (env_of scope.now) (drafted draft.old).width
+        (exprs_seen functions.now items.now) (exprs_seen functions.now conjuncts.now)
+        (width_in functions.now) (env_of scope.now) (drafted draft.old).width
         (drafted draft.old).tree) }
 {
     let within = scope.entered(draft.allocator(), draft.columns())?;
-    filter_by(conjuncts, &within, draft, catalog)?;
-    let scalars = emit_list(items, &within, draft, catalog)?;
+    filter_by(conjuncts, &within, draft, functions)?;
+    let scalars = emit_list(items, &within, draft, functions)?;
     list(scalars, draft)
 }

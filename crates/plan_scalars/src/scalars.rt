@@ -6,21 +6,24 @@ ghost use Rattle.row_types.specs.Cells.{row_cells};
 ghost use Rattle.row_types.specs.OuterRows.{outer_rows};
 ghost use Rattle.rel_algebra.specs.Tree.{Arithmetic};
 ghost use Rattle.rel_algebra.specs.Endings.{op_value};
+ghost use Rattle.rel_algebra.specs.OnConditions.{condition_cell};
 ghost use Rattle.rel_algebra.specs.Plan.{cell_of, cells_of, strictly, values_of as values_by};
 ghost use Rattle.rel_algebra.specs.Plan.{and_cell, or_cell, case_cell, coalesce_cell, word_cell};
 ghost use Rattle.rel_algebra.specs.PlanView.{scalar_of, scalars_of, chained, link_of};
 ghost use Rattle.rel_algebra.specs.PlanView.{unary_operation, list_word};
+ghost use Rattle.rel_algebra.specs.WordView.{condition_word};
 ghost use Rattle.plan_scalars.specs.Sights.{sight_of, chained_cell, is_null_cell as is_null_by};
 ghost use Rattle.plan_rows.specs.Evaluated.{told_of};
 
 use crate::places::{
     among_in_place, applied_in_place, compared_in_place, unary_in_place, value_in_place,
 };
+use plan_conditions::{word_of_one, word_of_two};
 use plan_rows::{
     Evaluated, SoFar, and_with, any_of, argument, arithmetic_cell, column, compared_cell, is_true,
     or_with, outcome_cell, part, remainder, unary_cell,
 };
-use rel_algebra::{ListWord, Scalar, ScalarLink, UnaryWord};
+use rel_algebra::{ConditionWord, ListWord, Scalar, ScalarLink, UnaryWord};
 use row_types::{Cell, Outer, PlanRow, RowInSight, Steps};
 use smallvec::SmallVec;
 use sql_values::{NoMemory, Value};
@@ -102,6 +105,9 @@ fn eval_any(
         Scalar::Listed(word, operands) => {
             listed(operands.as_slice(), *word, alloc, row, outer, args)
         }
+        Scalar::OnCondition(word, operands) => {
+            on_condition(operands.as_slice(), word, alloc, row, outer, args)
+        }
     }
 }
 
@@ -149,6 +155,33 @@ fn listed(
         ListWord::Or => or(operands, alloc, row, outer, args),
         ListWord::Case => case(operands, alloc, row, outer, args),
         ListWord::Coalesce => coalesce(operands, alloc, row, outer, args),
+    }
+}
+
+// A word over cells that may be conditions: a condition in one of them isn't passed on, so each
+// operand is read as a cell. No word has more than two.
+#[cycle(eval)]
+#[tactic(auto, using(crate::proofs::OnConditions::no_operand, std::proofs::lemmas::Grind::common_steps))]
+fn on_condition(
+    operands: &[Scalar],
+    word: &ConditionWord,
+    alloc: Global,
+    row: &RowInSight,
+    outer: &Outer,
+    args: &[Value],
+) -> Result<Cell, NoMemory>
+    ensures { IfOk result (λ c. c ≡ condition_cell (condition_word word.now)
+        (cells_of (scalars_of operands.now) (sight_of row.now (outer_rows outer.now) args.now))) }
+{
+    match operands {
+        [] => Ok(Cell::Val(Value::Null)),
+        [only] => Ok(word_of_one(word, eval_any(alloc, only, row, outer, args)?)),
+        [first, second] => {
+            let a = eval_any(alloc, first, row, outer, args)?;
+            let b = eval_any(alloc, second, row, outer, args)?;
+            word_of_two(alloc, word, a, b)
+        }
+        [_, _, _, ..] => Ok(Cell::Val(Value::Null)),
     }
 }
 

@@ -1,5 +1,5 @@
 -- A plan of the code runs each inner plan anew, so nothing else counts in it.
-use Rattle.std.proofs.Common.{ℕ, ◌≡◌, ◌+◌, List, [], ◌∷◌, map, refl, sym, ap, subst, ◌∙◌, arith}
+use Rattle.std.proofs.Common.{ℕ, ◌≡◌, List, [], ◌∷◌, map, refl, sym, ap, subst, ◌∙◌, arith}
 use Rattle.rel_algebra.specs.declared.plan.Leaf.{Leaf}
 use Rattle.rel_algebra.specs.declared.plan.Leaf.TheVariants as leaf
 use Rattle.rel_algebra.specs.declared.plan.Node.{Node, roll-Node}

@@ -1,6 +1,6 @@
 -- The lines of a plan. A node stands above its input, and both above the plan that the node runs or
 -- joins: that is two spaces further in, and comes after the input. Each line ends in LF.
-use Rattle.std.specs.Prelude.{ℕ, suc, List, [], ◌∷◌, ◌++◌, map, codes, if◌then◌else◌}
+use Rattle.std.specs.Prelude.{ℕ, suc, [], ◌++◌, map, codes, if◌then◌else◌}
 use Rattle.row_types.specs.declared.sort_key.SortKey.{SortKey}
 use Rattle.rel_algebra.specs.Tree.{Aggregate, Count, Sum, Avg, Min, Max}
 use Rattle.rel_algebra.specs.Plan.{Scalars, Kind, single, exists, member, aggregate, into, PlanTree}

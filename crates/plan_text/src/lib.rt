@@ -1,6 +1,7 @@
 //! The text of plans, line by line, and how many of some nodes they have.
 #![tactic(auto)]
 
+mod condition_words;
 mod counts;
 mod lines;
 mod lists;

@@ -47,6 +47,7 @@ fn put_kind(text: &mut Vec<u8>, kind: &ApplyKind) -> Result<(), NoMemory>
             put(text, b"aggregate")?;
             put_aggregate_list(text, aggregates.as_slice())
         }
+        ApplyKind::Into(_) => put(text, b"into"),
     }
 }
 

@@ -3,17 +3,19 @@
 
 ghost use Rattle.std.specs.Prelude.{◌≡◌, [], ◌∷◌, ◌++◌, map, codes, OnOk};
 ghost use Rattle.std.specs.List.{flat_map};
-ghost use Rattle.rel_algebra.specs.Plan.{strict};
+ghost use Rattle.rel_algebra.specs.Plan.{on_condition, strict};
 ghost use Rattle.rel_algebra.specs.PlanView.{scalar_of, scalars_of, link_of};
 ghost use Rattle.rel_algebra.specs.PlanView.{unary_operation, list_word};
+ghost use Rattle.rel_algebra.specs.WordView.{condition_word};
 ghost use Rattle.plan_text.specs.ScalarText.{after, bracketed, comma, comparison_text};
 ghost use Rattle.plan_text.specs.ScalarText.{scalar_text, scalar_texts, separated, spaced};
 ghost use Rattle.plan_text.specs.ScalarText.{word_text};
 ghost use Rattle.plan_text.specs.Parts.{closing, opening, openings};
 
+use crate::condition_words::put_condition_word;
 use crate::put::{put_argument, put_column, put_mark, put_value};
 use crate::words::{comparison_word, listed_word, operator_word, put_unary_word};
-use rel_algebra::{ListWord, Scalar, ScalarLink, UnaryWord};
+use rel_algebra::{ConditionWord, ListWord, Scalar, ScalarLink, UnaryWord};
 use reply_text::put;
 use sql_values::{Comparison, NoMemory};
 
@@ -43,6 +45,7 @@ pub(crate) fn put_scalar(scalar: &Scalar, text: &mut Vec<u8>) -> Result<(), NoMe
             put_closings(links, text)
         }
         Scalar::Listed(word, operands) => put_listed(operands.as_slice(), *word, text),
+        Scalar::OnCondition(word, operands) => put_on_condition(operands.as_slice(), word, text),
     }
 }
 
@@ -84,6 +87,23 @@ fn put_listed(operands: &[Scalar], word: ListWord, text: &mut Vec<u8>) -> Result
         (scalar_texts (scalars_of operands.now))) }
 {
     put(text, listed_word(word).as_bytes())?;
+    put(text, b"(")?;
+    put_scalars(operands, text)?;
+    put(text, b")")
+}
+
+// Writes a word over cells that may be conditions, with its operands.
+#[cycle(scalar)]
+fn put_on_condition(
+    operands: &[Scalar],
+    word: &ConditionWord,
+    text: &mut Vec<u8>,
+) -> Result<(), NoMemory>
+    ensures { OnOk result (text.new.items ≡ text.old.items ++ bracketed
+        (word_text (on_condition (condition_word word.now)))
+        (scalar_texts (scalars_of operands.now))) }
+{
+    put_condition_word(text, word)?;
     put(text, b"(")?;
     put_scalars(operands, text)?;
     put(text, b")")

@@ -1,12 +1,12 @@
 -- A query lasts while the tables stay as they are.
-use Rattle.std.proofs.Common.{ℕ, List, refl}
+use Rattle.std.proofs.Common.{ℕ, List, false, refl}
 use Rattle.rel_algebra.specs.Lasting.{Lasts, LinksLast, AllLast, RoutineLasts, RowsLast, FromLasts}
 use Rattle.rel_algebra.specs.Lasting.{QueryLasts}
 use Rattle.rel_algebra.specs.Tree.{And, Call, CallSelf, Case, CaseOf, Chain, Coalesce, Column}
-use Rattle.rel_algebra.specs.Tree.{Cross, Derived, Exists, Expr, Exprs, From, Grouped, In, Returned}
-use Rattle.rel_algebra.specs.Tree.{Inner, LeftOuter, Links, Literal, MoreExprs, MoreLinks, MoreRows}
-use Rattle.rel_algebra.specs.Tree.{NoExpr, NoLink, NoRow, Operate, Or, Ordered, Query, Routine}
-use Rattle.rel_algebra.specs.Tree.{Rows, Select, Single, Table, Values, Variable}
+use Rattle.rel_algebra.specs.Tree.{Cross, Derived, Exists, Expr, Exprs, From, Function, Grouped}
+use Rattle.rel_algebra.specs.Tree.{In, Inner, LeftOuter, Links, Literal, MoreExprs, MoreLinks}
+use Rattle.rel_algebra.specs.Tree.{MoreRows, NoExpr, NoLink, NoRow, Operate, Or, Ordered, Query}
+use Rattle.rel_algebra.specs.Tree.{Returned, Routine, Rows, Select, Single, Table, Values, Variable}
 
 module _ (S : List ℕ → ℕ) where
   mutual
@@ -42,6 +42,7 @@ module _ (S : List ℕ → ℕ) where
 
     routine_lasts : (r : Routine) → RoutineLasts r S S
     routine_lasts (Returned types returns x) = expr_lasts x
+    routine_lasts (Function false types returns false statement) = λ params. refl
     routine_lasts _ = tt
 
     rows_last : (rs : Rows) → RowsLast rs S S

@@ -13,6 +13,7 @@ ghost use Rattle.catalog_store.specs.Widths.{width_in};
 ghost use Rattle.psm_effects.specs.Answering.{ends_with, HasValues};
 ghost use Rattle.psm_effects.specs.Preparing.{IsPlanOf, KeepsForm, over, plan_in};
 
+use block_plans::Functions;
 use bound_trees::BoundQuery;
 use catalog_store::Catalog;
 use plan_exec::{Answer, collect, execute};
@@ -43,7 +44,7 @@ pub fn prepare_query(
     ensures form { IfOk result (λ p. KeepsForm (query_of catalog.now query.now)
         (width_in catalog.now) (plan_in p)) }
 {
-    let plan = plan_query(alloc, query, catalog)?;
+    let plan = plan_query(alloc, query, &Functions::of(catalog))?;
     Ok(Prepared { plan })
 }
 

@@ -1,5 +1,6 @@
 -- Each function with a plan stays planned as a statement makes or drops an entry.
-use Rattle.std.proofs.Common.{◌≡◌, ℕ, Bool, true, false, cond, List, [], ◌∷◌, ◌++◌, Some, sym, subst}
+use Rattle.std.proofs.Common.{◌≡◌, ℕ, Bool, true, false, cond, List, [], ◌∷◌, ◌++◌, Some, refl}
+use Rattle.std.proofs.Common.{sym, subst}
 use Rattle.std.specs.Str.{bytes_eq}
 use Rattle.catalog_store.specs.declared.entry.Object.{Object as HeldObject}
 use Rattle.catalog_store.specs.declared.entry.Object.TheVariants.{Table, Function as FunctionRecord}
@@ -30,7 +31,8 @@ planned-names (e ∷ es) p name = by (bytes_eq e.name name) (planned-names es p.
 planned-object : (known : Catalog) (o : HeldObject) → ObjectFits known o →
     IsPlannedObject (Some (object_of known o))
 planned-object known (Table row_type) fits = tt
-planned-object known (FunctionRecord r) fits = fits.planned
+planned-object known (FunctionRecord r) fits =
+    record { planned = fits.planned; parameters = refl }
 planned-object known (InterpretedRecord f) fits = tt
 planned-object known (ProcedureRecord p) fits = tt
 

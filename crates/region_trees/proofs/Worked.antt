@@ -13,7 +13,7 @@ use Rattle.bound_trees.specs.declared.statement.BoundStmt.TheFolds.{fold-roll-Bo
 use Rattle.bound_trees.specs.declared.statement.BoundStmt.TheOpen.{BoundStmt-F}
 use Rattle.bound_trees.specs.declared.statement.BoundStmt.TheVariants as bound
 use Rattle.bound_trees.specs.declared.statement.BoundStmt.TheVariants.{rolls-Return, rolls-Loop}
-use Rattle.rel_algebra.specs.Plain.{planned, planned_expr, planned_all, planned_routine}
+use Rattle.rel_algebra.specs.Plain.{as_many, planned, planned_expr, planned_all, planned_routine}
 use Rattle.rel_algebra.specs.Tree as tree
 use Rattle.catalog_store.specs.Catalog.{Catalog, routine_named}
 use Rattle.catalog_store.specs.View.{tree_of, query_of}
@@ -32,12 +32,13 @@ use Rattle.region_trees.proofs.Layers.{stmt_formed_at-at}
 
 -- ---- plans
 
--- a call with V has a plan where the function that it calls has
+-- a call with V has a plan where the function that it calls has, and takes one value
 call-planned : (c : Catalog) (name : List ℕ) →
     planned_expr (tree_of c (call name (expr.Variable 0))) ≡
-    (planned_routine (routine_named name c) && true)
+    (planned_routine (routine_named name c) && (true && as_many (routine_named name c) 1))
 call-planned c name = ap planned_expr (tree_of-Call c name (expr.Variable 0 ∷ [])) ∙
-    (λ i. planned_routine (routine_named name c) && planned_all (one (tree_of-Variable c 0 i)))
+    (λ i. let r = routine_named name c in let es = one (tree_of-Variable c 0 i) in
+    planned_routine r && (planned_all es && as_many r (tree.count es)))
 
 -- VALUES of one value has a plan where the value has
 value-planned : (c : Catalog) (e : BoundExpr) →
@@ -94,14 +95,15 @@ return-formed c e = ap (formed c) (sym (rolls-Return e)) ∙
 -- RETURN of a call with V
 call-in-form : (c : Catalog) (name : List ℕ) →
     in_form c (bound.Return (call name (expr.Variable 0))) ≡
-    ((planned_routine (routine_named name c) && true) &&
+    ((planned_routine (routine_named name c) && (true && as_many (routine_named name c) 1)) &&
     nat_lt (itself (add (weight_named c name) (add 0 0)) 0) HEAVIEST)
 call-in-form c name = λ i.
     (return-formed c (call name (expr.Variable 0)) ∙ call-planned c name) i &&
     nat_lt (call-weight c name i) HEAVIEST
 
 pub f-in-form : (c : Catalog) → in_form c body_g ≡
-    ((planned_routine (routine_named (codes "F") c) && true) &&
+    ((planned_routine (routine_named (codes "F") c)
+    && (true && as_many (routine_named (codes "F") c) 1)) &&
     nat_lt (itself (add (weight_named c (codes "F")) (add 0 0)) 0) HEAVIEST)
 f-in-form c = call-in-form c (codes "F")
 

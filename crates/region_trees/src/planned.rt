@@ -1,6 +1,6 @@
 //! Whether bound expressions and queries have plans.
 
-ghost use Rattle.std.specs.Prelude.{◌≡◌, map, true};
+ghost use Rattle.std.specs.Prelude.{◌≡◌, ◌&&◌, ℕ, map, true};
 ghost use Rattle.std.specs.Option.{option_map};
 ghost use Rattle.bound_trees.specs.declared.query.BoundSelect.{out-BoundSelect};
 ghost use Rattle.rel_algebra.specs.Joins.{rows_width};
@@ -17,9 +17,12 @@ use bound_trees::{
 use catalog_store::{Catalog, Object};
 use sql_values::Name;
 
-// Whether a name is that of a function with a plan.
+// Whether a name is that of a function with a plan. The body of each is one RETURN, so that it is
+// called with any number of values.
 fn callee_planned(name: &Name, catalog: &Catalog) -> bool
-    ensures { result ≡ plain.planned_routine (routine_named name.now catalog.now) }
+    ensures planned { result ≡ plain.planned_routine (routine_named name.now catalog.now) }
+    ensures called { (n : ℕ) →
+        (result && plain.as_many (routine_named name.now catalog.now) n) ≡ result }
 {
     match catalog.get(name) {
         Some(Object::Function(_)) => true,

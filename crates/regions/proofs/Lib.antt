@@ -1,14 +1,6 @@
-pub mod KindsHeld
-pub mod KindsSteps
-pub mod KindsHandled
-pub mod KindsBodies
-pub mod KindsRoutines
 pub mod KindsTrees
 pub mod Best
 pub mod Trees
+pub mod Planned
 pub mod TreeLaws
-pub mod Exceptions
-pub mod Given
-pub mod Same
-pub mod Wholes
 pub mod Worlds

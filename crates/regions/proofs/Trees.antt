@@ -1,21 +1,17 @@
 -- The leaves of trees over expressions and queries are right, can be removed, and fit.
-use Rattle.std.proofs.Common.{ℕ, zero, suc, ◌+◌, false, List, ◌∷◌, length, Option, Some, None, ◌∙◌}
-use Rattle.std.proofs.Common.{subst}
-use Rattle.row_types.specs.declared.cell.Cell.{Cell}
-use Rattle.rel_algebra.specs.Emit.{Env, Folded, folded, folded_env}
+use Rattle.std.proofs.Common.{◌≡◌, ℕ, true, false, nat_eq, ◌∷◌, List, length, ap, ◌∙◌}
 use Rattle.rel_algebra.specs.Joins.{query_width}
-use Rattle.rel_algebra.specs.Plain.{Inputs, Scope, answer, columns_in}
-use Rattle.rel_algebra.specs.Plan.{into}
+use Rattle.rel_algebra.specs.Plain.{Inputs, columns_in, fills}
 use Rattle.rel_algebra.specs.Theorem.{Fits}
-use Rattle.rel_algebra.specs.Tree.{Expr, Query, Select, Grouped, Values, Ordered, NoExpr}
-use Rattle.rel_algebra.specs.WellFormed.{ShapedQuery}
-use Rattle.rel_algebra.proofs.Laws.{Even, FoldedRight, WideEnd, all_count, answer_wide, expr_fits}
-use Rattle.rel_algebra.proofs.Laws.{expr_ok, expr_right, fold_fits, fold_ok, nested_folded}
-use Rattle.rel_algebra.proofs.Laws.{nested_removable, plan_width, plans, query_fits, query_folds}
-use Rattle.rel_algebra.proofs.Laws.{query_means, query_ok, query_plans}
+use Rattle.rel_algebra.specs.Tree.{Expr, Query}
+use Rattle.rel_algebra.proofs.BodyBase.{equals_itself}
+use Rattle.rel_algebra.proofs.Laws.{expr_fits, expr_ok, expr_right, fold_fits, fold_ok, into_fits}
+use Rattle.rel_algebra.proofs.Laws.{into_ok, into_right, plans, query_fits, query_folds}
+use Rattle.rel_algebra.proofs.Laws.{query_means, query_ok, query_plans, width_alike}
 use Rattle.rel_algebra.specs.Leaves.{QueryLeaf, ValueLeaf, Widths}
 use Rattle.regions.specs.Theorem.{AllEach, BranchesEach, Each, ExprPlanned, ExprShaped, ExprSimple}
-use Rattle.regions.specs.Theorem.{HandlersEach, PerhapsEach, QueryPlanned, QueryShaped, QuerySimple}
+use Rattle.regions.specs.Theorem.{HandlersEach, HasTarget, PerhapsEach, QueryPlanned}
+use Rattle.regions.specs.Theorem.{QueryShaped, QuerySimple}
 use Rattle.regions.specs.Theorem.{RoutineFormed, RoutineShaped, RoutineSimple, VariablesEach}
 use Rattle.regions.specs.Tree.{Target, Perhaps, Without, With, Variables, NoVariable, MoreVariables}
 use Rattle.regions.specs.Tree.{Stmt, Compound, If, SearchedCase, SimpleCase, Set, SelectInto}
@@ -24,79 +20,45 @@ use Rattle.regions.specs.Tree.{Return, Stmts, NoStmt, MoreStmts, Branches, NoBra
 use Rattle.regions.specs.Tree.{Handlers, NoHandler, MoreHandlers, Routine, Body}
 use Rattle.regions.specs.TreeBodies.{branches_body, handlers_body, perhaps_body, query_leaf}
 use Rattle.regions.specs.TreeBodies.{routine_body, stmt_body, stmts_body, value_leaf}
-use Rattle.regions.specs.TreeBodies.{variables_body}
-use Rattle.rel_algebra.proofs.BodyHeld.{AllHold, BranchesHold, CountIs, Folds, HandlersHold, Holds}
+use Rattle.regions.specs.TreeBodies.{branches_of, handlers_of, stmt_of, stmts_of, variables_body}
+use Rattle.rel_algebra.proofs.BlockWorlds as whole
+use Rattle.rel_algebra.proofs.BodyHeld.{AllHold, BranchesHold, HandlersHold, Holds}
 use Rattle.rel_algebra.proofs.BodyHeld.{PerhapsHolds, QueryFits, QueryRemovable, QueryRight}
 use Rattle.rel_algebra.proofs.BodyHeld.{RoutineFits, RoutineRemovable, RoutineRight, ValueFits}
 use Rattle.rel_algebra.proofs.BodyHeld.{ValueRemovable, ValueRight, VariablesHold}
 
 -- ---- each leaf
 
+-- a query of as many columns as targets, of which there is one, fills them
+pub filling : (q : Query) (targets : List Target) (S : Widths) →
+    query_width q S ≡ length targets → HasTarget targets → fills q targets ≡ true
+filling q (t ∷ targets) S w h =
+    let n = length (t ∷ targets) in
+    ap (λ (k : ℕ). nat_eq k n) (width_alike q (λ name. 0) S ∙ w) ∙ equals_itself n
+filling q _ S w h = absurd h
+
 value_right : (w : Inputs) → Fits w → (e : Expr) → ExprPlanned e → ValueRight w (value_leaf e)
 value_right w fits e h = λ o f env n q l r. expr_right e (plans e h) w fits o f env n q l r
 
-folds_to : (oa : Option Folded) (q : Query) (w : Inputs) (o : List (List Cell)) (f : Scope)
-    (z : List Cell) (n : ℕ) → FoldedRight oa q w o f z n → Folds oa (answer q w f) w o z n
-folds_to None q w o f z n h = tt
-folds_to (Some a) q w o f z n h = record {
-  parts = h.parts;
-  list = h.list;
-  some = h.some;
-  long = h.long;
-  input = h.input;
-  answers = h.answers;
-  yields = h.yields;
-}
-
-counted : (q : Query) (S : Widths) (e : Env) → CountIs (folded q S e) (query_width q S)
-counted (Grouped from tests zero items (a ∷ ags) NoExpr list) S e = λ n. all_count list S
-    (folded_env e n (suc (length ags))) (n + suc (length ags))
-counted _ S e = tt
-
 query_right : (w : Inputs) → Fits w → (q : Query) (ts : List Target) → QueryPlanned (columns_in w)
     q ts → QueryRight w (query_leaf q) ts
-query_right w fits q ts h = (
-  record {
-    means = λ o f env a. query_means q (query_plans q h.0) w fits o f env a;
-    folds = λ o f env z n l r. folds_to (folded q (columns_in w) env) q w o f z n
-        (query_folds q (query_plans q h.0) w fits o f env z n l r);
-    wide = λ f. subst (λ (k : ℕ). WideEnd k (answer q w f)) h.1
-        (answer_wide q w f (query_plans q h.0));
-    counted = λ env. subst (λ (k : ℕ). CountIs (folded q (columns_in w) env) k) h.1
-        (counted q (columns_in w) env);
-  },
-  h.2,
-)
+query_right w fits q ts h = let p = query_plans q h.0 in
+    into_right q ts w fits p (filling q ts (columns_in w) h.1 h.2) (query_means q p)
+    (query_folds q p)
 
 value_removable : (S : Widths) (e : Expr) → ExprSimple S e → ValueRemovable S (value_leaf e)
 value_removable S e h = λ env n g. expr_ok e S false env n h g
 
 query_removable : (S : Widths) (q : Query) (ts : List Target) → QuerySimple S q ts →
     QueryRemovable S (query_leaf q) ts
-query_removable S q ts h = record {
-  inside = λ env g. query_ok q S false env h.0 g;
-  asked = λ env g is k. nested_removable q S env false g h.0 h.1 (into k) is;
-  parts = λ env g. fold_ok q S false env h.0 g;
-  input = λ env g. nested_folded q S env false g h.0 h.1;
-}
+query_removable S q ts h = into_ok q ts S h.1 h.0 (query_ok q) (fold_ok q)
 
 value_fits : (S : Widths) (e : Expr) → ExprShaped S e → ValueFits S (value_leaf e)
 value_fits S e h = λ outer args env n p. expr_fits e S env n outer args h p
 
-shaped_even : (q : Query) (S : Widths) → ShapedQuery q S → Even q
-shaped_even (Select items from tests) S s = tt
-shaped_even (Grouped from tests k items ags having list) S s = tt
-shaped_even (Values rows) S s = s.0
-shaped_even (Ordered q keys) S s = shaped_even q S s.0
-
 query_fit : (S : Widths) (q : Query) (ts : List Target) → QueryShaped S q ts →
     QueryFits S (query_leaf q) ts
-query_fit S q ts h = record {
-  fits = λ env ws args p. query_fits q S env ws args h.0 p;
-  wide = λ env. plan_width q S env (shaped_even q S h.0) ∙ h.1;
-  folds = λ env n outer args p. fold_fits q S env n outer args h.0 p;
-  counted = λ env. subst (λ (k : ℕ). CountIs (folded q S env) k) h.1 (counted q S env);
-}
+query_fit S q ts h = into_fits q ts S h.1 h.0 (query_fits q) (fold_fits q)
 
 -- ---- what holds of each expression and query of a tree, holds of each leaf of its body
 
@@ -170,15 +132,15 @@ mutual
   handlers_held (MoreHandlers kind takes action others) P L Q M p q h =
       (held action P L Q M p q h.0, handlers_held others P L Q M p q h.1)
 
--- ---- what follows of each expression and query
+-- ---- what follows of each expression and query, among all statements
 
 each_perhaps : (text : Perhaps) (P P' : Expr → Type 0) → ((e : Expr) → P e → P' e) →
-    PerhapsEach text P → PerhapsEach text P'
+    PerhapsEach text P → whole.PerhapsEach text P'
 each_perhaps Without P P' p h = tt
 each_perhaps (With e) P P' p h = p e h
 
 each_variables : (vs : Variables) (P P' : Expr → Type 0) → ((e : Expr) → P e → P' e) →
-    VariablesEach vs P → VariablesEach vs P'
+    VariablesEach vs P → whole.VariablesEach vs P'
 each_variables NoVariable P P' p h = tt
 each_variables (MoreVariables k t default others) P P' p h =
     (each_perhaps default P P' p h.0, each_variables others P P' p h.1)
@@ -186,7 +148,7 @@ each_variables (MoreVariables k t default others) P P' p h =
 mutual
   pub each : (s : Stmt) (P P' : Expr → Type 0) (Q Q' : Query → List Target → Type 0) →
       ((e : Expr) → P e → P' e) → ((q : Query) (ts : List Target) → Q q ts → Q' q ts) →
-      Each s P Q → Each s P' Q'
+      Each s P Q → whole.Each (stmt_of s) P' Q'
   each (Compound atomic variables handlers statements) P P' Q Q' p q h = (
     each_variables variables P P' p h.0,
     each_handlers handlers P P' Q Q' p q h.1,
@@ -212,14 +174,14 @@ mutual
 
   each_all : (ss : Stmts) (P P' : Expr → Type 0) (Q Q' : Query → List Target → Type 0) →
       ((e : Expr) → P e → P' e) → ((q : Query) (ts : List Target) → Q q ts → Q' q ts) →
-      AllEach ss P Q → AllEach ss P' Q'
+      AllEach ss P Q → whole.AllEach (stmts_of ss) P' Q'
   each_all NoStmt P P' Q Q' p q h = tt
   each_all (MoreStmts s ss) P P' Q Q' p q h =
       (each s P P' Q Q' p q h.0, each_all ss P P' Q Q' p q h.1)
 
   each_branches : (bs : Branches) (P P' : Expr → Type 0) (Q Q' : Query → List Target → Type 0) →
       ((e : Expr) → P e → P' e) → ((q : Query) (ts : List Target) → Q q ts → Q' q ts) →
-      BranchesEach bs P Q → BranchesEach bs P' Q'
+      BranchesEach bs P Q → whole.BranchesEach (branches_of bs) P' Q'
   each_branches NoBranch P P' Q Q' p q h = tt
   each_branches (MoreBranches test statements others) P P' Q Q' p q h = (
     p test h.0,
@@ -229,7 +191,7 @@ mutual
 
   each_handlers : (hs : Handlers) (P P' : Expr → Type 0) (Q Q' : Query → List Target → Type 0) →
       ((e : Expr) → P e → P' e) → ((q : Query) (ts : List Target) → Q q ts → Q' q ts) →
-      HandlersEach hs P Q → HandlersEach hs P' Q'
+      HandlersEach hs P Q → whole.HandlersEach (handlers_of hs) P' Q'
   each_handlers NoHandler P P' Q Q' p q h = tt
   each_handlers (MoreHandlers kind takes action others) P P' Q Q' p q h =
       (each action P P' Q Q' p q h.0, each_handlers others P P' Q Q' p q h.1)

@@ -1,78 +1,72 @@
--- The bodies that trees over expressions and queries are: each leaf is what it means by the tables
--- alone, and its plan.
-use Rattle.rel_algebra.specs.Tree.{Expr, Query}
+-- The trees among all statements that trees over expressions and queries are, and so the bodies
+-- that they are: each leaf is what it means by the tables alone, and its plan.
+use Rattle.std.specs.Prelude.{false}
+use Rattle.rel_algebra.specs.Tree as whole
 use Rattle.rel_algebra.specs.Emit as plans
-use Rattle.rel_algebra.specs.Plain.{answer, ev}
+pub use Rattle.rel_algebra.specs.Emit.{value_leaf, query_leaf, perhaps_body, variables_body}
 use Rattle.rel_algebra.specs.Bodies as body
-use Rattle.rel_algebra.specs.Leaves.{QueryLeaf, ValueLeaf}
-use Rattle.regions.specs.Tree.{Perhaps, Without, With, Variables, NoVariable, MoreVariables, Stmt}
-use Rattle.regions.specs.Tree.{Compound, If, SearchedCase, SimpleCase, Set, SelectInto, Signal}
-use Rattle.regions.specs.Tree.{Resignal, GetStatementItems, GetConditionItems, Leave, Return, Stmts}
-use Rattle.regions.specs.Tree.{NoStmt, MoreStmts, Branches, NoBranch, MoreBranches, Handlers}
-use Rattle.regions.specs.Tree.{NoHandler, MoreHandlers, Routine, Body}
+use Rattle.regions.specs.Tree.{Stmt, Compound, If, SearchedCase, SimpleCase, Set, SelectInto}
+use Rattle.regions.specs.Tree.{Signal, Resignal, GetStatementItems, GetConditionItems, Leave}
+use Rattle.regions.specs.Tree.{Return, Stmts, NoStmt, MoreStmts, Branches, NoBranch, MoreBranches}
+use Rattle.regions.specs.Tree.{Handlers, NoHandler, MoreHandlers, Routine, Body}
 
--- an expression
-abbrev pub value_leaf : Expr → ValueLeaf
-value_leaf e = record {
-  value = λ w f. ev e w f;
-  emitted = λ S env n. plans.emit e S env n;
-}
-
--- a query
-abbrev pub query_leaf : Query → QueryLeaf
-query_leaf q = record {
-  answer = λ w f. answer q w f;
-  plan = λ S env. plans.plan q S env;
-  folded = λ S env. plans.folded q S env;
-}
-
--- an expression that may be left out
-abbrev pub perhaps_body : Perhaps → body.Perhaps
-perhaps_body Without = body.Without
-perhaps_body (With e) = body.With (value_leaf e)
-
--- declarations
-abbrev pub variables_body : Variables → body.Variables
-variables_body NoVariable = body.NoVariable
-variables_body (MoreVariables k t default others) =
-    body.MoreVariables k t (perhaps_body default) (variables_body others)
-
+-- Each tree in form as a tree of all statements. What is read of diagnostics is the stacked area,
+-- and no compound statement declares a cursor.
 abbrev mutual
   -- a statement
-  pub stmt_body : Stmt → body.Stmt
-  stmt_body (Compound atomic variables handlers statements) =
-      body.Compound atomic (variables_body variables) (handlers_body handlers)
-      (stmts_body statements)
-  stmt_body (If branches otherwise) = body.If (branches_body branches) (stmts_body otherwise)
-  stmt_body (SearchedCase branches otherwise) =
-      body.SearchedCase (branches_body branches) (stmts_body otherwise)
-  stmt_body (SimpleCase e branches otherwise) =
-      body.SimpleCase (value_leaf e) (branches_body branches) (stmts_body otherwise)
-  stmt_body (Set t e) = body.Set t (value_leaf e)
-  stmt_body (SelectInto query targets) = body.SelectInto (query_leaf query) targets
-  stmt_body (Signal state text) = body.Signal state (perhaps_body text)
-  stmt_body (Resignal state text) = body.Resignal state (perhaps_body text)
-  stmt_body (GetStatementItems reads) = body.GetStatementItems reads
-  stmt_body (GetConditionItems number reads) = body.GetConditionItems (value_leaf number) reads
-  stmt_body (Leave outwards) = body.Leave outwards
-  stmt_body (Return e) = body.Return (value_leaf e)
+  pub stmt_of : Stmt → whole.Stmt
+  stmt_of (Compound atomic variables handlers body) =
+      whole.Compound atomic variables 0 (handlers_of handlers) (stmts_of body)
+  stmt_of (If branches otherwise) = whole.If (branches_of branches) (stmts_of otherwise)
+  stmt_of (SearchedCase branches otherwise) =
+      whole.SearchedCase (branches_of branches) (stmts_of otherwise)
+  stmt_of (SimpleCase e branches otherwise) =
+      whole.SimpleCase e (branches_of branches) (stmts_of otherwise)
+  stmt_of (Set t e) = whole.Set t e
+  stmt_of (SelectInto query targets) = whole.SelectInto query targets
+  stmt_of (Signal state text) = whole.Signal state text
+  stmt_of (Resignal state text) = whole.Resignal state text
+  stmt_of (GetStatementItems reads) = whole.GetStatementItems whole.Stacked reads
+  stmt_of (GetConditionItems number reads) = whole.GetConditionItems whole.Stacked number reads
+  stmt_of (Leave outwards) = whole.Leave outwards
+  stmt_of (Return e) = whole.Return e
 
   -- statements in order
-  pub stmts_body : Stmts → body.Stmts
-  stmts_body NoStmt = body.NoStmt
-  stmts_body (MoreStmts s ss) = body.MoreStmts (stmt_body s) (stmts_body ss)
+  pub stmts_of : Stmts → whole.Stmts
+  stmts_of NoStmt = whole.NoStmt
+  stmts_of (MoreStmts s ss) = whole.MoreStmts (stmt_of s) (stmts_of ss)
 
   -- tests or values with their statements
-  pub branches_body : Branches → body.Branches
-  branches_body NoBranch = body.NoBranch
-  branches_body (MoreBranches test statements others) =
-      body.MoreBranches (value_leaf test) (stmts_body statements) (branches_body others)
+  pub branches_of : Branches → whole.Branches
+  branches_of NoBranch = whole.NoBranch
+  branches_of (MoreBranches test body others) =
+      whole.MoreBranches test (stmts_of body) (branches_of others)
 
   -- the handlers of a compound statement
-  pub handlers_body : Handlers → body.Handlers
-  handlers_body NoHandler = body.NoHandler
-  handlers_body (MoreHandlers kind takes action others) =
-      body.MoreHandlers kind takes (stmt_body action) (handlers_body others)
+  pub handlers_of : Handlers → whole.Handlers
+  handlers_of NoHandler = whole.NoHandler
+  handlers_of (MoreHandlers kind takes action others) =
+      whole.MoreHandlers kind takes (stmt_of action) (handlers_of others)
+
+-- a function that doesn't call itself, and is called on NULL too
+abbrev pub routine_of : Routine → whole.Routine
+routine_of (Body types returns body) = whole.Function false types returns false (stmt_of body)
+
+-- a statement as a body
+abbrev pub stmt_body : Stmt → body.Stmt
+stmt_body s = plans.stmt_body (stmt_of s)
+
+-- statements in order
+abbrev pub stmts_body : Stmts → body.Stmts
+stmts_body ss = plans.stmts_body (stmts_of ss)
+
+-- tests or values with their statements
+abbrev pub branches_body : Branches → body.Branches
+branches_body branches = plans.branches_body (branches_of branches)
+
+-- the handlers of a compound statement
+abbrev pub handlers_body : Handlers → body.Handlers
+handlers_body handlers = plans.handlers_body (handlers_of handlers)
 
 -- a function
 abbrev pub routine_body : Routine → body.Routine

@@ -1,65 +1,25 @@
 -- Functions in form as they stand among all routines, and that they do there what they do here: a
 -- call reads the tables of its world, and leaves that world as it is. ISO/IEC 9075-2, 10.4 (routine
 -- invocation).
-use Rattle.std.specs.Prelude.{◌≡◌, false, List, [], length}
+use Rattle.std.specs.Prelude.{◌≡◌, true, List, [], length}
 use Rattle.sql_values.specs.declared.value.Value.{Value}
-use Rattle.rel_algebra.specs.Tree as whole
 use Rattle.rel_algebra.specs.World.{World, frame_of}
 use Rattle.rel_algebra.specs.Meaning.{call as calls, carried}
 use Rattle.rel_algebra.specs.Endings.{Ending, cell_end}
 use Rattle.rel_algebra.specs.Joins.{table_width}
-use Rattle.rel_algebra.specs.Plain.{Inputs}
+use Rattle.rel_algebra.specs.Plain.{Inputs, planned_routine}
 use Rattle.rel_algebra.specs.Plan.{den}
 use Rattle.rel_algebra.specs.Theorem.{Fits, inputs_of, one_cell}
-use Rattle.regions.specs.Tree.{Stmt, Compound, If, SearchedCase, SimpleCase, Set, SelectInto}
-use Rattle.regions.specs.Tree.{Signal, Resignal, GetStatementItems, GetConditionItems, Leave}
-use Rattle.regions.specs.Tree.{Return, Stmts, NoStmt, MoreStmts, Branches, NoBranch, MoreBranches}
-use Rattle.regions.specs.Tree.{Handlers, NoHandler, MoreHandlers, Routine, Body}
+pub use Rattle.regions.specs.TreeBodies.{stmt_of, stmts_of, branches_of, handlers_of, routine_of}
+use Rattle.regions.specs.Tree.{Routine}
 use Rattle.regions.specs.Meaning.{call}
-use Rattle.regions.specs.Inline.{inline}
+use Rattle.regions.specs.Inline.{Widths, inline}
 use Rattle.regions.specs.Theorem.{RoutineFormed, parameters_of}
 
--- Each tree in form as a tree of all statements. What is read of diagnostics is the stacked area,
--- and no compound statement declares a cursor.
-abbrev mutual
-  -- a statement
-  pub stmt_of : Stmt → whole.Stmt
-  stmt_of (Compound atomic variables handlers body) =
-      whole.Compound atomic variables 0 (handlers_of handlers) (stmts_of body)
-  stmt_of (If branches otherwise) = whole.If (branches_of branches) (stmts_of otherwise)
-  stmt_of (SearchedCase branches otherwise) =
-      whole.SearchedCase (branches_of branches) (stmts_of otherwise)
-  stmt_of (SimpleCase e branches otherwise) =
-      whole.SimpleCase e (branches_of branches) (stmts_of otherwise)
-  stmt_of (Set t e) = whole.Set t e
-  stmt_of (SelectInto query targets) = whole.SelectInto query targets
-  stmt_of (Signal state text) = whole.Signal state text
-  stmt_of (Resignal state text) = whole.Resignal state text
-  stmt_of (GetStatementItems reads) = whole.GetStatementItems whole.Stacked reads
-  stmt_of (GetConditionItems number reads) = whole.GetConditionItems whole.Stacked number reads
-  stmt_of (Leave outwards) = whole.Leave outwards
-  stmt_of (Return e) = whole.Return e
-
-  -- statements in order
-  pub stmts_of : Stmts → whole.Stmts
-  stmts_of NoStmt = whole.NoStmt
-  stmts_of (MoreStmts s ss) = whole.MoreStmts (stmt_of s) (stmts_of ss)
-
-  -- tests or values with their statements
-  pub branches_of : Branches → whole.Branches
-  branches_of NoBranch = whole.NoBranch
-  branches_of (MoreBranches test body others) =
-      whole.MoreBranches test (stmts_of body) (branches_of others)
-
-  -- the handlers of a compound statement
-  pub handlers_of : Handlers → whole.Handlers
-  handlers_of NoHandler = whole.NoHandler
-  handlers_of (MoreHandlers kind takes action others) =
-      whole.MoreHandlers kind takes (stmt_of action) (handlers_of others)
-
--- a function that doesn't call itself, and is called on NULL too
-abbrev pub routine_of : Routine → whole.Routine
-routine_of (Body types returns body) = whole.Function false types returns false (stmt_of body)
+-- a function in form is planned among all routines
+abbrev pub FormIsPlanned : Type 0
+FormIsPlanned = (r : Routine) (S : Widths) → RoutineFormed r S →
+    planned_routine (routine_of r) ≡ true
 
 -- the tables of a world; no function in form reads an argument of the whole query
 abbrev pub tables_of : World → List Value → Inputs

@@ -5,7 +5,7 @@ ghost use Rattle.regions.specs.Examples.{RoutinesWorked};
 ghost use Rattle.rel_algebra.specs.BodyHandlers.{RaisesByBest};
 ghost use Rattle.regions.specs.Kinds.{KindedInlines};
 ghost use Rattle.regions.specs.Sizes.{SizesWorked};
-ghost use Rattle.regions.specs.Worlds.{BodyPlans, FormIsPure};
+ghost use Rattle.regions.specs.Worlds.{BodyPlans, FormIsPlanned, FormIsPure};
 ghost use Rattle.regions.specs.Theorem.{
   CallsByRegion,
   Inlines,
@@ -61,6 +61,11 @@ pub fn raises_by_best()
 /// A call of a function in form, its arguments in columns, is an Apply of its plan as a region.
 pub fn calls_by_region()
     ensures { CallsByRegion }
+{}
+
+/// A function in form is planned, as it stands among all routines.
+pub fn form_is_planned()
+    ensures { FormIsPlanned }
 {}
 
 /// A call of a function in form ends, among all routines and in any world, with the value or the

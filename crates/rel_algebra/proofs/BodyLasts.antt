@@ -101,7 +101,7 @@ compared_lasts e S R h cs ds p a b q = λ i env here next n.
     ∷ (q i n env start here next free (suc n) ++ fat no_node (places 0 n) ∷ handled (p i) env here
     next free n)
 
-default_lasts : (default : Perhaps) (k : ℕ) (t : SqlType) (S R : Widths) →
+pub default_lasts : (default : Perhaps) (k : ℕ) (t : SqlType) (S R : Widths) →
     PerhapsHolds default (ValueLasts S R) → (cs ds : Codes) → cs ≡ ds →
     declared default k t S cs ≡ declared default k t R ds
 default_lasts Without k t S R h cs ds p = λ i env from here base n.
@@ -111,7 +111,7 @@ default_lasts (With e) k t S R h cs ds p = λ i env from here base n.
     acts from (with_column a.nodes (assigned_as t a.scalar)) (suc m)
     (judging (tag from) (p i) env base here m []) n (replicate k m)
 
-declares_last : (vs : Variables) (S R : Widths) → VariablesHold vs (ValueLasts S R) →
+pub declares_last : (vs : Variables) (S R : Widths) → VariablesHold vs (ValueLasts S R) →
     (cs ds : Codes) → cs ≡ ds → emit_declares vs S cs ≡ emit_declares vs R ds
 declares_last NoVariable S R h cs ds p = refl
 declares_last (MoreVariables k t default others) S R h cs ds p = λ i env from here base free n.
@@ -119,7 +119,7 @@ declares_last (MoreVariables k t default others) S R h cs ds p = λ i env from h
     ∷ declares_last others S R h.1 cs ds p i (with_variables env n k) from here base free (n + k)
 
 mutual
-  stmt_lasts : (s : Stmt) (S R : Widths) → Holds s (ValueLasts S R) (QueryLasts S R) →
+  pub stmt_lasts : (s : Stmt) (S R : Widths) → Holds s (ValueLasts S R) (QueryLasts S R) →
       (cs ds : Codes) → cs ≡ ds → emit s S cs ≡ emit s R ds
   stmt_lasts (Compound atomic variables handlers body) S R h cs ds p = λ i.
       compounded atomic (atomic || has_default variables) (p i)
@@ -181,7 +181,7 @@ mutual
       branching (λ env n. equal_to x (h.0 (reading env) n i)) (p i)
       (all_last body S R h.1 cs ds p i) (matching_lasts others x S R h.2 cs ds p a b q i)
 
-  coded_last : (hs : Handlers) (S R : Widths) →
+  pub coded_last : (hs : Handlers) (S R : Widths) →
       HandlersHold hs (ValueLasts S R) (QueryLasts S R) → (cs ds : Codes) → cs ≡ ds →
       coded hs S cs ≡ coded hs R ds
   coded_last NoHandler S R h cs ds p = refl

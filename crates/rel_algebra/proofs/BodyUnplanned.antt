@@ -1,14 +1,11 @@
 -- What a body does is told by what its leaves mean, whatever their plans are: so it can be said
 -- before any plan is, of leaves that have none.
-use Rattle.std.proofs.Common.{◌≡◌, ℕ, List, ◌∷◌, ◌++◌, replicate, None, refl}
+use Rattle.std.proofs.Common.{◌≡◌, ℕ, List, ◌∷◌, ◌++◌, replicate, refl}
 use Rattle.sql_values.specs.Casts.{assigned}
 use Rattle.sql_values.specs.declared.value.Value.{Value}
 use Rattle.sql_values.specs.declared.value.Value.TheVariants.{Null}
-use Rattle.row_types.specs.Rows.{Row}
-use Rattle.rel_algebra.specs.Emissions.{plain}
-use Rattle.rel_algebra.specs.Endings.{Ending, after, ending_of, equal_values}
-use Rattle.rel_algebra.specs.Scopes.{Inputs, Scope}
-use Rattle.rel_algebra.specs.Plan.{constant, unit_row}
+use Rattle.rel_algebra.specs.Endings.{after, ending_of, equal_values}
+use Rattle.rel_algebra.specs.Scopes.{Inputs}
 use Rattle.rel_algebra.specs.Bodies.{Perhaps, Without, With, Variables, NoVariable, MoreVariables}
 use Rattle.rel_algebra.specs.Bodies.{Stmt, Compound, If, SearchedCase, SimpleCase, Set, SelectInto}
 use Rattle.rel_algebra.specs.Bodies.{Signal, Resignal, GetStatementItems, GetConditionItems, Leave}
@@ -21,19 +18,7 @@ use Rattle.rel_algebra.specs.BodyMeaning.{returned_or, resignalling, signalling,
 use Rattle.rel_algebra.specs.BodyCompounds.{compound}
 use Rattle.rel_algebra.specs.BodyDoing.{Doing, Frame, in_turn}
 use Rattle.rel_algebra.specs.BodyHandlers.{Scopes, with_value}
-use Rattle.rel_algebra.specs.Leaves.{QueryLeaf, ValueLeaf}
-
--- an expression with this value, and without a plan of its own
-abbrev pub valued : (Inputs → Scope → Ending Value) → ValueLeaf
-valued value = record { value = value; emitted = λ S env n. plain (constant Null) }
-
--- a query with these rows, and without a plan of its own
-abbrev pub answered : (Inputs → Scope → Ending (List Row)) → QueryLeaf
-answered answer = record {
-  answer = answer;
-  plan = λ S env. unit_row;
-  folded = λ S env. None;
-}
+use Rattle.rel_algebra.specs.Leaves.{answered, valued}
 
 -- an expression that may be left out, without its plan
 abbrev pub perhaps_unplanned : Perhaps → Perhaps

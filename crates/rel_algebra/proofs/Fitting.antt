@@ -14,6 +14,7 @@ use Rattle.rel_algebra.specs.Emit.{is_plain, key_of, lifted, list_nodes, may_ref
 use Rattle.rel_algebra.specs.Emit.{nulls, numbers, passed, place_if, plan, raising, routine_plan}
 use Rattle.rel_algebra.specs.Emit.{row_stands, scalar_count, scalars_of, selected, several, singly}
 use Rattle.rel_algebra.specs.Emit.{top, values_plan, width, word_on}
+use Rattle.rel_algebra.specs.Joins.{query_width}
 use Rattle.rel_algebra.specs.Joins.{from_width, numbered, places, rows_width}
 use Rattle.rel_algebra.specs.Plain.{all_even}
 use Rattle.rel_algebra.specs.Plan.{anew, Kind, PlanTree, Scalar, Scalars, apply_by, argument}
@@ -46,6 +47,24 @@ use Rattle.rel_algebra.proofs.Truths.{and_true, left_true, right_true}
 use Rattle.rel_algebra.proofs.Widths.{Even, EvenFrom, from_plan_width, places_long, plan_width}
 use Rattle.rel_algebra.proofs.Widths.{selected_width, width_join, width_more}
 pub use Rattle.rel_algebra.proofs.FoldedParts.{FoldedFits}
+use Rattle.rel_algebra.specs.Tree.{Function, Perhaps, Without, With, Variables, NoVariable}
+use Rattle.rel_algebra.specs.Tree.{MoreVariables, Stmt, Compound, If, SearchedCase, SimpleCase, Set}
+use Rattle.rel_algebra.specs.Tree.{SelectInto, Signal, Resignal, GetStatementItems}
+use Rattle.rel_algebra.specs.Tree.{GetConditionItems, Leave, Return, Stmts, NoStmt, MoreStmts}
+use Rattle.rel_algebra.specs.Tree.{Branches, NoBranch, MoreBranches, Handlers, NoHandler}
+use Rattle.rel_algebra.specs.Tree.{MoreHandlers}
+use Rattle.rel_algebra.specs.Emit.{branches_body, handlers_body, perhaps_body, stmt_body}
+use Rattle.rel_algebra.specs.Emit.{stmts_body, variables_body}
+use Rattle.rel_algebra.proofs.BodyHeld.{AllHold, BranchesHold, HandlersHold, Holds, PerhapsHolds}
+use Rattle.rel_algebra.proofs.BodyHeld.{VariablesHold}
+use Rattle.rel_algebra.specs.Bodies as body
+use Rattle.rel_algebra.specs.Emit.{query_leaf}
+use Rattle.rel_algebra.specs.BodyChain.{called_body}
+use Rattle.rel_algebra.specs.WellFormed.{ShapedBranches, ShapedHandlers, ShapedPerhaps, ShapedStmt}
+use Rattle.rel_algebra.specs.WellFormed.{ShapedStmts, ShapedVariables}
+use Rattle.rel_algebra.proofs.BodyCalled.{called_fits}
+use Rattle.rel_algebra.proofs.BodyHeld.{CountIs, QueryFits as LeafFits, ValueFits}
+use Rattle.rel_algebra.proofs.Blocks.{list_counted}
 
 -- Trees.
 abbrev pub ExprFits : Expr → Type 0
@@ -453,6 +472,17 @@ links_fit (MoreLinks operator x links) h a S e m ws ps s v w =
     (first_and a (λ i. singly (emit x S e i)) m)) S e m ws ps s.1 v
     (two_fits a x h.0 S e m ws ps s.0 v w)
 
+-- the leaf of SELECT INTO
+pub into_fits : (q : Query) (targets : List body.Target) (S : List ℕ → ℕ) →
+    query_width q S ≡ length targets → ShapedQuery q S → QueryFits q → FoldFits q →
+    LeafFits S (query_leaf q) targets
+into_fits q targets S w s hq hf = record {
+  fits = λ e ws ps v. hq S e ws ps s v;
+  wide = λ e. plan_width q S e (shaped_even q S s) ∙ w;
+  folds = λ e m ws ps v. hf S e m ws ps s v;
+  counted = λ e. subst (λ (k : ℕ). CountIs (folded q S e) k) w (list_counted q S e);
+}
+
 mutual
   pub expr_fits : (x : Expr) → ExprFits x
   expr_fits (Literal c) = λ S e m ws ps s v. (refl, refl)
@@ -499,7 +529,68 @@ mutual
   body_fits (Returned types returns x) = λ S m k ws ps s.
       assigning_in_fits (returns ∷ []) (emit x S (passed m k) (m + k)) S (m + k) ws ps
       (expr_fits x S (passed m k) (m + k) ws ps s (passed_fits m k (m + k) ws ps (omega arith)))
+  body_fits (Function false types returns false statement) = λ S m k ws ps s.
+      called_fits (body.Body types returns (stmt_body statement)) S (stmt_fits statement S s)
+      (passed m k) (m + k) ws ps (passed_fits m k (m + k) ws ps (omega arith))
   body_fits _ = λ S m k ws ps s. absurd s
+
+  pub perhaps_fits : (text : Perhaps) (S : List ℕ → ℕ) → ShapedPerhaps text S →
+      PerhapsHolds (perhaps_body text) (ValueFits S)
+  perhaps_fits Without S p = tt
+  perhaps_fits (With x) S p = λ ws ps e m v. expr_fits x S e m ws ps p v
+
+  pub variables_fits : (vs : Variables) (S : List ℕ → ℕ) → ShapedVariables vs S →
+      VariablesHold (variables_body vs) (ValueFits S)
+  variables_fits NoVariable S p = tt
+  variables_fits (MoreVariables k t default others) S p =
+      (perhaps_fits default S p.0, variables_fits others S p.1)
+
+  pub stmt_fits : (s : Stmt) (S : List ℕ → ℕ) → ShapedStmt s S →
+      Holds (stmt_body s) (ValueFits S) (LeafFits S)
+  stmt_fits (Compound atomic variables cursors handlers statements) S p = (
+    variables_fits variables S p.0,
+    handlers_fits handlers S p.1,
+    stmts_fits statements S p.2,
+  )
+  stmt_fits (If branches otherwise) S p =
+      (branches_fits branches S p.0, stmts_fits otherwise S p.1)
+  stmt_fits (SearchedCase branches otherwise) S p =
+      (branches_fits branches S p.0, stmts_fits otherwise S p.1)
+  stmt_fits (SimpleCase x branches otherwise) S p = (
+    λ ws ps e m v. expr_fits x S e m ws ps p.0 v,
+    branches_fits branches S p.1,
+    stmts_fits otherwise S p.2,
+  )
+  stmt_fits (Set t x) S p = λ ws ps e m v. expr_fits x S e m ws ps p v
+  stmt_fits (SelectInto q targets) S p = into_fits q targets S p.0 p.1 (query_fits q) (fold_fits q)
+  stmt_fits (Signal state text) S p = perhaps_fits text S p
+  stmt_fits (Resignal state text) S p = perhaps_fits text S p
+  stmt_fits (GetStatementItems area reads) S p = tt
+  stmt_fits (GetConditionItems area number reads) S p =
+      λ ws ps e m v. expr_fits number S e m ws ps p v
+  stmt_fits (Leave outwards) S p = tt
+  stmt_fits (Return x) S p = λ ws ps e m v. expr_fits x S e m ws ps p v
+  stmt_fits _ S p = absurd p
+
+  pub stmts_fits : (ss : Stmts) (S : List ℕ → ℕ) → ShapedStmts ss S →
+      AllHold (stmts_body ss) (ValueFits S) (LeafFits S)
+  stmts_fits NoStmt S p = tt
+  stmts_fits (MoreStmts s ss) S p = (stmt_fits s S p.0, stmts_fits ss S p.1)
+
+  pub branches_fits : (bs : Branches) (S : List ℕ → ℕ) → ShapedBranches bs S →
+      BranchesHold (branches_body bs) (ValueFits S) (LeafFits S)
+  branches_fits NoBranch S p = tt
+  branches_fits (MoreBranches test statements others) S p = (
+    λ ws ps e m v. expr_fits test S e m ws ps p.0 v,
+    stmts_fits statements S p.1,
+    branches_fits others S p.2,
+  )
+
+  pub handlers_fits : (hs : Handlers) (S : List ℕ → ℕ) → ShapedHandlers hs S →
+      HandlersHold (handlers_body hs) (ValueFits S) (LeafFits S)
+  handlers_fits NoHandler S p = tt
+  handlers_fits (MoreHandlers kind takes action others) S p =
+      (stmt_fits action S p.0, handlers_fits others S p.1)
 
   pub query_fits : (q : Query) → QueryFits q
   query_fits (Select items from tests) = λ S e ws ps s v.
@@ -619,6 +710,14 @@ routine_fits (Returned types returns x) S s =
       λ d i. tt,
       λ i. below_fits n i (given i) (0 ∷ []) n (λ l. l),
     )))) refl
+routine_fits (Function false types returns false statement) S s =
+    let n = length types in let r = body.Body types returns (stmt_body statement) in
+    let b = called_body r S (top n) 0 in
+    listed_fits (singly b) 0 unit_row S [] n refl
+    (singly_fits b S 0 [] n (called_fits r S (stmt_fits statement S s) (top n) 0 [] n (
+      λ d i. tt,
+      λ i. below_fits n i (given i) (0 ∷ []) n (λ l. l),
+    ))) refl
 routine_fits _ S s = absurd s
 
 pub well_formed_plans : WellFormedPlans

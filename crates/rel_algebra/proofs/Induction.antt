@@ -5,7 +5,12 @@ use Rattle.row_types.specs.Rows.{Row}
 use Rattle.row_types.specs.declared.cell.Cell.{Cell}
 use Rattle.row_types.specs.declared.cell.Cell.TheVariants.{Val}
 use Rattle.rel_algebra.specs.Emit.{at, below, emit, emit_body, given, passed, plan, read}
-use Rattle.rel_algebra.specs.Emit.{routine_plan, singly, top}
+use Rattle.rel_algebra.specs.Emit.{listed, routine_plan, singly, top}
+use Rattle.sql_values.specs.declared.value.SqlType.{SqlType}
+use Rattle.rel_algebra.specs.Bodies as body
+use Rattle.rel_algebra.specs.BodyChain.{called_body}
+use Rattle.rel_algebra.specs.BodyMeaning.{call as body_call}
+use Rattle.rel_algebra.specs.Plain.{stmt_meant}
 use Rattle.rel_algebra.specs.Endings.{cell_end, row_at, value_at}
 use Rattle.rel_algebra.specs.Plain.{Inputs, Scope, answer, call, columns_in, ev, planned}
 use Rattle.rel_algebra.specs.Plain.{planned_routine}
@@ -17,6 +22,15 @@ use Rattle.rel_algebra.specs.Tree.{Cross, Derived, Exists, Expr, Exprs, From, Re
 use Rattle.rel_algebra.specs.Tree.{Inner, LeftOuter, Links, Literal, MoreExprs, MoreLinks, MoreRows}
 use Rattle.rel_algebra.specs.Tree.{NoExpr, NoLink, NoRow, Operate, Or, Ordered, Query, Routine}
 use Rattle.rel_algebra.specs.Tree.{Rows, Select, Single, Table, Values, Variable, parameters_of}
+use Rattle.rel_algebra.specs.Tree.{Stacked}
+use Rattle.rel_algebra.specs.Tree.{Function, Perhaps, Without, With, Variables, NoVariable}
+use Rattle.rel_algebra.specs.Tree.{MoreVariables, Stmt, Compound, If, SearchedCase, SimpleCase, Set}
+use Rattle.rel_algebra.specs.Tree.{SelectInto, Signal, Resignal, GetStatementItems}
+use Rattle.rel_algebra.specs.Tree.{GetConditionItems, Leave, Return, Stmts, NoStmt, MoreStmts}
+use Rattle.rel_algebra.specs.Tree.{Branches, NoBranch, MoreBranches, Handlers, NoHandler}
+use Rattle.rel_algebra.specs.Tree.{MoreHandlers}
+use Rattle.rel_algebra.specs.Emit.{branches_body, handlers_body, perhaps_body, stmt_body}
+use Rattle.rel_algebra.specs.Emit.{stmts_body, variables_body}
 use Rattle.rel_algebra.proofs.Growing.{shown_at, shown_long}
 use Rattle.rel_algebra.proofs.Folding.{Folds, exists_right, grouped_folds, in_right, single_right}
 use Rattle.rel_algebra.proofs.Lists.{RowsRight, values_means}
@@ -30,10 +44,17 @@ use Rattle.rel_algebra.proofs.Right.{AllRight, BodyRight, LinksRight, Makes, Que
 use Rattle.rel_algebra.proofs.Right.{and_right, call_right, case_of_right, case_right, chain_right}
 use Rattle.rel_algebra.proofs.Right.{coalesce_right, column_right, literal_right, operation_right}
 use Rattle.rel_algebra.proofs.Right.{or_right, parameter_right}
+use Rattle.rel_algebra.proofs.BodyBase.{equals_itself}
 use Rattle.rel_algebra.proofs.Truths.{never}
 use Rattle.rel_algebra.proofs.Tests.{list_cells, listed_den}
 use Rattle.rel_algebra.proofs.Words.{assigning_cell}
-use Rattle.std.proofs.Common.{ap, subst}
+use Rattle.std.proofs.Common.{ap, subst, false, nat_eq}
+use Rattle.rel_algebra.proofs.BodyHeld.{AllHold, BranchesHold, HandlersHold, Holds, PerhapsHolds}
+use Rattle.rel_algebra.proofs.BodyHeld.{VariablesHold}
+use Rattle.rel_algebra.proofs.BodyHeld.{QueryRight, RoutineRight, ValueRight}
+use Rattle.rel_algebra.proofs.Blocks.{block_right, into_right}
+use Rattle.rel_algebra.proofs.Planned.{BranchesPlan, HandlersPlan, PerhapsPlans, StmtPlans}
+use Rattle.rel_algebra.proofs.Planned.{StmtsPlan, VariablesPlan}
 
 body_long : (z : List Cell) (vs : Row) (m : ℕ) → length z ≡ m →
     length (z ++ shown vs) ≡ m + length vs
@@ -56,7 +77,8 @@ mutual
   expr_right (In x q) p = in_right x q (expr_right x p.0) (query_means q p.1) (query_folds q p.1)
   expr_right (Exists q) p = exists_right q (query_means q p) (query_folds q p)
   expr_right (Single q) p = single_right q (query_means q p) (query_folds q p)
-  expr_right (Call name r es) p = call_right name r es (body_right r p.0) (exprs_right es p.1)
+  expr_right (Call name r es) p =
+      call_right name r es (body_right r p.0) (exprs_right es p.1) p.2
   expr_right (CallSelf types es) p = absurd p
 
   pub links_right : (links : Links) → LinksPlan links → LinksRight links
@@ -68,13 +90,75 @@ mutual
   exprs_right (MoreExprs x es) p = (expr_right x p.0, exprs_right es p.1)
 
   pub body_right : (r : Routine) → RoutinePlans r → BodyRight r
-  body_right (Returned types returns x) p = λ w fits o vs m z l. λ y g.
+  body_right (Returned types returns x) p = λ w fits o vs m z l c. λ y g.
       let f : Scope = record { rows = []; params = vs } in let e = passed m (length vs) in
       let n = m + length vs in
       assigning_cell returns (emit x (columns_in w) e n).scalar (sight w o y) (ev x w f)
       (expr_right x p w fits o f e n (z ++ shown vs) (body_long z vs m l)
       (passed_reads w o m z vs l) y g)
+  body_right (Function false types returns false statement) p = λ w fits o vs m z l c.
+      block_right types returns statement w (stmt_right statement p w fits) o vs
+      (passed m (length vs)) (m + length vs) (z ++ shown vs) (body_long z vs m l) c
+      (passed_reads w o m z vs l)
   body_right _ p = absurd p
+
+  pub perhaps_right : (text : Perhaps) → PerhapsPlans text → (w : Inputs) → Fits w →
+      PerhapsHolds (perhaps_body text) (ValueRight w)
+  perhaps_right Without p w fits = tt
+  perhaps_right (With x) p w fits = expr_right x p w fits
+
+  pub variables_right : (vs : Variables) → VariablesPlan vs → (w : Inputs) → Fits w →
+      VariablesHold (variables_body vs) (ValueRight w)
+  variables_right NoVariable p w fits = tt
+  variables_right (MoreVariables k t default others) p w fits =
+      (perhaps_right default p.0 w fits, variables_right others p.1 w fits)
+
+  pub stmt_right : (s : Stmt) → StmtPlans s → (w : Inputs) → Fits w →
+      Holds (stmt_body s) (ValueRight w) (QueryRight w)
+  stmt_right (Compound atomic variables zero handlers statements) p w fits = (
+    variables_right variables p.0 w fits,
+    handlers_right handlers p.1 w fits,
+    stmts_right statements p.2 w fits,
+  )
+  stmt_right (If branches otherwise) p w fits =
+      (branches_right branches p.0 w fits, stmts_right otherwise p.1 w fits)
+  stmt_right (SearchedCase branches otherwise) p w fits =
+      (branches_right branches p.0 w fits, stmts_right otherwise p.1 w fits)
+  stmt_right (SimpleCase x branches otherwise) p w fits = (
+    expr_right x p.0 w fits,
+    branches_right branches p.1 w fits,
+    stmts_right otherwise p.2 w fits,
+  )
+  stmt_right (Set t x) p w fits = expr_right x p w fits
+  stmt_right (SelectInto q targets) p w fits =
+      into_right q targets w fits p.0 p.1 (query_means q p.0) (query_folds q p.0)
+  stmt_right (Signal state text) p w fits = perhaps_right text p w fits
+  stmt_right (Resignal state text) p w fits = perhaps_right text p w fits
+  stmt_right (GetStatementItems Stacked reads) p w fits = tt
+  stmt_right (GetConditionItems Stacked number reads) p w fits = expr_right number p w fits
+  stmt_right (Leave outwards) p w fits = tt
+  stmt_right (Return x) p w fits = expr_right x p w fits
+  stmt_right _ p w fits = absurd p
+
+  pub stmts_right : (ss : Stmts) → StmtsPlan ss → (w : Inputs) → Fits w →
+      AllHold (stmts_body ss) (ValueRight w) (QueryRight w)
+  stmts_right NoStmt p w fits = tt
+  stmts_right (MoreStmts s ss) p w fits = (stmt_right s p.0 w fits, stmts_right ss p.1 w fits)
+
+  pub branches_right : (bs : Branches) → BranchesPlan bs → (w : Inputs) → Fits w →
+      BranchesHold (branches_body bs) (ValueRight w) (QueryRight w)
+  branches_right NoBranch p w fits = tt
+  branches_right (MoreBranches test statements others) p w fits = (
+    expr_right test p.0 w fits,
+    stmts_right statements p.1 w fits,
+    branches_right others p.2 w fits,
+  )
+
+  pub handlers_right : (hs : Handlers) → HandlersPlan hs → (w : Inputs) → Fits w →
+      HandlersHold (handlers_body hs) (ValueRight w) (QueryRight w)
+  handlers_right NoHandler p w fits = tt
+  handlers_right (MoreHandlers kind takes action others) p w fits =
+      (stmt_right action p.0 w fits, handlers_right others p.1 w fits)
 
   pub query_means : (q : Query) → QueryPlans q → QueryMeans q
   query_means (Select items x tests) p = select_means x tests items p.1 (from_makes x p.1)
@@ -135,6 +219,25 @@ means_under q w rows p fits =
     (under (widths rows) (length w.args))
     (under_reads w rows, args_read w (stack rows))
 
+-- a block by itself
+block_cells : (types : List SqlType) (returns : SqlType) (s : Stmt) (w : Inputs) →
+    length w.args ≡ length types → RoutineRight w (body.Body types returns (stmt_body s)) →
+    den (listed (singly (called_body (body.Body types returns (stmt_body s)) (columns_in w)
+    (top (length types)) 0)) 0 unit_row) w []
+    ≡ one_cell (cell_end (body_call (body.Body types returns (stmt_meant s)) w.args w))
+block_cells types returns s w l right =
+    let r = body.Body types returns (stmt_body s) in
+    let end = cell_end (body_call (body.Body types returns (stmt_meant s)) w.args w) in
+    let b = called_body r (columns_in w) (top (length types)) 0 in let a = singly b in
+    listed_den a 0 unit_row w []
+    ∙ ap (λ (rs : List PlanRow). rs ++ [])
+    (list_cells a 0 w [] [] (end ∷ []) refl
+    (singly_yields b w [] [] end
+    (subst (λ (k : ℕ). Yields (called_body r (columns_in w) (top k) 0) w [] [] end) l
+    (block_right types returns s w right [] w.args (top (length w.args)) 0 [] refl
+    (subst (λ (k : ℕ). nat_eq (length w.args) k ≡ true) l (equals_itself (length w.args)))
+    (λ z h. (λ d i. refl, λ i. args_read w (z ∷ []) i))))))
+
 -- a function by itself
 pub routine_cells : (r : Routine) (w : Inputs) → planned_routine r ≡ true →
     length w.args ≡ length (parameters_of r) → Fits w →
@@ -151,4 +254,8 @@ routine_cells (Returned types returns x) w p l fits =
     (subst (λ (k : ℕ). Yields (emit x (columns_in w) (top k) 0) w [] [] (cell_end (ev x w f))) l
     (expr_right x (routine_plans r p) w fits [] f (top (length w.args)) 0 [] refl
     (λ z h. (λ d i. refl, λ i. args_read w (z ∷ []) i))) y g))))
+routine_cells (Function false types returns false statement) w p l fits =
+    let r = Function false types returns false statement in
+    block_cells types returns statement w l
+    (stmt_right statement (routine_plans r p) w fits)
 routine_cells _ w p l fits = never p

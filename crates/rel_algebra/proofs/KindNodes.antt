@@ -1,13 +1,15 @@
 -- Kinds of the columns that runs of nodes add, and of scalars over them.
 use Rattle.std.proofs.Common.{◌≡◌, ℕ, zero, suc, ◌+◌, ◌<◌, true, ◌&&◌, List, [], ◌∷◌, ◌++◌, length}
 use Rattle.std.proofs.Common.{Option, Some, None, refl, ap, sym, ◌∙◌, subst, arith, length-append}
-use Rattle.rel_algebra.specs.Emit.{Emitted, EmittedAll, Env, Place, at, below, columns_within}
+use Rattle.rel_algebra.specs.Emit.{Emitted, EmittedAll, Env, Folded, Place, at, below}
+use Rattle.rel_algebra.specs.Emit.{columns_within}
 use Rattle.rel_algebra.specs.Emit.{entered, filters, filters_width, first_and, folded_env, given}
 use Rattle.rel_algebra.specs.Emit.{joined_nodes, lifted, listed, listed_by, nowhere, outward}
 use Rattle.rel_algebra.specs.Emit.{own_places, passed, read, scalar_count, singly, then_columns}
 use Rattle.rel_algebra.specs.Emit.{width, with_place}
 use Rattle.rel_algebra.specs.Joins.{places}
 use Rattle.rel_algebra.specs.Kinds.{found_kinds, way_good, DataKind, Kinds, aggregate_kinds}
+use Rattle.rel_algebra.specs.Kinds.{aggregates_good}
 use Rattle.rel_algebra.specs.Kinds.{apply_kinds, is_test, kind_at, kind_good, kinds_at, kinds_row}
 use Rattle.rel_algebra.specs.Kinds.{nodes_good, nodes_kinds, scalar_good, scalar_kind, scalars_good}
 use Rattle.rel_algebra.specs.Kinds.{scalars_kinds, tree_good, tree_kinds}
@@ -175,6 +177,16 @@ abbrev pub YieldsAll : EmittedAll → (List ℕ → Kinds) → Kinds → List Ki
 YieldsAll a T r ks ps kk = (nodes_good a.nodes T r ks ps ≡ true)
     × ((z : Kinds) → KindsGrow (nodes_kinds a.nodes T r ks ps) z → HaveAll a.scalars
     (z ∷ ks) ps kk)
+
+-- what is folded, where there is anything
+abbrev pub FoldIs : Option Folded → (List ℕ → Kinds) → Kinds → List Kinds → Kinds → ℕ → Kinds →
+    Type 0
+FoldIs None T r ks ps n kk = Unit {0}
+FoldIs (Some a) T r ks ps n kk =
+    (aggregates_good a.aggregates (tree_kinds a.input T (r ∷ ks) ps) ≡ true)
+    × (tree_good a.input T (r ∷ ks) ps ≡ true)
+    × YieldsAll (a.list n) T (r ++ aggregate_kinds a.aggregates (tree_kinds a.input T (r ∷ ks) ps))
+    ks ps kk
 
 pub first_and_kinds : (a : Emitted) (b : ℕ → EmittedAll) (n : ℕ) (T : List ℕ →
     Kinds) (r : Kinds) (ks : List Kinds) (ps : Kinds) (k : DataKind)

@@ -14,7 +14,8 @@ use Rattle.rel_algebra.specs.Emit.{emit_rows, emit_tests, entered, filters, filt
 use Rattle.rel_algebra.specs.Emit.{first_and, first_value, folded, folded_env, folding, from_plan}
 use Rattle.rel_algebra.specs.Emit.{given, is_plain, key_of, key_step, lifted, list_nodes, listed}
 use Rattle.rel_algebra.specs.Emit.{none_waits, nowhere, nulls, numbers, one_column, one_param}
-use Rattle.rel_algebra.specs.Emit.{passed, plan, raising, row_stands, scalar_count, scalars_of}
+use Rattle.rel_algebra.specs.Emit.{passed, plan, raising, read, row_stands, scalar_count}
+use Rattle.rel_algebra.specs.Emit.{scalars_of}
 use Rattle.rel_algebra.specs.Emit.{selected, several, singly, test_step, top, turned, values_plan}
 use Rattle.rel_algebra.specs.Emit.{width, word_on}
 use Rattle.rel_algebra.specs.Joins.{from_width, numbered, places, query_width, rows_width}
@@ -42,7 +43,7 @@ use Rattle.rel_algebra.specs.Tree.{Or, Ordered, Query, Routine, Rows, Select, Si
 use Rattle.rel_algebra.specs.Tree.{Variable, count, parameters_of}
 use Rattle.rel_algebra.proofs.Truths.{and_true, both, equal_numbers, left_true, never, right_true}
 use Rattle.rel_algebra.proofs.Counts.{numbered_long, plain_width}
-use Rattle.rel_algebra.proofs.KindNodes.{KindsAgree, KindsRead, PlanIs, TestsGood, Yields}
+use Rattle.rel_algebra.proofs.KindNodes.{FoldIs, KindsAgree, KindsRead, PlanIs, TestsGood, Yields}
 use Rattle.rel_algebra.proofs.KindNodes.{YieldsAll, after_grow, after_join, after_long}
 use Rattle.rel_algebra.proofs.KindNodes.{aggregates_long, below_kind, entered_kinds, filters_are}
 use Rattle.rel_algebra.proofs.KindNodes.{filters_grow, filters_kinds, filters_long, first_and_kinds}
@@ -52,11 +53,28 @@ use Rattle.rel_algebra.proofs.KindNodes.{then_columns_kinds}
 use Rattle.rel_algebra.proofs.KindRows.{KindsGrow, first_kinds_columns, kinds_grow_at}
 use Rattle.rel_algebra.proofs.KindRows.{kinds_grow_by, kinds_grow_same, kinds_grow_trans}
 use Rattle.rel_algebra.proofs.KindRows.{kinds_grown_column}
-use Rattle.rel_algebra.proofs.KindWords.{Has, HaveAll, against_has, agree_turned, all_true_has}
+use Rattle.rel_algebra.proofs.KindWords.{Has, HaveAll, against_has, agree_null, agree_turned}
+use Rattle.rel_algebra.proofs.KindWords.{all_true_has}
 use Rattle.rel_algebra.proofs.KindWords.{all_values_has, assigning_first_has, else_good, else_kind}
 use Rattle.rel_algebra.proofs.KindWords.{first_value_has, if_values_has, join_null, read_good}
 use Rattle.rel_algebra.proofs.KindWords.{row_stands_has, tested, turned_test}
 use Rattle.rel_algebra.proofs.Widths.{Even}
+use Rattle.rel_algebra.specs.Tree.{Function, Perhaps, Without, With, Variables, NoVariable}
+use Rattle.rel_algebra.specs.Tree.{MoreVariables, Stmt, Compound, If, SearchedCase, SimpleCase, Set}
+use Rattle.rel_algebra.specs.Tree.{SelectInto, Signal, Resignal, GetStatementItems}
+use Rattle.rel_algebra.specs.Tree.{GetConditionItems, Leave, Return, Stmts, NoStmt, MoreStmts}
+use Rattle.rel_algebra.specs.Tree.{Branches, NoBranch, MoreBranches, Handlers, NoHandler}
+use Rattle.rel_algebra.specs.Tree.{MoreHandlers}
+use Rattle.rel_algebra.specs.Emit.{branches_body, handlers_body, perhaps_body, stmt_body}
+use Rattle.rel_algebra.specs.Emit.{stmts_body, variables_body}
+use Rattle.rel_algebra.specs.Emit.{query_leaf, value_leaf}
+use Rattle.rel_algebra.specs.Kinds.{TextKind, TypedBranches, TypedHandlers, TypedPerhaps, TypedStmt}
+use Rattle.rel_algebra.specs.Kinds.{TypedStmts, TypedVariables, declared_types, type_kind}
+use Rattle.rel_algebra.specs.Kinds.{type_kinds}
+use Rattle.rel_algebra.proofs.BodyKindsHeld.{AllKinds, BranchesKinds, Gives, HandlersKinds, Kinded}
+use Rattle.rel_algebra.proofs.BodyKindsHeld.{PerhapsGives, QueryKinds as LeafKinds, StmtKinds}
+use Rattle.rel_algebra.proofs.BodyKindsHeld.{VariablesKinds, made_types}
+use Rattle.rel_algebra.proofs.BodyKindsRoutines.{called_kinds}
 
 -- How many columns queries have.
 exprs_long : (es : Exprs) (T : List ℕ → Kinds) (g : List Kinds) (p : Kinds) →
@@ -139,15 +157,6 @@ abbrev pub FromKinds : From → Type 0
 FromKinds x = (T : List ℕ → Kinds) (g : List Kinds) (p : Kinds) (e : Env) (ks : List Kinds)
     (ps : Kinds) → KindsAgree e ks ps g p → TypedFrom x T g p
     → PlanIs (from_plan x (table_widths T) e) T ks ps (from_kinds x T g p)
-
-abbrev pub FoldIs : Option Folded → (List ℕ → Kinds) → Kinds → List Kinds → Kinds → ℕ → Kinds →
-    Type 0
-FoldIs None T r ks ps n kk = Unit {0}
-FoldIs (Some a) T r ks ps n kk =
-    (aggregates_good a.aggregates (tree_kinds a.input T (r ∷ ks) ps) ≡ true)
-    × (tree_good a.input T (r ∷ ks) ps ≡ true)
-    × YieldsAll (a.list n) T (r ++ aggregate_kinds a.aggregates (tree_kinds a.input T (r ∷ ks) ps))
-    ks ps kk
 
 abbrev pub FoldKinds : Query → Type 0
 FoldKinds q = (T : List ℕ → Kinds) (g : List Kinds) (p : Kinds) (e : Env) (r : Kinds)
@@ -784,6 +793,49 @@ links_are (MoreLinks operator x links) h a T g p e r ks ps n k l rd ty y =
     (and_true (agree k (operator_kind operator))
     (agree (expr_kind x T g p) (operator_kind operator)) ty.0 ty.2))
 
+-- ---- leaves of a body, in sight of variables of these types
+
+abbrev leaf_kinded : (x : Expr) → ExprKinds x → (T : List ℕ → Kinds) (ts : List SqlType) →
+    Typed x T [] (type_kinds ts) → Kinded T ts (value_leaf x)
+leaf_kinded x hx T ts ty = record {
+  kind = expr_kind x T [] (type_kinds ts);
+  yields = λ e r ks ps n l rd. hx T [] (type_kinds ts) e r ks ps n l rd ty;
+}
+
+leaf_gives : (x : Expr) → ExprKinds x → (T : List ℕ → Kinds) (ts : List SqlType) (k : DataKind) →
+    Typed x T [] (type_kinds ts) → agree (expr_kind x T [] (type_kinds ts)) k ≡ true →
+    Gives T ts k (value_leaf x)
+leaf_gives x hx T ts k ty a = record { own = leaf_kinded x hx T ts ty; takes = a }
+
+into_kinds : (q : Query) → QueryKinds q → FoldKinds q → (T : List ℕ → Kinds) (ts : List SqlType) →
+    TypedQuery q T [] (type_kinds ts) →
+    LeafKinds T (type_kinds ts) (query_kinds q T [] (type_kinds ts)) (query_leaf q)
+into_kinds q hq hf T ts ty = record {
+  asked = λ e ks ps ag. hq T [] (type_kinds ts) e ks ps ag ty;
+  folds = λ e r ks ps n l rd. hf T [] (type_kinds ts) e r ks ps n l rd ty;
+}
+
+made_same : (vs : Variables) → made_types (variables_body vs) ≡ declared_types vs
+made_same NoVariable = refl
+made_same (MoreVariables k t default others) =
+    ap (λ (us : List SqlType). replicate k t ++ us) (made_same others)
+
+-- the types take the parameters that a call passes
+agree_at : (p q : Kinds) (j : ℕ) → agree_all p q ≡ true → agree (kind_at p j) (kind_at q j) ≡ true
+agree_at [] q j h = refl
+agree_at (a ∷ p) [] zero h = agree_null a
+agree_at (a ∷ p) [] (suc j) h = agree_null (kind_at p j)
+agree_at (a ∷ p) (b ∷ q) zero h = left_true (agree a b) (agree_all p q) h
+agree_at (a ∷ p) (b ∷ q) (suc j) h = agree_at p q j (right_true (agree a b) (agree_all p q) h)
+
+passed_are : (m : ℕ) (r p q : Kinds) (ks : List Kinds) (ps : Kinds) → length r ≡ m →
+    agree_all p q ≡ true → (j : ℕ) →
+    agree (scalar_kind (read ((passed m (length p)).params j)) ((r ++ p) ∷ ks) ps) (kind_at q j)
+    ≡ true
+passed_are m r p q ks ps l h j =
+    ap (λ (k : DataKind). agree k (kind_at q j))
+    ((passed_kinds m r p ks ps l (r ++ p) (kinds_grow_same (r ++ p))).1 j) ∙ agree_at p q j h
+
 mutual
   pub expr_kinds : (x : Expr) → ExprKinds x
   expr_kinds (Literal c) = λ T g p e r ks ps n l rd ty. (refl, λ z k. (refl, refl))
@@ -853,7 +905,85 @@ mutual
       (expr_kinds x T [] p (passed m (length p)) (r ++ p) ks ps (m + length p)
       (kinds_wider r p m (length p) l refl) (passed_kinds m r p ks ps l)
       ty.0) ty.1
+  body_kinds (Function false types returns false statement) = λ T p m r ks ps l ty.
+      called_kinds types returns (stmt_body statement) T (stmt_kinds statement T returns types ty.1)
+      (passed m (length p)) (m + length p) (r ++ p) ks ps (kinds_wider r p m (length p) l refl)
+      (λ j g. passed_are m r p (type_kinds types) ks ps l ty.0 j)
   body_kinds _ = λ T p m r ks ps l ty. absurd ty
+
+  pub perhaps_kinds : (text : Perhaps) (k : DataKind) (T : List ℕ → Kinds) (ts : List SqlType) →
+      TypedPerhaps text k T ts → PerhapsGives T ts k (perhaps_body text)
+  perhaps_kinds Without k T ts ty = tt
+  perhaps_kinds (With x) k T ts ty = leaf_gives x (expr_kinds x) T ts k ty.0 ty.1
+
+  pub variables_kinds : (vs : Variables) (T : List ℕ → Kinds) (ts : List SqlType) →
+      TypedVariables vs T ts → VariablesKinds (variables_body vs) T ts
+  variables_kinds NoVariable T ts ty = tt
+  variables_kinds (MoreVariables k t default others) T ts ty = (
+    perhaps_kinds default (type_kind t) T ts ty.0,
+    variables_kinds others T (ts ++ replicate k t) ty.1,
+  )
+
+  pub stmt_kinds : (s : Stmt) (T : List ℕ → Kinds) (returns : SqlType) (ts : List SqlType) →
+      TypedStmt s T returns ts → StmtKinds (stmt_body s) T returns ts
+  stmt_kinds (Compound atomic variables cursors handlers statements) T returns ts ty =
+      let same = sym (made_same variables) in (
+        variables_kinds variables T ts ty.0,
+        subst (λ (us : List SqlType). HandlersKinds (handlers_body handlers) T returns (ts ++ us))
+            same (handlers_kinds handlers T returns (ts ++ declared_types variables) ty.1),
+        subst (λ (us : List SqlType). AllKinds (stmts_body statements) T returns (ts ++ us)) same
+            (stmts_kinds statements T returns (ts ++ declared_types variables) ty.2),
+      )
+  stmt_kinds (If branches otherwise) T returns ts ty =
+      let tests = branches_kinds branches BooleanKind T returns ts ty.0 in
+      (tests, stmts_kinds otherwise T returns ts ty.1)
+  stmt_kinds (SearchedCase branches otherwise) T returns ts ty =
+      let tests = branches_kinds branches BooleanKind T returns ts ty.0 in
+      (tests, stmts_kinds otherwise T returns ts ty.1)
+  stmt_kinds (SimpleCase x branches otherwise) T returns ts ty = (
+    leaf_kinded x (expr_kinds x) T ts ty.0,
+    branches_kinds branches (expr_kind x T [] (type_kinds ts)) T returns ts ty.1,
+    stmts_kinds otherwise T returns ts ty.2,
+  )
+  stmt_kinds (Set t x) T returns ts ty =
+      record { own = leaf_kinded x (expr_kinds x) T ts ty.0; taken = ty.1 }
+  stmt_kinds (SelectInto q targets) T returns ts ty = record {
+    columns = query_kinds q T [] (type_kinds ts);
+    own = into_kinds q (query_are q) (fold_are q) T ts ty.0;
+    taken = ty.1;
+  }
+  stmt_kinds (Signal state text) T returns ts ty = perhaps_kinds text TextKind T ts ty
+  stmt_kinds (Resignal state text) T returns ts ty = perhaps_kinds text TextKind T ts ty
+  stmt_kinds (GetStatementItems area reads) T returns ts ty = ty
+  stmt_kinds (GetConditionItems area number reads) T returns ts ty =
+      (leaf_gives number (expr_kinds number) T ts IntegerKind ty.0 ty.1, ty.2)
+  stmt_kinds (Leave outwards) T returns ts ty = tt
+  stmt_kinds (Return x) T returns ts ty =
+      leaf_gives x (expr_kinds x) T ts (type_kind returns) ty.0 ty.1
+  stmt_kinds _ T returns ts ty = absurd ty
+
+  pub stmts_kinds : (ss : Stmts) (T : List ℕ → Kinds) (returns : SqlType) (ts : List SqlType) →
+      TypedStmts ss T returns ts → AllKinds (stmts_body ss) T returns ts
+  stmts_kinds NoStmt T returns ts ty = tt
+  stmts_kinds (MoreStmts s ss) T returns ts ty =
+      (stmt_kinds s T returns ts ty.0, stmts_kinds ss T returns ts ty.1)
+
+  pub branches_kinds : (bs : Branches) (k : DataKind) (T : List ℕ → Kinds) (returns : SqlType)
+      (ts : List SqlType) → TypedBranches bs k T returns ts →
+      BranchesKinds (branches_body bs) k T returns ts
+  branches_kinds NoBranch k T returns ts ty = tt
+  branches_kinds (MoreBranches x statements others) k T returns ts ty = (
+    leaf_gives x (expr_kinds x) T ts k ty.0 ty.1,
+    stmts_kinds statements T returns ts ty.2,
+    branches_kinds others k T returns ts ty.3,
+  )
+
+  pub handlers_kinds : (hs : Handlers) (T : List ℕ → Kinds) (returns : SqlType)
+      (ts : List SqlType) → TypedHandlers hs T returns ts →
+      HandlersKinds (handlers_body hs) T returns ts
+  handlers_kinds NoHandler T returns ts ty = tt
+  handlers_kinds (MoreHandlers kind takes action others) T returns ts ty =
+      (stmt_kinds action T returns ts ty.0, handlers_kinds others T returns ts ty.1)
 
   pub query_are : (q : Query) → QueryKinds q
   query_are (Select items from tests) = λ T g p e ks ps ag ty.

@@ -1,5 +1,6 @@
 -- A plan depends on the tables that its query names alone.
-use Rattle.std.proofs.Common.{◌≡◌, ℕ, zero, suc, ◌+◌, List, ◌∷◌, length, Some, refl, drop, []}
+use Rattle.std.proofs.Common.{◌≡◌, ℕ, zero, suc, ◌+◌, false, List, ◌∷◌, length, Some, refl, drop}
+use Rattle.std.proofs.Common.{[]}
 use Rattle.sql_values.specs.declared.value.SqlType.{SqlType}
 use Rattle.rel_algebra.specs.Emit.{Emitted, Env, Waiting, against_on, all_true, all_values, ask}
 use Rattle.rel_algebra.specs.Emit.{ask_member, assigning_in, called, emit, emit_all, emit_args}
@@ -20,6 +21,22 @@ use Rattle.rel_algebra.specs.Tree.{Grouped, In, Inner, LeftOuter, Links, Literal
 use Rattle.rel_algebra.specs.Tree.{MoreLinks, MoreRows, NoExpr, NoLink, NoRow, Operate, Or, Ordered}
 use Rattle.rel_algebra.specs.Tree.{Query, Routine, Rows, Select, Single, Table, Values, Variable}
 use Rattle.rel_algebra.specs.Tree.{parameters_of}
+use Rattle.rel_algebra.specs.Tree.{Function, Perhaps, Without, With, Variables, NoVariable}
+use Rattle.rel_algebra.specs.Tree.{MoreVariables, Stmt, Compound, If, SearchedCase, SimpleCase, Set}
+use Rattle.rel_algebra.specs.Tree.{SelectInto, Signal, Resignal, GetStatementItems}
+use Rattle.rel_algebra.specs.Tree.{GetConditionItems, Leave, Return, Stmts, NoStmt, MoreStmts}
+use Rattle.rel_algebra.specs.Tree.{Branches, NoBranch, MoreBranches, Handlers, NoHandler}
+use Rattle.rel_algebra.specs.Tree.{MoreHandlers}
+use Rattle.rel_algebra.specs.Emit.{branches_body, handlers_body, perhaps_body, stmt_body}
+use Rattle.rel_algebra.specs.Emit.{stmts_body, variables_body}
+use Rattle.rel_algebra.proofs.BodyHeld.{AllHold, BranchesHold, HandlersHold, Holds, PerhapsHolds}
+use Rattle.rel_algebra.proofs.BodyHeld.{VariablesHold}
+use Rattle.rel_algebra.specs.Bodies as body
+use Rattle.rel_algebra.specs.BodyChain.{read_outward}
+use Rattle.rel_algebra.specs.Emissions.{asked}
+use Rattle.rel_algebra.specs.Lasting.{BranchesLast, HandlersLast, PerhapsLasts, StmtLasts}
+use Rattle.rel_algebra.specs.Lasting.{StmtsLast, VariablesLast}
+use Rattle.rel_algebra.proofs.BodyLasts.{QueryLasts as LeafLasts, ValueLasts, inline_lasts}
 
 mutual
   width_lasts : (q : Query) (S R : List ℕ → ℕ) → QueryLasts q S R →
@@ -41,7 +58,7 @@ mutual
       λ i. from_width_lasts a S R h.0 i + from_width_lasts b S R h.1 i
 
 mutual
-  expr_lasts : (x : Expr) (S R : List ℕ → ℕ) (e : Env) (n : ℕ) → Lasts x S R →
+  pub expr_lasts : (x : Expr) (S R : List ℕ → ℕ) (e : Env) (n : ℕ) → Lasts x S R →
       emit x S e n ≡ emit x R e n
   expr_lasts (Literal v) S R e n h = refl
   expr_lasts (Column level j) S R e n h = refl
@@ -99,7 +116,67 @@ mutual
       emit_body r S e n ≡ emit_body r R e n
   body_lasts (Returned types returns x) S R e n h =
       λ i. assigning_in (returns ∷ []) (expr_lasts x S R e n h i)
+  body_lasts (Function false types returns false statement) S R e n h =
+      λ i. asked single (h (read_outward e 0 types) i) n
   body_lasts _ S R e n h = refl
+
+  perhaps_last : (text : Perhaps) (S R : List ℕ → ℕ) → PerhapsLasts text S R →
+      PerhapsHolds (perhaps_body text) (ValueLasts S R)
+  perhaps_last Without S R p = tt
+  perhaps_last (With x) S R p = λ e n. expr_lasts x S R e n p
+
+  variables_last : (vs : Variables) (S R : List ℕ → ℕ) → VariablesLast vs S R →
+      VariablesHold (variables_body vs) (ValueLasts S R)
+  variables_last NoVariable S R p = tt
+  variables_last (MoreVariables k t default others) S R p =
+      (perhaps_last default S R p.0, variables_last others S R p.1)
+
+  stmt_last : (s : Stmt) (S R : List ℕ → ℕ) → StmtLasts s S R →
+      Holds (stmt_body s) (ValueLasts S R) (LeafLasts S R)
+  stmt_last (Compound atomic variables cursors handlers statements) S R p = (
+    variables_last variables S R p.0,
+    handlers_last handlers S R p.1,
+    stmts_last statements S R p.2,
+  )
+  stmt_last (If branches otherwise) S R p =
+      (branches_last branches S R p.0, stmts_last otherwise S R p.1)
+  stmt_last (SearchedCase branches otherwise) S R p =
+      (branches_last branches S R p.0, stmts_last otherwise S R p.1)
+  stmt_last (SimpleCase x branches otherwise) S R p = (
+    λ e n. expr_lasts x S R e n p.0,
+    branches_last branches S R p.1,
+    stmts_last otherwise S R p.2,
+  )
+  stmt_last (Set t x) S R p = λ e n. expr_lasts x S R e n p
+  stmt_last (SelectInto q targets) S R p =
+      (λ e. plan_lasts q S R e p, λ e. fold_lasts q S R e p)
+  stmt_last (Signal state text) S R p = perhaps_last text S R p
+  stmt_last (Resignal state text) S R p = perhaps_last text S R p
+  stmt_last (GetStatementItems area reads) S R p = tt
+  stmt_last (GetConditionItems area number reads) S R p = λ e n. expr_lasts number S R e n p
+  stmt_last (Leave outwards) S R p = tt
+  stmt_last (Return x) S R p = λ e n. expr_lasts x S R e n p
+  stmt_last _ S R p = tt
+
+  stmts_last : (ss : Stmts) (S R : List ℕ → ℕ) → StmtsLast ss S R →
+      AllHold (stmts_body ss) (ValueLasts S R) (LeafLasts S R)
+  stmts_last NoStmt S R p = tt
+  stmts_last (MoreStmts s ss) S R p = (stmt_last s S R p.0, stmts_last ss S R p.1)
+
+  branches_last : (bs : Branches) (S R : List ℕ → ℕ) → BranchesLast bs S R →
+      BranchesHold (branches_body bs) (ValueLasts S R) (LeafLasts S R)
+  branches_last NoBranch S R p = tt
+  branches_last (MoreBranches test statements others) S R p = (
+    λ e n. expr_lasts test S R e n p.0,
+    stmts_last statements S R p.1,
+    branches_last others S R p.2,
+  )
+
+  handlers_last : (hs : Handlers) (S R : List ℕ → ℕ) → HandlersLast hs S R →
+      HandlersHold (handlers_body hs) (ValueLasts S R) (LeafLasts S R)
+  handlers_last NoHandler S R p = tt
+  handlers_last (MoreHandlers kind takes action others) S R p =
+      (stmt_last action S R p.0, handlers_last others S R p.1)
 
   tests_last : (es : Exprs) (S R : List ℕ → ℕ) (e : Env) (w : Waiting) (n : ℕ) → AllLast es S R →
       emit_tests es S e w n ≡ emit_tests es R e w n
@@ -113,7 +190,7 @@ mutual
   rows_last (MoreRows es rows) S R e n h = λ i. all_last es S R e n h.0 i
       ∷ rows_last rows S R e (width (all_last es S R e n h.0 i).nodes n) h.1 i
 
-  plan_lasts : (q : Query) (S R : List ℕ → ℕ) (e : Env) → QueryLasts q S R → plan q S e ≡ plan q R e
+  pub plan_lasts : (q : Query) (S R : List ℕ → ℕ) (e : Env) → QueryLasts q S R → plan q S e ≡ plan q R e
   plan_lasts (Select items from tests) S R e h = λ i.
       selected (λ m. tests_last tests S R (entered e (from_width_lasts from S R h.1 i)) none_waits m
       h.2 i)
@@ -132,7 +209,7 @@ mutual
       (rows_last rows S R (lifted e) 1 h i)
   plan_lasts (Ordered q keys) S R e h = λ i. sort keys (plan_lasts q S R e h i)
 
-  fold_lasts : (q : Query) (S R : List ℕ → ℕ) (e : Env) → QueryLasts q S R →
+  pub fold_lasts : (q : Query) (S R : List ℕ → ℕ) (e : Env) → QueryLasts q S R →
       folded q S e ≡ folded q R e
   fold_lasts (Grouped from tests zero items (a ∷ ags) NoExpr list) S R e h = λ i. Some (record {
     input = selected (λ m. tests_last tests S R (entered e (from_width_lasts from S R h.0 i))
@@ -164,5 +241,7 @@ lasting_plans = record {
   queries = plan_lasts;
   routines = λ r S R h. λ i.
       listed (singly (body_lasts r S R (top (length (parameters_of r))) 0 h i)) 0 unit_row;
+  blocks = λ types returns s S R h params.
+      inline_lasts (body.Body types returns (stmt_body s)) S R params (stmt_last s S R h);
   bodies = body_lasts;
 }

@@ -20,10 +20,19 @@ pub use Rattle.rel_algebra.proofs.Induction.{means, means_under}
 pub use Rattle.rel_algebra.proofs.Passing.{means_within, means_passing, means_asked}
 pub use Rattle.rel_algebra.proofs.Passing.{function_plans, returned_means}
 pub use Rattle.rel_algebra.proofs.Changes.{changes_run, stored_in-all}
+-- Blocks.
+pub use Rattle.rel_algebra.proofs.Blocks.{call_meant, into_right, width_alike}
+pub use Rattle.rel_algebra.proofs.BlockWorlds.{Each, ExprGives, QueryGives, call_gives}
+pub use Rattle.rel_algebra.proofs.BodyKindsRoutines.{well_kinded}
+pub use Rattle.rel_algebra.proofs.KindTrees.{stmt_kinds}
+pub use Rattle.rel_algebra.proofs.BodyHeld.{AllHold, BranchesHold, HandlersHold, Holds}
+pub use Rattle.rel_algebra.proofs.BodyHeld.{PerhapsHolds, VariablesHold}
+pub use Rattle.rel_algebra.proofs.BodyLasts.{QueryLasts, ValueLasts, coded_last, declares_last}
+pub use Rattle.rel_algebra.proofs.BodyLasts.{stmt_lasts}
 -- Plans of queries.
 pub use Rattle.rel_algebra.proofs.Kept.{kept_tables_fit}
 pub use Rattle.rel_algebra.proofs.Merging.{merged_plans}
-pub use Rattle.rel_algebra.proofs.Lasting.{lasting_plans}
+pub use Rattle.rel_algebra.proofs.Lasting.{expr_lasts, fold_lasts, lasting_plans, plan_lasts}
 pub use Rattle.rel_algebra.proofs.Within.{closed_plans}
 pub use Rattle.rel_algebra.proofs.Fitting.{well_formed_plans}
 pub use Rattle.rel_algebra.proofs.Removable.{removable_plans}
@@ -34,7 +43,7 @@ pub use Rattle.rel_algebra.proofs.Even.{rows_long}
 pub use Rattle.rel_algebra.proofs.Simple.{none_left}
 pub use Rattle.rel_algebra.proofs.Chains.{Given, InputRemovable, nested_folded, nested_removable}
 pub use Rattle.rel_algebra.proofs.Counts.{all_count}
-pub use Rattle.rel_algebra.proofs.Fitting.{FoldedFits, expr_fits, fold_fits, query_fits}
+pub use Rattle.rel_algebra.proofs.Fitting.{FoldedFits, expr_fits, fold_fits, into_fits, query_fits}
 pub use Rattle.rel_algebra.proofs.FittingNodes.{EnvFits, Fit, check_fits, if_values_fits, join_fits}
 pub use Rattle.rel_algebra.proofs.FittingNodes.{lt_less, on_each_fits, places_fit, scalar_more}
 pub use Rattle.rel_algebra.proofs.FittingNodes.{scalars_more}
@@ -47,9 +56,9 @@ pub use Rattle.rel_algebra.proofs.Induction.{expr_right, query_folds, query_mean
 pub use Rattle.rel_algebra.proofs.Moves.{NotGiven}
 pub use Rattle.rel_algebra.proofs.Nodes.{on_each_den, added_grows, Reads, Yields, added_join}
 pub use Rattle.rel_algebra.proofs.Nodes.{added_long, wider, cells_long}
-pub use Rattle.rel_algebra.proofs.Passing.{expr_is, ending_body}
+pub use Rattle.rel_algebra.proofs.Passing.{expr_gives, expr_is, ending_body, query_gives}
 pub use Rattle.rel_algebra.proofs.Planned.{Plans, QueryPlans, plans, query_plans}
-pub use Rattle.rel_algebra.proofs.Removable.{PartsOk, expr_ok, query_ok, fold_ok}
+pub use Rattle.rel_algebra.proofs.Removable.{PartsOk, expr_ok, into_ok, query_ok, fold_ok}
 pub use Rattle.rel_algebra.proofs.Rows.{AreCells, are_cells, shown_append, WideEnd}
 pub use Rattle.rel_algebra.proofs.Truths.{and_true, left_true, right_true}
 pub use Rattle.rel_algebra.proofs.Wide.{LongEnd, answer_wide}

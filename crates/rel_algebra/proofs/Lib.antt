@@ -13,6 +13,11 @@ pub mod Queries
 pub mod Lists
 pub mod Induction
 pub mod Planned
+pub mod BodyRaises
+pub mod Exceptions
+pub mod BodySame
+pub mod BodyWholes
+pub mod BlockWorlds
 pub mod Passing
 pub mod Changes
 pub mod Reading
@@ -50,9 +55,15 @@ pub mod BodyUnplanned
 pub mod BodyLasts
 pub mod BodyCalls
 pub mod BodyCalled
+pub mod Blocks
 pub mod KindRows
 pub mod KindWords
 pub mod KindNodes
+pub mod BodyKindsHeld
+pub mod BodyKindsSteps
+pub mod BodyKindsHandled
+pub mod BodyKindsStatements
+pub mod BodyKindsRoutines
 pub mod KindTrees
 pub mod Kept
 pub mod Lasting

@@ -39,6 +39,20 @@ use Rattle.rel_algebra.proofs.Moves.{own_column, passed_moved, raising_moved, re
 use Rattle.rel_algebra.proofs.Moves.{row_stands_moved, selected_moved, then_columns_moved}
 use Rattle.rel_algebra.proofs.Moves.{truths_moved, values_plan_moved, wide, wide_add, wide_suc}
 use Rattle.rel_algebra.proofs.Moves.{width_moved}
+use Rattle.rel_algebra.specs.Tree.{Function, Perhaps, Without, With, Variables, NoVariable}
+use Rattle.rel_algebra.specs.Tree.{MoreVariables, Stmt, Compound, If, SearchedCase, SimpleCase, Set}
+use Rattle.rel_algebra.specs.Tree.{SelectInto, Signal, Resignal, GetStatementItems}
+use Rattle.rel_algebra.specs.Tree.{GetConditionItems, Leave, Return, Stmts, NoStmt, MoreStmts}
+use Rattle.rel_algebra.specs.Tree.{Branches, NoBranch, MoreBranches, Handlers, NoHandler}
+use Rattle.rel_algebra.specs.Tree.{MoreHandlers}
+use Rattle.rel_algebra.specs.Emit.{branches_body, handlers_body, perhaps_body, stmt_body}
+use Rattle.rel_algebra.specs.Emit.{stmts_body, variables_body}
+use Rattle.rel_algebra.proofs.BodyHeld.{AllHold, BranchesHold, HandlersHold, Holds, PerhapsHolds}
+use Rattle.rel_algebra.proofs.BodyHeld.{VariablesHold}
+use Rattle.rel_algebra.specs.Bodies as body
+use Rattle.rel_algebra.specs.Emit.{query_leaf, value_leaf}
+use Rattle.rel_algebra.proofs.BodyCalled.{called_moved}
+use Rattle.rel_algebra.proofs.BodyMoved.{FoldedStays, QueryStays, ValueStays}
 
 abbrev pub ExprMoved : Expr → Type 0
 ExprMoved x = (S : List ℕ → ℕ) (v : Move) (d : ℕ) (e e' : Env) (j : ℕ) → EnvMoved v d e e' →
@@ -419,6 +433,26 @@ left_outer_moved a b on ha hb ho S v d e e' m =
     (moved_tree v d (from_plan a S e))
     (moved_tree v d (from_plan b S e))) (truths_moved c.scalars v (suc d)))
 
+-- The leaves of a body read its parameters and variables in columns of its own row, which stand
+-- where a row outside is moved.
+expr_stays : (x : Expr) → ExprMoved x → (S : List ℕ → ℕ) (v : Move) (d : ℕ) →
+    ValueStays S v (suc d) (value_leaf x)
+expr_stays x hx S v d e m h = let p = sym (hx S v (suc d) e e m h) in
+    (λ i. (p i).nodes, λ i. (p i).scalar)
+
+folded_stays : (oa : Option Folded) (v : Move) (d : ℕ) → FoldedMoved v (suc d) oa oa →
+    FoldedStays oa v (suc d)
+folded_stays None v d h = tt
+folded_stays (Some a) v d h =
+    (sym h.0, λ j. (λ i. (sym (h.2 j) i).nodes, λ i. (sym (h.2 j) i).scalars))
+
+into_stays : (q : Query) (targets : List body.Target) → QueryMoved q → FoldMoved q →
+    (S : List ℕ → ℕ) (v : Move) (d : ℕ) → QueryStays S v (suc d) (query_leaf q) targets
+into_stays q targets hq hf S v d = record {
+  plan = λ e h. sym (hq S v (suc d) e e h);
+  folds = λ e h. folded_stays (folded q S e) v d (hf S v (suc d) e e h);
+}
+
 mutual
   pub expr_moved : (x : Expr) → ExprMoved x
   expr_moved (Literal x) = λ S v d e e' j m. refl
@@ -468,7 +502,69 @@ mutual
   body_moved (Returned types returns x) = λ S v d e e' j m.
       ap (assigning_in (returns ∷ [])) (expr_moved x S v d e e' j m)
       ∙ assigning_in_moved (returns ∷ []) (emit x S e j) v d
+  body_moved (Function false types returns false statement) = λ S v d e e' j m.
+      called_moved (body.Body types returns (stmt_body statement)) S v d
+      (stmt_moved statement S v d) e e' j m
   body_moved _ = λ S v d e e' j m. refl
+
+  pub perhaps_moved : (text : Perhaps) (S : List ℕ → ℕ) (v : Move) (d : ℕ) →
+      PerhapsHolds (perhaps_body text) (ValueStays S v (suc d))
+  perhaps_moved Without S v d = tt
+  perhaps_moved (With x) S v d = expr_stays x (expr_moved x) S v d
+
+  pub variables_moved : (vs : Variables) (S : List ℕ → ℕ) (v : Move) (d : ℕ) →
+      VariablesHold (variables_body vs) (ValueStays S v (suc d))
+  variables_moved NoVariable S v d = tt
+  variables_moved (MoreVariables k t default others) S v d =
+      (perhaps_moved default S v d, variables_moved others S v d)
+
+  pub stmt_moved : (s : Stmt) (S : List ℕ → ℕ) (v : Move) (d : ℕ) →
+      Holds (stmt_body s) (ValueStays S v (suc d)) (QueryStays S v (suc d))
+  stmt_moved (Compound atomic variables cursors handlers statements) S v d = (
+    variables_moved variables S v d,
+    handlers_moved handlers S v d,
+    stmts_moved statements S v d,
+  )
+  stmt_moved (If branches otherwise) S v d =
+      (branches_moved branches S v d, stmts_moved otherwise S v d)
+  stmt_moved (SearchedCase branches otherwise) S v d =
+      (branches_moved branches S v d, stmts_moved otherwise S v d)
+  stmt_moved (SimpleCase x branches otherwise) S v d = (
+    expr_stays x (expr_moved x) S v d,
+    branches_moved branches S v d,
+    stmts_moved otherwise S v d,
+  )
+  stmt_moved (Set t x) S v d = expr_stays x (expr_moved x) S v d
+  stmt_moved (SelectInto q targets) S v d =
+      into_stays q targets (query_moved q) (fold_moved q) S v d
+  stmt_moved (Signal state text) S v d = perhaps_moved text S v d
+  stmt_moved (Resignal state text) S v d = perhaps_moved text S v d
+  stmt_moved (GetStatementItems area reads) S v d = tt
+  stmt_moved (GetConditionItems area number reads) S v d =
+      expr_stays number (expr_moved number) S v d
+  stmt_moved (Leave outwards) S v d = tt
+  stmt_moved (Return x) S v d = expr_stays x (expr_moved x) S v d
+  stmt_moved _ S v d = tt
+
+  pub stmts_moved : (ss : Stmts) (S : List ℕ → ℕ) (v : Move) (d : ℕ) →
+      AllHold (stmts_body ss) (ValueStays S v (suc d)) (QueryStays S v (suc d))
+  stmts_moved NoStmt S v d = tt
+  stmts_moved (MoreStmts s ss) S v d = (stmt_moved s S v d, stmts_moved ss S v d)
+
+  pub branches_moved : (bs : Branches) (S : List ℕ → ℕ) (v : Move) (d : ℕ) →
+      BranchesHold (branches_body bs) (ValueStays S v (suc d)) (QueryStays S v (suc d))
+  branches_moved NoBranch S v d = tt
+  branches_moved (MoreBranches test statements others) S v d = (
+    expr_stays test (expr_moved test) S v d,
+    stmts_moved statements S v d,
+    branches_moved others S v d,
+  )
+
+  pub handlers_moved : (hs : Handlers) (S : List ℕ → ℕ) (v : Move) (d : ℕ) →
+      HandlersHold (handlers_body hs) (ValueStays S v (suc d)) (QueryStays S v (suc d))
+  handlers_moved NoHandler S v d = tt
+  handlers_moved (MoreHandlers kind takes action others) S v d =
+      (stmt_moved action S v d, handlers_moved others S v d)
 
   pub query_moved : (q : Query) → QueryMoved q
   query_moved (Select items x tests) = λ S v d e e' m.

@@ -1,7 +1,8 @@
 -- Planned expressions and queries end as the plain meaning does, and leave the world in which they
 -- began.
 use Rattle.std.proofs.Common.{◌≡◌, ℕ, zero, suc, Bool, true, false, cond, List, [], ◌∷◌, ◌++◌, refl}
-use Rattle.std.proofs.Common.{ap, sym, ◌∙◌, drop, slice_index_or, Option, Some, None}
+use Rattle.std.proofs.Common.{ap, sym, ◌∙◌, drop, slice_index_or, Option, Some, None, ◌⊎◌, inl}
+use Rattle.std.proofs.Common.{inr}
 use Rattle.rel_algebra.specs.Meaning as full
 use Rattle.rel_algebra.specs.World as worlds
 use Rattle.sql_values.specs.Operators.{applied as applied_value}
@@ -38,11 +39,25 @@ use Rattle.rel_algebra.specs.Doing.{Returning, ends}
 use Rattle.rel_algebra.specs.Handlers.{with_end}
 use Rattle.rel_algebra.specs.Calls.{returned}
 use Rattle.rel_algebra.specs.Returning.{IsReturned, ReturnedMeans}
-use Rattle.rel_algebra.specs.Plain.{planned_routine}
+use Rattle.rel_algebra.specs.Plain.{planned, planned_expr, planned_routine}
 use Rattle.rel_algebra.proofs.Truths.{both, never}
 use Rattle.rel_algebra.proofs.Induction.{routine_cells, whole_means}
 use Rattle.rel_algebra.proofs.Planned.{AllPlan, FromPlans, LinksPlan, Plans, QueryPlans}
 use Rattle.rel_algebra.proofs.Planned.{RoutinePlans, RowsPlan, plans, query_plans, routine_plans}
+use Rattle.rel_algebra.specs.Tree.{Function, Perhaps, Without, With, Variables, NoVariable}
+use Rattle.rel_algebra.specs.Tree.{MoreVariables, Stmt, Compound, If, SearchedCase, SimpleCase, Set}
+use Rattle.rel_algebra.specs.Tree.{SelectInto, Signal, Resignal, GetStatementItems}
+use Rattle.rel_algebra.specs.Tree.{GetConditionItems, Leave, Return, Stmts, NoStmt, MoreStmts}
+use Rattle.rel_algebra.specs.Tree.{Branches, NoBranch, MoreBranches, Handlers, NoHandler}
+use Rattle.rel_algebra.specs.Tree.{MoreHandlers}
+use Rattle.rel_algebra.specs.Tree.{Stacked, Target}
+use Rattle.rel_algebra.specs.BodyMeaning.{seen}
+use Rattle.rel_algebra.specs.Returning.{IsBlock}
+use Rattle.rel_algebra.proofs.Planned.{BranchesPlan, HandlersPlan, PerhapsPlans, StmtPlans}
+use Rattle.rel_algebra.proofs.Planned.{StmtsPlan, VariablesPlan}
+use Rattle.rel_algebra.proofs.BlockWorlds.{AllEach, BranchesEach, Each, ExprGives, HandlersEach}
+use Rattle.rel_algebra.proofs.BlockWorlds.{PerhapsEach, QueryGives, VariablesEach, call_gives}
+use Rattle.rel_algebra.proofs.Exceptions.{answer_fails, ev_fails}
 
 -- this evaluation ends so, in this world
 abbrev pub Is : {A : Type 0} → Eval A → Ending A → World → Type 0
@@ -196,6 +211,21 @@ body_is : (returns : SqlType) (f : Frame) (w : World) (e : Ending Value) →
     ≡ full.carried (after e (λ v. ending_of (assigned returns v))) w
 body_is returns f w (Ok v) = outcome_is (assigned returns v) w
 body_is returns f w (Err s) = ap (Raises s) (same_world (is_exception (state_in s)) w)
+
+-- ---- what is asked of the expressions and queries of a block
+
+expr_given : (x : Expr) (w : World) (args : List Value) →
+    ((self : Called) (rows : List Row) (f : Frame) (w : World) (args : List Value) →
+    Is (full.ev x self rows f) (ev x (given_by w args) (scope rows f)) w) → ExprGives w args x
+expr_given x w args h =
+    (λ self f. h self [] f w args, λ vs. ev_fails x (given_by w args) (seen vs))
+
+query_given : (q : Query) (w : World) (args : List Value) →
+    ((self : Called) (rows : List Row) (f : Frame) (w : World) (args : List Value) →
+    Is (full.answer q self rows f) (answer q (given_by w args) (scope rows f)) w) →
+    (targets : List Target) → QueryGives w args q targets
+query_given q w args h targets =
+    (λ self f. h self [] f w args, λ vs. answer_fails q (given_by w args) (seen vs))
 
 mutual
   pub expr_is : (x : Expr) → Plans x →
@@ -353,7 +383,67 @@ mutual
       let f = frame_of vs in let e = ev x (given_by w args) (scope [] f) in
       ap (λ (d : Ends Value). ending_body returns f w d) (expr_is x p no_self [] f w args)
       ∙ body_is returns f w e
+  call_is (Function false types returns false statement) p vs w args =
+      call_gives types returns statement vs args w (stmt_give statement p w args)
   call_is _ p vs w args = absurd p
+
+  perhaps_give : (text : Perhaps) → PerhapsPlans text → (w : World) (args : List Value) →
+      PerhapsEach text (ExprGives w args)
+  perhaps_give Without p w args = tt
+  perhaps_give (With x) p w args = expr_given x w args (expr_is x p)
+
+  variables_give : (vs : Variables) → VariablesPlan vs → (w : World) (args : List Value) →
+      VariablesEach vs (ExprGives w args)
+  variables_give NoVariable p w args = tt
+  variables_give (MoreVariables k t default others) p w args =
+      (perhaps_give default p.0 w args, variables_give others p.1 w args)
+
+  stmt_give : (s : Stmt) → StmtPlans s → (w : World) (args : List Value) →
+      Each s (ExprGives w args) (QueryGives w args)
+  stmt_give (Compound atomic variables zero handlers statements) p w args = (
+    variables_give variables p.0 w args,
+    handlers_give handlers p.1 w args,
+    stmts_give statements p.2 w args,
+  )
+  stmt_give (If branches otherwise) p w args =
+      (branches_give branches p.0 w args, stmts_give otherwise p.1 w args)
+  stmt_give (SearchedCase branches otherwise) p w args =
+      (branches_give branches p.0 w args, stmts_give otherwise p.1 w args)
+  stmt_give (SimpleCase x branches otherwise) p w args = (
+    expr_given x w args (expr_is x p.0),
+    branches_give branches p.1 w args,
+    stmts_give otherwise p.2 w args,
+  )
+  stmt_give (Set t x) p w args = expr_given x w args (expr_is x p)
+  stmt_give (SelectInto q targets) p w args = query_given q w args (query_is q p.0) targets
+  stmt_give (Signal state text) p w args = perhaps_give text p w args
+  stmt_give (Resignal state text) p w args = perhaps_give text p w args
+  stmt_give (GetStatementItems Stacked reads) p w args = tt
+  stmt_give (GetConditionItems Stacked number reads) p w args =
+      expr_given number w args (expr_is number p)
+  stmt_give (Leave outwards) p w args = tt
+  stmt_give (Return x) p w args = expr_given x w args (expr_is x p)
+  stmt_give _ p w args = absurd p
+
+  stmts_give : (ss : Stmts) → StmtsPlan ss → (w : World) (args : List Value) →
+      AllEach ss (ExprGives w args) (QueryGives w args)
+  stmts_give NoStmt p w args = tt
+  stmts_give (MoreStmts s ss) p w args = (stmt_give s p.0 w args, stmts_give ss p.1 w args)
+
+  branches_give : (bs : Branches) → BranchesPlan bs → (w : World) (args : List Value) →
+      BranchesEach bs (ExprGives w args) (QueryGives w args)
+  branches_give NoBranch p w args = tt
+  branches_give (MoreBranches test statements others) p w args = (
+    expr_given test w args (expr_is test p.0),
+    stmts_give statements p.1 w args,
+    branches_give others p.2 w args,
+  )
+
+  handlers_give : (hs : Handlers) → HandlersPlan hs → (w : World) (args : List Value) →
+      HandlersEach hs (ExprGives w args) (QueryGives w args)
+  handlers_give NoHandler p w args = tt
+  handlers_give (MoreHandlers kind takes action others) p w args =
+      (stmt_give action p.0 w args, handlers_give others p.1 w args)
 
   pub holds_is : (es : Exprs) → AllPlan es →
       (self : Called) (rows : List Row) (f : Frame) (w : World) (args : List Value) →
@@ -461,6 +551,15 @@ mutual
       (λ r. holds on g (within s r)) w
       (λ r. holds_is on p.2 self (r ∷ rows) f w args) right) (λ ms. refl)) left))
 
+-- what is planned, is so in every world
+pub expr_gives : (x : Expr) → planned_expr x ≡ true → (w : World) (args : List Value) →
+    ExprGives w args x
+expr_gives x p w args = expr_given x w args (expr_is x (plans x p))
+
+pub query_gives : (q : Query) → planned q ≡ true → (w : World) (args : List Value)
+    (targets : List Target) → QueryGives w args q targets
+query_gives q p w args targets = query_given q w args (query_is q (query_plans q p)) targets
+
 pub means_within : MeansWithin
 means_within q self f w p fits =
     query_is q (query_plans q p) self [] f w f.variables
@@ -494,10 +593,17 @@ body_means returns f w (Gives v u) = refl
 body_means returns f w (Raises s u) = refl
 body_means returns f w (RunsOut u) = refl
 
-only_returned : (r : Routine) → planned_routine r ≡ true → IsReturned r
-only_returned (Returned types returns x) p =
-    record { parameters = types; returns = returns; body = x; form = refl }
-only_returned _ p = never p
+two_forms : (r : Routine) → planned_routine r ≡ true → IsReturned r ⊎ IsBlock r
+two_forms (Returned types returns x) p =
+    inl (record { parameters = types; returns = returns; body = x; form = refl })
+two_forms (Function false types returns false statement) p = inr (record {
+  parameters = types;
+  returns = returns;
+  body = statement;
+  form = refl;
+  in_form = p;
+})
+two_forms _ p = never p
 
 pub returned_means : ReturnedMeans
 returned_means = record {
@@ -511,5 +617,5 @@ returned_means = record {
       ∙ sym (bind (full.ev e no_self [] f) (ev e g (scope [] f)) w
       (λ v. outcome (assigned returns v)) (λ v. ending_of (assigned returns v)) h
       (λ v. outcome_is (assigned returns v) w));
-  alone = only_returned;
+  alone = two_forms;
 }

@@ -1,13 +1,21 @@
 -- Planned trees, part by part.
-use Rattle.std.proofs.Common.{◌≡◌, Bool, true}
+use Rattle.std.proofs.Common.{◌≡◌, Bool, true, false, zero}
 use Rattle.rel_algebra.specs.Joins.{rows_width}
 use Rattle.rel_algebra.specs.Plain.{all_even, planned, planned_all, planned_expr, planned_from}
-use Rattle.rel_algebra.specs.Plain.{planned_links, planned_routine, planned_rows}
+use Rattle.rel_algebra.specs.Plain.{planned_links, planned_routine, planned_rows, as_many, fills}
+use Rattle.rel_algebra.specs.Plain.{planned_branches, planned_handlers, planned_perhaps}
+use Rattle.rel_algebra.specs.Plain.{planned_stmt, planned_stmts, planned_variables}
 use Rattle.rel_algebra.specs.Tree.{And, Call, CallSelf, Case, CaseOf, Chain, Coalesce, Column}
 use Rattle.rel_algebra.specs.Tree.{Cross, Derived, Exists, Expr, Exprs, From, Returned, Grouped, In}
 use Rattle.rel_algebra.specs.Tree.{Inner, LeftOuter, Links, Literal, MoreExprs, MoreLinks, MoreRows}
 use Rattle.rel_algebra.specs.Tree.{NoExpr, NoLink, NoRow, Operate, Or, Ordered, Query, Routine}
-use Rattle.rel_algebra.specs.Tree.{Rows, Select, Single, Table, Values, Variable}
+use Rattle.rel_algebra.specs.Tree.{Rows, Select, Single, Table, Values, Variable, Stacked, count}
+use Rattle.rel_algebra.specs.Tree.{Function, Perhaps, Without, With, Variables, NoVariable}
+use Rattle.rel_algebra.specs.Tree.{MoreVariables, Stmt, Compound, If, SearchedCase, SimpleCase, Set}
+use Rattle.rel_algebra.specs.Tree.{SelectInto, Signal, Resignal, GetStatementItems}
+use Rattle.rel_algebra.specs.Tree.{GetConditionItems, Leave, Return, Stmts, NoStmt, MoreStmts}
+use Rattle.rel_algebra.specs.Tree.{Branches, NoBranch, MoreBranches, Handlers, NoHandler}
+use Rattle.rel_algebra.specs.Tree.{MoreHandlers}
 use Rattle.rel_algebra.proofs.Truths.{left_true, never, right_true}
 use Rattle.std.proofs.Common.{◌&&◌}
 
@@ -26,7 +34,7 @@ abbrev mutual
   Plans (In x q) = Plans x × QueryPlans q
   Plans (Exists q) = QueryPlans q
   Plans (Single q) = QueryPlans q
-  Plans (Call name r es) = RoutinePlans r × AllPlan es
+  Plans (Call name r es) = RoutinePlans r × AllPlan es × (as_many r (count es) ≡ true)
   Plans (CallSelf types es) = ⊥
 
   pub LinksPlan : Links → Type 0
@@ -39,7 +47,46 @@ abbrev mutual
 
   pub RoutinePlans : Routine → Type 0
   RoutinePlans (Returned types returns x) = Plans x
+  RoutinePlans (Function false types returns false statement) = StmtPlans statement
   RoutinePlans _ = ⊥
+
+  pub PerhapsPlans : Perhaps → Type 0
+  PerhapsPlans Without = Unit {0}
+  PerhapsPlans (With x) = Plans x
+
+  pub VariablesPlan : Variables → Type 0
+  VariablesPlan NoVariable = Unit {0}
+  VariablesPlan (MoreVariables k t default others) = PerhapsPlans default × VariablesPlan others
+
+  pub StmtPlans : Stmt → Type 0
+  StmtPlans (Compound atomic variables zero handlers statements) =
+      VariablesPlan variables × HandlersPlan handlers × StmtsPlan statements
+  StmtPlans (If branches otherwise) = BranchesPlan branches × StmtsPlan otherwise
+  StmtPlans (SearchedCase branches otherwise) = BranchesPlan branches × StmtsPlan otherwise
+  StmtPlans (SimpleCase x branches otherwise) =
+      Plans x × BranchesPlan branches × StmtsPlan otherwise
+  StmtPlans (Set t x) = Plans x
+  StmtPlans (SelectInto q targets) = QueryPlans q × (fills q targets ≡ true)
+  StmtPlans (Signal state text) = PerhapsPlans text
+  StmtPlans (Resignal state text) = PerhapsPlans text
+  StmtPlans (GetStatementItems Stacked reads) = Unit {0}
+  StmtPlans (GetConditionItems Stacked number reads) = Plans number
+  StmtPlans (Leave outwards) = Unit {0}
+  StmtPlans (Return x) = Plans x
+  StmtPlans _ = ⊥
+
+  pub StmtsPlan : Stmts → Type 0
+  StmtsPlan NoStmt = Unit {0}
+  StmtsPlan (MoreStmts s ss) = StmtPlans s × StmtsPlan ss
+
+  pub BranchesPlan : Branches → Type 0
+  BranchesPlan NoBranch = Unit {0}
+  BranchesPlan (MoreBranches test statements others) =
+      Plans test × StmtsPlan statements × BranchesPlan others
+
+  pub HandlersPlan : Handlers → Type 0
+  HandlersPlan NoHandler = Unit {0}
+  HandlersPlan (MoreHandlers kind takes action others) = StmtPlans action × HandlersPlan others
 
   pub RowsPlan : Rows → Type 0
   RowsPlan NoRow = Unit {0}
@@ -97,7 +144,8 @@ mutual
   plans (In x q) = two (planned_expr x) (planned q) (plans x) (query_plans q)
   plans (Exists q) = query_plans q
   plans (Single q) = query_plans q
-  plans (Call name r es) = two (planned_routine r) (planned_all es) (routine_plans r) (all_plan es)
+  plans (Call name r es) = three (planned_routine r) (planned_all es) (as_many r (count es))
+      (routine_plans r) (all_plan es) (λ p. p)
   plans (CallSelf types es) = λ p. never p
 
   pub links_plan : (links : Links) → planned_links links ≡ true → LinksPlan links
@@ -111,7 +159,56 @@ mutual
 
   pub routine_plans : (r : Routine) → planned_routine r ≡ true → RoutinePlans r
   routine_plans (Returned types returns x) = plans x
+  routine_plans (Function false types returns false statement) = stmt_plans statement
   routine_plans _ = λ p. never p
+
+  pub perhaps_plans : (text : Perhaps) → planned_perhaps text ≡ true → PerhapsPlans text
+  perhaps_plans Without = λ p. tt
+  perhaps_plans (With x) = plans x
+
+  pub variables_plan : (vs : Variables) → planned_variables vs ≡ true → VariablesPlan vs
+  variables_plan NoVariable = λ p. tt
+  variables_plan (MoreVariables k t default others) = two (planned_perhaps default)
+      (planned_variables others) (perhaps_plans default) (variables_plan others)
+
+  pub stmt_plans : (s : Stmt) → planned_stmt s ≡ true → StmtPlans s
+  stmt_plans (Compound atomic variables zero handlers statements) =
+      three (planned_variables variables) (planned_handlers handlers) (planned_stmts statements)
+      (variables_plan variables) (handlers_plan handlers) (stmts_plan statements)
+  stmt_plans (If branches otherwise) = two (planned_branches branches) (planned_stmts otherwise)
+      (branches_plan branches) (stmts_plan otherwise)
+  stmt_plans (SearchedCase branches otherwise) = two (planned_branches branches)
+      (planned_stmts otherwise) (branches_plan branches) (stmts_plan otherwise)
+  stmt_plans (SimpleCase x branches otherwise) =
+      three (planned_expr x) (planned_branches branches) (planned_stmts otherwise) (plans x)
+      (branches_plan branches) (stmts_plan otherwise)
+  stmt_plans (Set t x) = plans x
+  stmt_plans (SelectInto q targets) =
+      two (planned q) (fills q targets) (query_plans q) (λ p. p)
+  stmt_plans (Signal state text) = perhaps_plans text
+  stmt_plans (Resignal state text) = perhaps_plans text
+  stmt_plans (GetStatementItems Stacked reads) = λ p. tt
+  stmt_plans (GetConditionItems Stacked number reads) = plans number
+  stmt_plans (Leave outwards) = λ p. tt
+  stmt_plans (Return x) = plans x
+  stmt_plans _ = λ p. never p
+
+  pub stmts_plan : (ss : Stmts) → planned_stmts ss ≡ true → StmtsPlan ss
+  stmts_plan NoStmt = λ p. tt
+  stmts_plan (MoreStmts s ss) =
+      two (planned_stmt s) (planned_stmts ss) (stmt_plans s) (stmts_plan ss)
+
+  pub branches_plan : (bs : Branches) → planned_branches bs ≡ true → BranchesPlan bs
+  branches_plan NoBranch = λ p. tt
+  branches_plan (MoreBranches test statements others) =
+      three (planned_expr test) (planned_stmts statements) (planned_branches others) (plans test)
+      (stmts_plan statements) (branches_plan others)
+
+  pub handlers_plan : (hs : Handlers) → planned_handlers hs ≡ true → HandlersPlan hs
+  handlers_plan NoHandler = λ p. tt
+  handlers_plan (MoreHandlers kind takes action others) =
+      two (planned_stmt action) (planned_handlers others) (stmt_plans action)
+      (handlers_plan others)
 
   pub rows_plan : (rows : Rows) → planned_rows rows ≡ true → RowsPlan rows
   rows_plan NoRow = λ p. tt

@@ -18,6 +18,7 @@ use Rattle.rel_algebra.specs.Plan.{aggregate, anew, Kind, Nodes, PlanTree, Scala
 use Rattle.rel_algebra.specs.Plan.{apply_by, constant, cross, exists, extend, extend_by, filter}
 use Rattle.rel_algebra.specs.Plan.{member, no_node, on_each, single, strict, unit_row, values}
 use Rattle.rel_algebra.specs.Removal.{is_anew, all_removable, nodes_removable, removable}
+use Rattle.rel_algebra.specs.Simple.{Nested}
 use Rattle.rel_algebra.specs.Simple.{RemovablePlans, Simple, SimpleAll, SimpleBody, SimpleFrom}
 use Rattle.rel_algebra.specs.Simple.{SimpleLinks, SimpleQuery, SimpleRoutine, SimpleRows}
 use Rattle.rel_algebra.specs.Tree.{And, Arithmetic, Call, CallSelf, Case, CaseOf, Chain, Coalesce}
@@ -32,6 +33,24 @@ use Rattle.rel_algebra.proofs.Chains.{lifted_given, nested_folded, nested_remova
 use Rattle.rel_algebra.proofs.Moves.{NotGiven, below_free}
 use Rattle.rel_algebra.proofs.Within.{PlaceIn, below_in}
 pub use Rattle.rel_algebra.proofs.FoldedParts.{NodesOk, PartsOk}
+use Rattle.rel_algebra.specs.Tree.{Function, Perhaps, Without, With, Variables, NoVariable}
+use Rattle.rel_algebra.specs.Tree.{MoreVariables, Stmt, Compound, If, SearchedCase, SimpleCase, Set}
+use Rattle.rel_algebra.specs.Tree.{SelectInto, Signal, Resignal, GetStatementItems}
+use Rattle.rel_algebra.specs.Tree.{GetConditionItems, Leave, Return, Stmts, NoStmt, MoreStmts}
+use Rattle.rel_algebra.specs.Tree.{Branches, NoBranch, MoreBranches, Handlers, NoHandler}
+use Rattle.rel_algebra.specs.Tree.{MoreHandlers}
+use Rattle.rel_algebra.specs.Emit.{branches_body, handlers_body, perhaps_body, stmt_body}
+use Rattle.rel_algebra.specs.Emit.{stmts_body, variables_body}
+use Rattle.rel_algebra.proofs.BodyHeld.{AllHold, BranchesHold, HandlersHold, Holds, PerhapsHolds}
+use Rattle.rel_algebra.proofs.BodyHeld.{VariablesHold}
+use Rattle.rel_algebra.specs.Bodies as body
+use Rattle.rel_algebra.specs.Emit.{query_leaf}
+use Rattle.rel_algebra.specs.BodyChain.{called_body}
+use Rattle.rel_algebra.specs.Plan.{into}
+use Rattle.rel_algebra.specs.Simple.{SimpleBranches, SimpleHandlers, SimplePerhaps, SimpleStmt}
+use Rattle.rel_algebra.specs.Simple.{SimpleStmts, SimpleVariables}
+use Rattle.rel_algebra.proofs.BodyCalled.{called_removable}
+use Rattle.rel_algebra.proofs.BodyHeld.{QueryRemovable, ValueRemovable}
 
 joined_ok : (a b : Nodes) → nodes_removable a ≡ true → nodes_removable b ≡ true →
     nodes_removable (joined_nodes a b) ≡ true
@@ -289,6 +308,16 @@ values_plan_ok k (a ∷ b ∷ others) lists p q = either_ok (all_plain (a ∷ b 
 below_not_given : (k i m : ℕ) → NotGiven (below k i (at 0 m))
 below_not_given k i m = below_free k i (at 0 m) tt
 
+-- the leaf of SELECT INTO
+pub into_ok : (q : Query) (targets : List body.Target) (S : List ℕ → ℕ) → Nested q S false →
+    SimpleQuery q S false → QueryOk q → FoldOk q → QueryRemovable S (query_leaf q) targets
+into_ok q targets S n s hq hf = record {
+  inside = λ e g. hq S false e s g;
+  asked = λ e g is k. nested_removable q S e false g s n (into k) is;
+  parts = λ e g. hf S false e s g;
+  input = λ e g. nested_folded q S e false g s n;
+}
+
 mutual
   pub expr_ok : (x : Expr) → ExprOk x
   expr_ok (Literal c) = λ S p e m s g. refl
@@ -329,7 +358,67 @@ mutual
   pub body_ok : (r : Routine) → BodyOk r
   body_ok (Returned types returns x) =
       λ S m k j s. expr_ok x S false (passed m k) j s (λ i. below_not_given k i (m + i))
+  body_ok (Function false types returns false statement) = λ S m k j s.
+      called_removable (body.Body types returns (stmt_body statement)) S (stmt_ok statement S s)
+      (passed m k) j
   body_ok _ = λ S m k j s. absurd s
+
+  pub perhaps_ok : (text : Perhaps) (S : List ℕ → ℕ) → SimplePerhaps text S →
+      PerhapsHolds (perhaps_body text) (ValueRemovable S)
+  perhaps_ok Without S p = tt
+  perhaps_ok (With x) S p = λ e m g. expr_ok x S false e m p g
+
+  pub variables_ok : (vs : Variables) (S : List ℕ → ℕ) → SimpleVariables vs S →
+      VariablesHold (variables_body vs) (ValueRemovable S)
+  variables_ok NoVariable S p = tt
+  variables_ok (MoreVariables k t default others) S p =
+      (perhaps_ok default S p.0, variables_ok others S p.1)
+
+  pub stmt_ok : (s : Stmt) (S : List ℕ → ℕ) → SimpleStmt s S →
+      Holds (stmt_body s) (ValueRemovable S) (QueryRemovable S)
+  stmt_ok (Compound atomic variables cursors handlers statements) S p = (
+    variables_ok variables S p.0,
+    handlers_ok handlers S p.1,
+    stmts_ok statements S p.2,
+  )
+  stmt_ok (If branches otherwise) S p =
+      (branches_ok branches S p.0, stmts_ok otherwise S p.1)
+  stmt_ok (SearchedCase branches otherwise) S p =
+      (branches_ok branches S p.0, stmts_ok otherwise S p.1)
+  stmt_ok (SimpleCase x branches otherwise) S p = (
+    λ e m g. expr_ok x S false e m p.0 g,
+    branches_ok branches S p.1,
+    stmts_ok otherwise S p.2,
+  )
+  stmt_ok (Set t x) S p = λ e m g. expr_ok x S false e m p g
+  stmt_ok (SelectInto q targets) S p = into_ok q targets S p.0 p.1 (query_ok q) (fold_ok q)
+  stmt_ok (Signal state text) S p = perhaps_ok text S p
+  stmt_ok (Resignal state text) S p = perhaps_ok text S p
+  stmt_ok (GetStatementItems area reads) S p = tt
+  stmt_ok (GetConditionItems area number reads) S p = λ e m g. expr_ok number S false e m p g
+  stmt_ok (Leave outwards) S p = tt
+  stmt_ok (Return x) S p = λ e m g. expr_ok x S false e m p g
+  stmt_ok _ S p = absurd p
+
+  pub stmts_ok : (ss : Stmts) (S : List ℕ → ℕ) → SimpleStmts ss S →
+      AllHold (stmts_body ss) (ValueRemovable S) (QueryRemovable S)
+  stmts_ok NoStmt S p = tt
+  stmts_ok (MoreStmts s ss) S p = (stmt_ok s S p.0, stmts_ok ss S p.1)
+
+  pub branches_ok : (bs : Branches) (S : List ℕ → ℕ) → SimpleBranches bs S →
+      BranchesHold (branches_body bs) (ValueRemovable S) (QueryRemovable S)
+  branches_ok NoBranch S p = tt
+  branches_ok (MoreBranches test statements others) S p = (
+    λ e m g. expr_ok test S false e m p.0 g,
+    stmts_ok statements S p.1,
+    branches_ok others S p.2,
+  )
+
+  pub handlers_ok : (hs : Handlers) (S : List ℕ → ℕ) → SimpleHandlers hs S →
+      HandlersHold (handlers_body hs) (ValueRemovable S) (QueryRemovable S)
+  handlers_ok NoHandler S p = tt
+  handlers_ok (MoreHandlers kind takes action others) S p =
+      (stmt_ok action S p.0, handlers_ok others S p.1)
 
   pub query_ok : (q : Query) → QueryOk q
   query_ok (Select items from tests) = λ S p e s g.
@@ -388,6 +477,10 @@ routine_ok (Returned types returns x) S s =
     let a = emit x S (top (length types)) 0 in
     listed_ok (singly (assigning_in (returns ∷ []) a)) 0 unit_row
     (expr_ok x S true (top (length types)) 0 s (λ i. below_given (length types) i)) refl
+routine_ok (Function false types returns false statement) S s =
+    let r = body.Body types returns (stmt_body statement) in
+    listed_ok (singly (called_body r S (top (length types)) 0)) 0 unit_row
+    (called_removable r S (stmt_ok statement S s) (top (length types)) 0) refl
 routine_ok _ S s = absurd s
 
 pub removable_plans : RemovablePlans

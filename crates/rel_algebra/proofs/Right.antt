@@ -16,7 +16,7 @@ use Rattle.rel_algebra.specs.Emit.{scalar_count, singly, width, word_on}
 use Rattle.rel_algebra.specs.Endings.{Ending, after, cell_end, ending_of, op_value}
 use Rattle.rel_algebra.specs.Joins.{exists_of, member_of, single_of}
 use Rattle.rel_algebra.specs.Plain.{Inputs, Scope, answer, call, columns_in, ev, ev_links}
-use Rattle.rel_algebra.specs.Plain.{from_rows}
+use Rattle.rel_algebra.specs.Plain.{from_rows, as_many}
 use Rattle.rel_algebra.specs.Plan.{Scalar, Word, and_word, case_cell, case_word, cell_at, cell_of}
 use Rattle.rel_algebra.specs.Plan.{cells_of, coalesce_word, collapse, collapse_as, collected, den}
 use Rattle.rel_algebra.specs.Plan.{exists, finished, member, or_word, shown, sight, single, strict}
@@ -53,7 +53,7 @@ AllRight (MoreExprs x es) = Right x × AllRight es
 
 abbrev pub BodyRight : Routine → Type 0
 BodyRight r = (w : Inputs) → Fits w → (o : List (List Cell)) (vs : Row) (m : ℕ) (z : List Cell) →
-    length z ≡ m →
+    length z ≡ m → as_many r (length vs) ≡ true →
     Yields (emit_body r (columns_in w) (passed m (length vs)) (m + length vs)) w o (z ++ shown vs)
     (cell_end (call r vs w))
 
@@ -232,8 +232,8 @@ case_of_right x test result arms hx ht hr ha w fits o f e n q l r =
 
 -- the arguments are columns, and the body sees them
 pub call_right : (name : List ℕ) (r : Routine) (es : Exprs) → BodyRight r → AllRight es →
-    Right (Call name r es)
-call_right name r es hb ha w fits o f e n q l rd =
+    as_many r (count es) ≡ true → Right (Call name r es)
+call_right name r es hb ha hc w fits o f e n q l rd =
     let S = (columns_in w) in let types = parameters_of r in let a = emit_args es types S e n in
     let cs = arg_ends es types w f in
     then_columns_yields a (λ m k. called (raising es types m) (emit_body r S (passed m k) (m + k)))
@@ -246,16 +246,18 @@ call_right name r es hb ha w fits o f e n q l rd =
     body_yields : (w : Inputs) → Fits w →
         (o : List (List Cell)) (z : List Cell) (m k : ℕ) (cs : List Cell) (vs : Row) →
         length z ≡ m →
-        length cs ≡ k → cs ≡ shown vs →
+        length cs ≡ k → cs ≡ shown vs → length cs ≡ count es →
         Yields (emit_body r (columns_in w) (passed m k) (m + k)) w o (z ++ cs)
         (cell_end (call r vs w))
-    body_yields w fits o z m k cs vs lz lc is =
+    body_yields w fits o z m k cs vs lz lc is long =
+        let same : length vs ≡ length cs = sym (shown_long vs)
+        ∙ ap (λ (ds : List Cell). length ds) (sym is) in
         subst (λ (ds : List Cell). Yields (emit_body r (columns_in w) (passed m k) (m + k)) w o
         (z ++ ds) (cell_end (call r vs w))) (sym is)
         (subst (λ (j : ℕ). Yields (emit_body r (columns_in w) (passed m j) (m + j)) w o
         (z ++ shown vs) (cell_end (call r vs w)))
-        (sym (shown_long vs) ∙ (ap (λ (ds : List Cell). length ds) (sym is) ∙ lc))
-        (hb w fits o vs m z lz))
+        (same ∙ lc)
+        (hb w fits o vs m z lz (ap (as_many r) (same ∙ long) ∙ hc)))
 
     called_yields : (w : Inputs) → Fits w →
         (o : List (List Cell)) (f : Scope) (z : List Cell) (m k : ℕ) → length z ≡ m →
@@ -274,7 +276,7 @@ call_right name r es hb ha w fits o f e n q l rd =
         (grown_columns z cs y m (count es) lz (args_long es types w f)
         (grows_trans (z ++ cs) _ y (added_grows c.nodes w o (z ++ cs)) g)))
         ∙ guarded_ends (values_of cs) cs x (λ vs. call r vs w) (are_cells cs)
-        (λ vs is. body_yields w fits o z m k cs vs lz lc is y g))
+        (λ vs is. body_yields w fits o z m k cs vs lz lc is (args_long es types w f) y g))
 
 -- Queries inside.
 single_ends : (e : Ending (List Row)) → collapse_as single (Val Null) e

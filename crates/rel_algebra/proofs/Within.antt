@@ -35,6 +35,21 @@ use Rattle.rel_algebra.specs.Tree.{Or, Ordered, Query, Routine, Rows, Select, Si
 use Rattle.rel_algebra.specs.Tree.{Variable, parameters_of}
 use Rattle.rel_algebra.proofs.Truths.{and_true, left_true, right_true}
 pub use Rattle.rel_algebra.proofs.Reading.{PlaceIn}
+use Rattle.rel_algebra.specs.Tree.{Function, Perhaps, Without, With, Variables, NoVariable}
+use Rattle.rel_algebra.specs.Tree.{MoreVariables, Stmt, Compound, If, SearchedCase, SimpleCase, Set}
+use Rattle.rel_algebra.specs.Tree.{SelectInto, Signal, Resignal, GetStatementItems}
+use Rattle.rel_algebra.specs.Tree.{GetConditionItems, Leave, Return, Stmts, NoStmt, MoreStmts}
+use Rattle.rel_algebra.specs.Tree.{Branches, NoBranch, MoreBranches, Handlers, NoHandler}
+use Rattle.rel_algebra.specs.Tree.{MoreHandlers}
+use Rattle.rel_algebra.specs.Emit.{branches_body, handlers_body, perhaps_body, stmt_body}
+use Rattle.rel_algebra.specs.Emit.{stmts_body, variables_body}
+use Rattle.rel_algebra.proofs.BodyHeld.{AllHold, BranchesHold, HandlersHold, Holds, PerhapsHolds}
+use Rattle.rel_algebra.proofs.BodyHeld.{VariablesHold}
+use Rattle.rel_algebra.specs.Bodies as body
+use Rattle.rel_algebra.specs.Emit.{query_leaf, value_leaf}
+use Rattle.rel_algebra.specs.BodyChain.{called_body}
+use Rattle.rel_algebra.proofs.BodyCalled.{called_within}
+use Rattle.rel_algebra.proofs.BodyInward.{FoldedWithin, QueryWithin, ReadsWithin, ValueWithin}
 
 -- of the levels that are reached, and of the parameters where p is true, the places are within the
 -- n innermost rows
@@ -604,6 +619,40 @@ mutual
   any_from (Inner a b on) = (any_from a, any_from b, any_all on)
   any_from (LeftOuter a b on) = (any_from a, any_from b, any_all on)
 
+-- where what is read stays, its places do
+place_in : (p : Place) (n : ℕ) → stays (read p) n ≡ true → PlaceIn p n
+place_in (at level i) n h = h
+place_in (given i) n h = tt
+place_in nowhere n h = tt
+
+env_in : (e : Env) (n : ℕ) → ReadsWithin e n → EnvIn e AnyRow true n
+env_in e n h =
+    (λ d i r. place_in (e.columns d i) n (h.0 d i), λ t i. place_in (e.params i) n (h.1 i))
+
+-- the leaf that an expression is
+leaf_in : (x : Expr) → ExprIn x → (S : List ℕ → ℕ) (n : ℕ) → ValueWithin S n (value_leaf x)
+leaf_in x hx S n = λ e m h. hx S AnyRow true e n m (any_expr x) (env_in e (suc n) h)
+
+-- that of SELECT INTO
+folded_in : (oa : Option Folded) (n : ℕ) → InputWithin oa (suc n) → ListsWithin oa n →
+    FoldedWithin oa n
+folded_in None n h k = tt
+folded_in (Some a) n h k = (h, k)
+
+into_in : (q : Query) (targets : List body.Target) (S : List ℕ → ℕ) (n : ℕ) →
+    NamesQuery q AnyRow true → QueryIn q → FoldIn q → QueryWithin S n (query_leaf q) targets
+into_in q targets S n ns hq hf = record {
+  plan = λ e h. hq S AnyRow true e (suc n) ns (env_in e (suc n) h);
+  folds = λ e h. folded_in (folded q S e) n
+      ((hf S AnyRow true e (suc n) ns).0 (env_in e (suc n) h))
+      ((hf S AnyRow true e n ns).1 (env_in e (suc n) h));
+}
+
+-- the places that are passed to a body stay
+passed_reads_in : (m j n : ℕ) (i : ℕ) → stays (read ((passed m j).params i)) (suc n) ≡ true
+passed_reads_in m j n i =
+    read_stays ((passed m j).params i) (suc n) ((passed_in m j AnyRow true n).1 refl i)
+
 mutual
   pub expr_in : (x : Expr) → ExprIn x
   expr_in (Literal v) = λ S k p e n m ns v. (refl, refl)
@@ -646,7 +695,67 @@ mutual
   body_in (Returned types returns x) = λ S m j n i.
       assigning_in_within (returns ∷ []) (emit x S (passed m j) i) n
       (expr_in x S AnyRow true (passed m j) n i (any_expr x) (passed_in m j AnyRow true n))
+  body_in (Function false types returns false statement) = λ S m j n i.
+      called_within (body.Body types returns (stmt_body statement)) S n
+      (stmt_in statement S (suc n)) (passed m j) i (passed_reads_in m j n)
   body_in _ = λ S m j n i. (refl, refl)
+
+  pub perhaps_in : (text : Perhaps) (S : List ℕ → ℕ) (n : ℕ) →
+      PerhapsHolds (perhaps_body text) (ValueWithin S n)
+  perhaps_in Without S n = tt
+  perhaps_in (With x) S n = leaf_in x (expr_in x) S n
+
+  pub variables_in : (vs : Variables) (S : List ℕ → ℕ) (n : ℕ) →
+      VariablesHold (variables_body vs) (ValueWithin S n)
+  variables_in NoVariable S n = tt
+  variables_in (MoreVariables k t default others) S n =
+      (perhaps_in default S n, variables_in others S n)
+
+  pub stmt_in : (s : Stmt) (S : List ℕ → ℕ) (n : ℕ) →
+      Holds (stmt_body s) (ValueWithin S n) (QueryWithin S n)
+  stmt_in (Compound atomic variables cursors handlers statements) S n = (
+    variables_in variables S n,
+    handlers_in handlers S n,
+    stmts_in statements S n,
+  )
+  stmt_in (If branches otherwise) S n =
+      (branches_in branches S n, stmts_in otherwise S n)
+  stmt_in (SearchedCase branches otherwise) S n =
+      (branches_in branches S n, stmts_in otherwise S n)
+  stmt_in (SimpleCase x branches otherwise) S n = (
+    leaf_in x (expr_in x) S n,
+    branches_in branches S n,
+    stmts_in otherwise S n,
+  )
+  stmt_in (Set t x) S n = leaf_in x (expr_in x) S n
+  stmt_in (SelectInto q targets) S n = into_in q targets S n (any_query q) (query_in q) (fold_in q)
+  stmt_in (Signal state text) S n = perhaps_in text S n
+  stmt_in (Resignal state text) S n = perhaps_in text S n
+  stmt_in (GetStatementItems area reads) S n = tt
+  stmt_in (GetConditionItems area number reads) S n = leaf_in number (expr_in number) S n
+  stmt_in (Leave outwards) S n = tt
+  stmt_in (Return x) S n = leaf_in x (expr_in x) S n
+  stmt_in _ S n = tt
+
+  pub stmts_in : (ss : Stmts) (S : List ℕ → ℕ) (n : ℕ) →
+      AllHold (stmts_body ss) (ValueWithin S n) (QueryWithin S n)
+  stmts_in NoStmt S n = tt
+  stmts_in (MoreStmts s ss) S n = (stmt_in s S n, stmts_in ss S n)
+
+  pub branches_in : (bs : Branches) (S : List ℕ → ℕ) (n : ℕ) →
+      BranchesHold (branches_body bs) (ValueWithin S n) (QueryWithin S n)
+  branches_in NoBranch S n = tt
+  branches_in (MoreBranches test statements others) S n = (
+    leaf_in test (expr_in test) S n,
+    stmts_in statements S n,
+    branches_in others S n,
+  )
+
+  pub handlers_in : (hs : Handlers) (S : List ℕ → ℕ) (n : ℕ) →
+      HandlersHold (handlers_body hs) (ValueWithin S n) (QueryWithin S n)
+  handlers_in NoHandler S n = tt
+  handlers_in (MoreHandlers kind takes action others) S n =
+      (stmt_in action S n, handlers_in others S n)
 
   pub query_in : (q : Query) → QueryIn q
   query_in (Select items from tests) = λ S k p e n ns v.
@@ -715,6 +824,13 @@ closed_routine (Returned types returns x) S =
     (singly_in b 0 (assigning_in_within (returns ∷ []) a 0
     (expr_in x S AnyRow true (top (length types)) 0 0 (any_expr x)
     (λ d i l. tt, λ t i. below_in (length types) i (given i) 1 tt)))) refl
+closed_routine (Function false types returns false statement) S =
+    let b = called_body (body.Body types returns (stmt_body statement)) S (top (length types)) 0 in
+    listed_in (singly b) 0 unit_row 0
+    (singly_in b 0 (called_within (body.Body types returns (stmt_body statement)) S 0
+    (stmt_in statement S 1) (top (length types)) 0
+    (λ i. read_stays (below (length types) i (given i)) 1
+    (below_in (length types) i (given i) 1 tt)))) refl
 closed_routine _ S = refl
 
 pub closed_plans : ClosedPlans

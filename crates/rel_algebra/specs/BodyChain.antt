@@ -10,6 +10,7 @@ use Rattle.rel_algebra.specs.Joins.{places}
 use Rattle.rel_algebra.specs.Emissions.{Emitted, Folded, plain, width, joined_nodes, all_values}
 use Rattle.rel_algebra.specs.Emissions.{if_values, assigning, asked}
 use Rattle.rel_algebra.specs.Environments.{Place, at, nowhere, Env as Reading, outward, read}
+use Rattle.rel_algebra.specs.Plan.{coalesce_word}
 use Rattle.rel_algebra.specs.Plan.{Scalar, Scalars, constant, column, argument, word, none, more}
 use Rattle.rel_algebra.specs.Plan.{case_word, single, strict, on_condition, Nodes, no_node}
 use Rattle.rel_algebra.specs.Plan.{extend_by, apply_by, into, aggregate, PlanTree, unit_row, extend}
@@ -556,13 +557,19 @@ outer_columns i (suc k) = more (column 1 i) (outer_columns (suc i) k)
 abbrev pub region : Routine → Widths → ℕ → ℕ → PlanTree
 region r S m k = inline_with r S (outer_columns m k)
 
--- k parameters from the i-th on, as an environment has them, read from a row further in
-abbrev pub read_outward : Reading → ℕ → ℕ → Scalars
-read_outward e i zero = none
-read_outward e i (suc k) = more (read (outward (e.params i))) (read_outward e (suc i) k)
+-- the same value, as one of a type where it is NULL
+abbrev pub of_type : SqlType → Scalar → Scalar
+of_type t s = word coalesce_word (two s (null_of t))
+
+-- Parameters of these types from the i-th on, as an environment has them, read from a row further
+-- in. NULL alone has no kind, so that a parameter is read as one of its type.
+abbrev pub read_outward : Reading → ℕ → List SqlType → Scalars
+read_outward e i [] = none
+read_outward e i (t ∷ ts) =
+    more (of_type t (read (outward (e.params i)))) (read_outward e (suc i) ts)
 
 -- what a call of a function emits whose parameters an environment has: an Apply of its plan as a
 -- region
 abbrev pub called_body : Routine → Widths → Reading → ℕ → Emitted
 called_body r S e n = asked single
-    (inline_with r S (read_outward e 0 (length (parameters_of r)))) n
+    (inline_with r S (read_outward e 0 (parameters_of r))) n

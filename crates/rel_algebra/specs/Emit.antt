@@ -10,7 +10,16 @@ use Rattle.rel_algebra.specs.Tree.{Operate, And, Or, Case, CaseOf, Coalesce, In,
 use Rattle.rel_algebra.specs.Tree.{Call, CallSelf, Links, NoLink, MoreLinks, Exprs, NoExpr}
 use Rattle.rel_algebra.specs.Tree.{MoreExprs, Routine, Returned, Rows, NoRow, MoreRows, From, Table}
 use Rattle.rel_algebra.specs.Tree.{Derived, Cross, Inner, LeftOuter, Query, Select, Grouped, Values}
-use Rattle.rel_algebra.specs.Tree.{Ordered, parameters_of}
+use Rattle.rel_algebra.specs.Tree.{Ordered, parameters_of, Function, Perhaps, Without, With}
+use Rattle.rel_algebra.specs.Tree.{Variables, NoVariable, MoreVariables, Stmt, Compound, If}
+use Rattle.rel_algebra.specs.Tree.{SearchedCase, SimpleCase, Set, SelectInto, Signal, Resignal}
+use Rattle.rel_algebra.specs.Tree.{GetStatementItems, GetConditionItems, Leave, Return, Stmts}
+use Rattle.rel_algebra.specs.Tree.{NoStmt, MoreStmts, Branches, NoBranch, MoreBranches, Handlers}
+use Rattle.rel_algebra.specs.Tree.{NoHandler, MoreHandlers}
+use Rattle.rel_algebra.specs.Plain.{answer, ev}
+use Rattle.rel_algebra.specs.Bodies as body
+use Rattle.rel_algebra.specs.BodyChain.{called_body}
+use Rattle.rel_algebra.specs.Leaves.{QueryLeaf, ValueLeaf}
 use Rattle.rel_algebra.specs.Joins.{places, numbered, rows_width, from_width}
 pub use Rattle.rel_algebra.specs.Plan.{scalar_count}
 use Rattle.rel_algebra.specs.Plan.{strict, and_word, or_word, case_word, coalesce_word, constant}
@@ -186,11 +195,72 @@ abbrev mutual
   emit_rows (MoreRows es rows) S e n = let a = emit_all es S e n in
       a ∷ emit_rows rows S e (width a.nodes n)
 
-  -- as the result's type takes it
+  -- as the result's type takes it; of a block, an Apply of its plan as a region
   pub emit_body : Routine → (List ℕ → ℕ) → Env → ℕ → Emitted
   emit_body (Returned types returns x) S e n = assigning_in (returns ∷ []) (emit x S e n)
+  emit_body (Function false types returns false statement) S e n =
+      called_body (body.Body types returns (stmt_body statement)) S e n
   -- no planned expression calls another routine
   emit_body _ S e n = plain (constant Null)
+
+  -- an expression that may be left out, as a leaf of a body: what it means, and its plan
+  pub perhaps_body : Perhaps → body.Perhaps
+  perhaps_body Without = body.Without
+  perhaps_body (With x) =
+      body.With (record { value = λ w f. ev x w f; emitted = λ S e n. emit x S e n })
+
+  -- declarations over such leaves
+  pub variables_body : Variables → body.Variables
+  variables_body NoVariable = body.NoVariable
+  variables_body (MoreVariables k t default others) =
+      body.MoreVariables k t (perhaps_body default) (variables_body others)
+
+  -- a statement in form over its expressions and queries
+  pub stmt_body : Stmt → body.Stmt
+  stmt_body (Compound atomic variables cursors handlers statements) =
+      body.Compound atomic (variables_body variables) (handlers_body handlers)
+      (stmts_body statements)
+  stmt_body (If branches otherwise) = body.If (branches_body branches) (stmts_body otherwise)
+  stmt_body (SearchedCase branches otherwise) =
+      body.SearchedCase (branches_body branches) (stmts_body otherwise)
+  stmt_body (SimpleCase x branches otherwise) =
+      body.SimpleCase (record { value = λ w f. ev x w f; emitted = λ S e n. emit x S e n })
+      (branches_body branches) (stmts_body otherwise)
+  stmt_body (Set t x) =
+      body.Set t (record { value = λ w f. ev x w f; emitted = λ S e n. emit x S e n })
+  stmt_body (SelectInto q targets) = body.SelectInto (record {
+    answer = λ w f. answer q w f;
+    plan = λ S e. plan q S e;
+    folded = λ S e. folded q S e;
+  }) targets
+  stmt_body (Signal state text) = body.Signal state (perhaps_body text)
+  stmt_body (Resignal state text) = body.Resignal state (perhaps_body text)
+  stmt_body (GetStatementItems area reads) = body.GetStatementItems reads
+  stmt_body (GetConditionItems area number reads) = body.GetConditionItems
+      (record { value = λ w f. ev number w f; emitted = λ S e n. emit number S e n }) reads
+  stmt_body (Leave outwards) = body.Leave outwards
+  stmt_body (Return x) =
+      body.Return (record { value = λ w f. ev x w f; emitted = λ S e n. emit x S e n })
+  -- no other statement is in form
+  stmt_body _ = body.Leave 0
+
+  -- statements in order
+  pub stmts_body : Stmts → body.Stmts
+  stmts_body NoStmt = body.NoStmt
+  stmts_body (MoreStmts s ss) = body.MoreStmts (stmt_body s) (stmts_body ss)
+
+  -- tests or values with their statements
+  pub branches_body : Branches → body.Branches
+  branches_body NoBranch = body.NoBranch
+  branches_body (MoreBranches test statements others) =
+      body.MoreBranches (record { value = λ w f. ev test w f; emitted = λ S e n. emit test S e n })
+      (stmts_body statements) (branches_body others)
+
+  -- the handlers of a compound statement
+  pub handlers_body : Handlers → body.Handlers
+  handlers_body NoHandler = body.NoHandler
+  handlers_body (MoreHandlers kind takes action others) =
+      body.MoreHandlers kind takes (stmt_body action) (handlers_body others)
 
   -- the conjuncts of WHERE, ON or HAVING, with those that wait. 7.12 (where clause)
   pub emit_tests : Exprs → (List ℕ → ℕ) → Env → Waiting → ℕ → List Emitted
@@ -243,3 +313,15 @@ abbrev mutual
 -- The plan of a function, by itself: one row of one cell, its parameters the arguments.
 abbrev pub routine_plan : Routine → (List ℕ → ℕ) → PlanTree
 routine_plan r S = listed (singly (emit_body r S (top (length (parameters_of r))) 0)) 0 unit_row
+
+-- the leaf that an expression is in a body
+abbrev pub value_leaf : Expr → ValueLeaf
+value_leaf x = record { value = λ w f. ev x w f; emitted = λ S e n. emit x S e n }
+
+-- the leaf that a query is
+abbrev pub query_leaf : Query → QueryLeaf
+query_leaf q = record {
+  answer = λ w f. answer q w f;
+  plan = λ S e. plan q S e;
+  folded = λ S e. folded q S e;
+}

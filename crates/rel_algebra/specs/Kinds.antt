@@ -25,6 +25,13 @@ use Rattle.rel_algebra.specs.Tree.{Max, Min, Modulo, MoreExprs, MoreLinks, MoreR
 use Rattle.rel_algebra.specs.Tree.{NoExpr, NoLink, NoRow, NullTest, Operate, Operation, Opposite}
 use Rattle.rel_algebra.specs.Tree.{Or, Ordered, Query, Routine, Rows, Select, Single, Substring}
 use Rattle.rel_algebra.specs.Tree.{Sum, Table, TrueTest, Values, Variable, parameters_of}
+use Rattle.rel_algebra.specs.Tree.{Function, Target, Perhaps, Without, With, Variables, NoVariable}
+use Rattle.rel_algebra.specs.Tree.{MoreVariables, Stmt, Compound, If, SearchedCase, SimpleCase, Set}
+use Rattle.rel_algebra.specs.Tree.{SelectInto, Signal, Resignal, GetStatementItems}
+use Rattle.rel_algebra.specs.Tree.{GetConditionItems, Leave, Return, Stmts, NoStmt, MoreStmts}
+use Rattle.rel_algebra.specs.Tree.{Branches, NoBranch, MoreBranches, Handlers, NoHandler}
+use Rattle.rel_algebra.specs.Tree.{MoreHandlers}
+use Rattle.rel_algebra.specs.BodyMeaning.{statement_targets, condition_targets}
 use Rattle.rel_algebra.specs.OnConditions.{ConditionWord, catch_word, matches_word, class_word}
 use Rattle.rel_algebra.specs.OnConditions.{number_word, item_word, push_word, retext_word}
 use Rattle.rel_algebra.specs.OnConditions.{raise_word}
@@ -486,6 +493,7 @@ abbrev mutual
   -- the kind of what a call of a function gives. 10.4 (routine invocation)
   pub body_kind : Routine → (List ℕ → Kinds) → Kinds → DataKind
   body_kind (Returned types returns x) T p = assigned_kind returns (expr_kind x T [] p)
+  body_kind (Function false types returns false statement) T p = type_kind returns
   body_kind _ T p = NullKind
 
   -- the kinds of a query's columns. 7.17 (query expression)
@@ -505,7 +513,40 @@ abbrev mutual
   from_kinds (Inner a b on) T g p = from_kinds a T g p ++ from_kinds b T g p
   from_kinds (LeftOuter a b on) T g p = from_kinds a T g p ++ from_kinds b T g p
 
--- each operand has the kind that it is wanted to have
+-- ---- variables of a block
+
+-- the kinds of tables
+abbrev pub Tables : Type 0
+Tables = List ℕ → Kinds
+
+-- the kinds of values of these types
+abbrev pub type_kinds : List SqlType → Kinds
+type_kinds [] = []
+type_kinds (t ∷ ts) = type_kind t ∷ type_kinds ts
+
+-- a variable of its type is in sight, and takes values of this kind
+abbrev pub Taken : List SqlType → DataKind → Target → Type 0
+Taken ts k t = (kind_at (type_kinds ts) t.slot ≡ type_kind t.data_type)
+    × (agree k (type_kind t.data_type) ≡ true)
+
+-- each takes values of this kind
+abbrev pub EachTaken : List SqlType → DataKind → List Target → Type 0
+EachTaken ts k [] = Unit {0}
+EachTaken ts k (t ∷ targets) = Taken ts k t × EachTaken ts k targets
+
+-- as many targets as columns, and each takes what its column has
+abbrev pub AllTaken : List SqlType → Kinds → List Target → Type 0
+AllTaken ts [] [] = Unit {0}
+AllTaken ts (k ∷ kk) (t ∷ targets) = Taken ts k t × AllTaken ts kk targets
+AllTaken ts _ _ = ⊥
+
+-- the types of the variables that declarations make
+abbrev pub declared_types : Variables → List SqlType
+declared_types NoVariable = []
+declared_types (MoreVariables k t default others) = replicate k t ++ declared_types others
+
+-- Each operand has the kind that it is wanted to have. In a block the types of the variables in
+-- sight are given.
 abbrev mutual
   -- an expression in which each operand has the kind that it is wanted to have. 6.25 (value
   -- expression)
@@ -549,7 +590,72 @@ abbrev mutual
   pub TypedBody : Routine → (List ℕ → Kinds) → Kinds → Type 0
   TypedBody (Returned types returns x) T p =
       Typed x T [] p × (takes returns (expr_kind x T [] p) ≡ true)
+  -- a block has its parameters in columns, each of the kind of its type, which also takes NULL
+  TypedBody (Function false types returns false statement) T p =
+      (agree_all p (type_kinds types) ≡ true) × TypedStmt statement T returns types
   TypedBody _ T p = ⊥
+
+  -- the same of an expression that may be left out, whose value this takes
+  pub TypedPerhaps : Perhaps → DataKind → Tables → List SqlType → Type 0
+  TypedPerhaps Without k T ts = Unit {0}
+  TypedPerhaps (With x) k T ts = Typed x T [] (type_kinds ts)
+      × (agree (expr_kind x T [] (type_kinds ts)) k ≡ true)
+
+  -- the same of declarations, whose defaults have their types' kinds
+  pub TypedVariables : Variables → Tables → List SqlType → Type 0
+  TypedVariables NoVariable T ts = Unit {0}
+  TypedVariables (MoreVariables k t default others) T ts =
+      TypedPerhaps default (type_kind t) T ts × TypedVariables others T (ts ++ replicate k t)
+
+  -- the same of a statement in form of a function that returns a type
+  pub TypedStmt : Stmt → Tables → SqlType → List SqlType → Type 0
+  TypedStmt (Compound atomic variables cursors handlers statements) T returns ts =
+      TypedVariables variables T ts
+      × TypedHandlers handlers T returns (ts ++ declared_types variables)
+      × TypedStmts statements T returns (ts ++ declared_types variables)
+  TypedStmt (If branches otherwise) T returns ts =
+      TypedBranches branches BooleanKind T returns ts × TypedStmts otherwise T returns ts
+  TypedStmt (SearchedCase branches otherwise) T returns ts =
+      TypedBranches branches BooleanKind T returns ts × TypedStmts otherwise T returns ts
+  TypedStmt (SimpleCase x branches otherwise) T returns ts =
+      Typed x T [] (type_kinds ts)
+      × TypedBranches branches (expr_kind x T [] (type_kinds ts)) T returns ts
+      × TypedStmts otherwise T returns ts
+  TypedStmt (Set t x) T returns ts =
+      Typed x T [] (type_kinds ts) × Taken ts (expr_kind x T [] (type_kinds ts)) t
+  TypedStmt (SelectInto q targets) T returns ts =
+      TypedQuery q T [] (type_kinds ts)
+      × AllTaken ts (query_kinds q T [] (type_kinds ts)) targets
+  TypedStmt (Signal state text) T returns ts = TypedPerhaps text TextKind T ts
+  TypedStmt (Resignal state text) T returns ts = TypedPerhaps text TextKind T ts
+  TypedStmt (GetStatementItems area reads) T returns ts =
+      EachTaken ts IntegerKind (statement_targets reads)
+  TypedStmt (GetConditionItems area number reads) T returns ts =
+      Typed number T [] (type_kinds ts)
+      × (agree (expr_kind number T [] (type_kinds ts)) IntegerKind ≡ true)
+      × EachTaken ts TextKind (condition_targets reads)
+  TypedStmt (Leave outwards) T returns ts = Unit {0}
+  TypedStmt (Return x) T returns ts = Typed x T [] (type_kinds ts)
+      × (agree (expr_kind x T [] (type_kinds ts)) (type_kind returns) ≡ true)
+  TypedStmt _ T returns ts = ⊥
+
+  -- the same of statements
+  pub TypedStmts : Stmts → Tables → SqlType → List SqlType → Type 0
+  TypedStmts NoStmt T returns ts = Unit {0}
+  TypedStmts (MoreStmts s ss) T returns ts = TypedStmt s T returns ts × TypedStmts ss T returns ts
+
+  -- the same of tests, or of what an operand of this kind is compared with, and their statements
+  pub TypedBranches : Branches → DataKind → Tables → SqlType → List SqlType → Type 0
+  TypedBranches NoBranch k T returns ts = Unit {0}
+  TypedBranches (MoreBranches x statements others) k T returns ts =
+      Typed x T [] (type_kinds ts) × (agree (expr_kind x T [] (type_kinds ts)) k ≡ true)
+      × TypedStmts statements T returns ts × TypedBranches others k T returns ts
+
+  -- the same of handlers
+  pub TypedHandlers : Handlers → Tables → SqlType → List SqlType → Type 0
+  TypedHandlers NoHandler T returns ts = Unit {0}
+  TypedHandlers (MoreHandlers kind takes action others) T returns ts =
+      TypedStmt action T returns ts × TypedHandlers others T returns ts
 
   -- the same of a query, whose tests are truth values. 7.16 and 7.17
   pub TypedQuery : Query → (List ℕ → Kinds) → List Kinds → Kinds → Type 0

@@ -23,6 +23,7 @@ pub mod Plain
 pub mod Returning
 pub mod OnConditions
 pub mod Plan
+pub mod WordView
 pub mod PlanView
 pub mod Environments
 pub mod Emissions
@@ -50,6 +51,7 @@ pub mod Applies
 pub mod PlanExamples
 pub mod WordExamples
 pub mod CallExamples
+pub mod BlockExamples
 pub mod Examples
 pub mod Renaming
 pub mod Even

@@ -1,8 +1,8 @@
 -- What planned expressions and queries mean by the tables alone: for given tables and rows outside
 -- a value or the rows, or the first condition. The law `means_passing` says that this is what they
 -- do.
-use Rattle.std.specs.Prelude.{ℕ, Bool, true, false, if◌then◌else◌, List, [], ◌∷◌, ◌++◌, nat_eq}
-use Rattle.std.specs.Prelude.{◌&&◌, Ok, drop}
+use Rattle.std.specs.Prelude.{ℕ, zero, Bool, true, false, if◌then◌else◌, List, [], ◌∷◌}
+use Rattle.std.specs.Prelude.{◌++◌, nat_eq, ◌&&◌, Ok, drop, length}
 use Rattle.sql_values.specs.declared.value.Value.{Value}
 use Rattle.sql_values.specs.declared.value.Value.TheVariants.{Null, Bool as Truth}
 use Rattle.sql_values.specs.declared.value.SqlType.{SqlType}
@@ -16,14 +16,22 @@ use Rattle.rel_algebra.specs.Tree.{CaseOf, Coalesce, In, Exists, Single, Call, C
 use Rattle.rel_algebra.specs.Tree.{NoLink, MoreLinks, Exprs, NoExpr, MoreExprs, count, Routine}
 use Rattle.rel_algebra.specs.Tree.{Returned, Rows, NoRow, MoreRows, From, Table, Derived, Cross}
 use Rattle.rel_algebra.specs.Tree.{Inner, LeftOuter, Query, Select, Grouped, Values, Ordered}
-use Rattle.rel_algebra.specs.Tree.{parameters_of}
+use Rattle.rel_algebra.specs.Tree.{Function, Target, Stacked, Perhaps, Without, With, Variables}
+use Rattle.rel_algebra.specs.Tree.{NoVariable, MoreVariables, Stmt, Compound, If, SearchedCase}
+use Rattle.rel_algebra.specs.Tree.{SimpleCase, Set, SelectInto, Signal, Resignal}
+use Rattle.rel_algebra.specs.Tree.{GetStatementItems, GetConditionItems, Leave, Return, Stmts}
+use Rattle.rel_algebra.specs.Tree.{NoStmt, MoreStmts, Branches, NoBranch, MoreBranches, Handlers}
+use Rattle.rel_algebra.specs.Tree.{NoHandler, MoreHandlers, parameters_of}
 use Rattle.rel_algebra.specs.Endings.{Ending, ◌>>=◌, ending_of, is_false, equal_values, op_value}
 use Rattle.rel_algebra.specs.Endings.{value_at, row_at}
 use Rattle.rel_algebra.specs.Groups.{groups}
 use Rattle.row_types.specs.Sorting.{in_order}
 use Rattle.rel_algebra.specs.Joins.{places, numbered, pairs, or_nulls, single_of, exists_of}
-use Rattle.rel_algebra.specs.Joins.{member_of, group_row, rows_width, from_width}
+use Rattle.rel_algebra.specs.Joins.{member_of, group_row, rows_width, from_width, query_width}
 use Rattle.rel_algebra.specs.Meaning.{assigned_first}
+use Rattle.rel_algebra.specs.Bodies as body
+use Rattle.rel_algebra.specs.BodyMeaning.{call as body_call}
+use Rattle.rel_algebra.specs.Leaves.{answered, valued}
 pub use Rattle.rel_algebra.specs.Scopes.{Inputs, columns_in, Scope, within, each_of, kept_if}
 pub use Rattle.rel_algebra.specs.Scopes.{one_row, list_if, list_where}
 
@@ -134,14 +142,67 @@ abbrev mutual
     v ← ev e w f
     if is_null v then ev_coalesce es w f else Ok v
 
-  -- the body is run anew on parameters of its own, and sees no row; its value is assigned to the
-  -- result's type
+  -- The body is run anew on parameters of its own, and sees no row; its value is assigned to the
+  -- result's type. A body that is a block does what its expressions and queries mean.
   pub call : Routine → List Value → Inputs → Ending Value
   call (Returned types returns e) vs w = do
     v ← ev e w (record { rows = []; params = vs })
     ending_of (assigned returns v)
+  call (Function false types returns false statement) vs w =
+      body_call (body.Body types returns (stmt_meant statement)) vs w
   -- no planned expression calls another routine
   call _ vs w = Ok Null
+
+  -- an expression that may be left out, as a leaf of a body
+  pub perhaps_meant : Perhaps → body.Perhaps
+  perhaps_meant Without = body.Without
+  perhaps_meant (With e) = body.With (valued (λ w f. ev e w f))
+
+  -- declarations over such leaves
+  pub variables_meant : Variables → body.Variables
+  variables_meant NoVariable = body.NoVariable
+  variables_meant (MoreVariables k t default others) =
+      body.MoreVariables k t (perhaps_meant default) (variables_meant others)
+
+  -- a statement in form, over what its expressions and queries mean
+  pub stmt_meant : Stmt → body.Stmt
+  stmt_meant (Compound atomic variables cursors handlers statements) =
+      body.Compound atomic (variables_meant variables) (handlers_meant handlers)
+      (stmts_meant statements)
+  stmt_meant (If branches otherwise) = body.If (branches_meant branches) (stmts_meant otherwise)
+  stmt_meant (SearchedCase branches otherwise) =
+      body.SearchedCase (branches_meant branches) (stmts_meant otherwise)
+  stmt_meant (SimpleCase e branches otherwise) =
+      body.SimpleCase (valued (λ w f. ev e w f)) (branches_meant branches) (stmts_meant otherwise)
+  stmt_meant (Set t e) = body.Set t (valued (λ w f. ev e w f))
+  stmt_meant (SelectInto q targets) = body.SelectInto (answered (λ w f. answer q w f)) targets
+  stmt_meant (Signal state text) = body.Signal state (perhaps_meant text)
+  stmt_meant (Resignal state text) = body.Resignal state (perhaps_meant text)
+  stmt_meant (GetStatementItems area reads) = body.GetStatementItems reads
+  stmt_meant (GetConditionItems area number reads) =
+      body.GetConditionItems (valued (λ w f. ev number w f)) reads
+  stmt_meant (Leave outwards) = body.Leave outwards
+  stmt_meant (Return e) = body.Return (valued (λ w f. ev e w f))
+  -- no other statement is in form
+  stmt_meant _ = body.Leave 0
+
+  -- statements in order
+  pub stmts_meant : Stmts → body.Stmts
+  stmts_meant NoStmt = body.NoStmt
+  stmts_meant (MoreStmts s ss) = body.MoreStmts (stmt_meant s) (stmts_meant ss)
+
+  -- tests or values with their statements
+  pub branches_meant : Branches → body.Branches
+  branches_meant NoBranch = body.NoBranch
+  branches_meant (MoreBranches test statements others) =
+      body.MoreBranches (valued (λ w f. ev test w f)) (stmts_meant statements)
+      (branches_meant others)
+
+  -- the handlers of a compound statement
+  pub handlers_meant : Handlers → body.Handlers
+  handlers_meant NoHandler = body.NoHandler
+  handlers_meant (MoreHandlers kind takes action others) =
+      body.MoreHandlers kind takes (stmt_meant action) (handlers_meant others)
 
   -- whether all conjuncts are true: a row leaves at the first that isn't
   pub holds : Exprs → Inputs → Scope → Ending Bool
@@ -192,8 +253,21 @@ abbrev pub all_even : ℕ → Rows → Bool
 all_even n NoRow = true
 all_even n (MoreRows es rows) = nat_eq (count es) n && all_even n rows
 
--- Which queries have a plan: each function that they call, in turn, only returns an expression; and
--- the rows of each VALUES are of one length.
+-- a query has one column for each target, and at least one; no table tells how many
+abbrev pub fills : Query → List Target → Bool
+fills q [] = false
+fills q (t ∷ targets) = nat_eq (query_width q (λ name. 0)) (length (t ∷ targets))
+
+-- A block sees as many values as it has parameters. A body that is one RETURN reads those that it
+-- names.
+abbrev pub as_many : Routine → ℕ → Bool
+as_many (Returned types returns x) n = true
+as_many r n = nat_eq n (length (parameters_of r))
+
+-- Which queries have a plan: each function that they call, in turn, only returns an expression, or
+-- its body is a statement in form; and the rows of each VALUES are of one length. A statement is in
+-- form that changes no table, moves no cursor, holds no loop and no CALL, and whose expressions and
+-- queries have plans; of diagnostics it reads the stacked area.
 abbrev mutual
   -- an expression has a plan
   pub planned_expr : Expr → Bool
@@ -211,7 +285,8 @@ abbrev mutual
   planned_expr (In x q) = planned_expr x && planned q
   planned_expr (Exists q) = planned q
   planned_expr (Single q) = planned q
-  planned_expr (Call name r es) = planned_routine r && planned_all es
+  planned_expr (Call name r es) =
+      planned_routine r && (planned_all es && as_many r (count es))
   planned_expr (CallSelf types es) = false
 
   -- the operands of a chain have plans
@@ -224,10 +299,59 @@ abbrev mutual
   planned_all NoExpr = true
   planned_all (MoreExprs x es) = planned_expr x && planned_all es
 
-  -- a routine only returns an expression, which has a plan
+  -- a function only returns an expression, which has a plan, or its body is in form; it is no part
+  -- of itself, and is called on NULL too
   pub planned_routine : Routine → Bool
   planned_routine (Returned types returns x) = planned_expr x
+  planned_routine (Function false types returns false statement) = planned_stmt statement
   planned_routine _ = false
+
+  -- an expression has a plan, where it isn't left out
+  pub planned_perhaps : Perhaps → Bool
+  planned_perhaps Without = true
+  planned_perhaps (With x) = planned_expr x
+
+  -- the defaults of declarations have plans
+  pub planned_variables : Variables → Bool
+  planned_variables NoVariable = true
+  planned_variables (MoreVariables k t default others) =
+      planned_perhaps default && planned_variables others
+
+  -- a statement is in form; a compound statement declares no cursor
+  pub planned_stmt : Stmt → Bool
+  planned_stmt (Compound atomic variables zero handlers statements) =
+      planned_variables variables && (planned_handlers handlers && planned_stmts statements)
+  planned_stmt (If branches otherwise) = planned_branches branches && planned_stmts otherwise
+  planned_stmt (SearchedCase branches otherwise) =
+      planned_branches branches && planned_stmts otherwise
+  planned_stmt (SimpleCase x branches otherwise) =
+      planned_expr x && (planned_branches branches && planned_stmts otherwise)
+  planned_stmt (Set t x) = planned_expr x
+  planned_stmt (SelectInto q targets) = planned q && fills q targets
+  planned_stmt (Signal state text) = planned_perhaps text
+  planned_stmt (Resignal state text) = planned_perhaps text
+  planned_stmt (GetStatementItems Stacked reads) = true
+  planned_stmt (GetConditionItems Stacked number reads) = planned_expr number
+  planned_stmt (Leave outwards) = true
+  planned_stmt (Return x) = planned_expr x
+  planned_stmt _ = false
+
+  -- statements are in form
+  pub planned_stmts : Stmts → Bool
+  planned_stmts NoStmt = true
+  planned_stmts (MoreStmts s ss) = planned_stmt s && planned_stmts ss
+
+  -- tests have plans, and their statements are in form
+  pub planned_branches : Branches → Bool
+  planned_branches NoBranch = true
+  planned_branches (MoreBranches test statements others) =
+      planned_expr test && (planned_stmts statements && planned_branches others)
+
+  -- the actions of handlers are in form
+  pub planned_handlers : Handlers → Bool
+  planned_handlers NoHandler = true
+  planned_handlers (MoreHandlers kind takes action others) =
+      planned_stmt action && planned_handlers others
 
   -- rows of VALUES have plans
   pub planned_rows : Rows → Bool

@@ -335,15 +335,15 @@ pub record PlansWorked : Type 0 where
   -- no function that calls itself has a plan, and rows of VALUES have one length
   pub no_plan : planned (row_of
       (one (Call (codes "F") (Function true [] Integer false (Return (number 1))) NoExpr))) ≡ false
-  -- nor has one that is NULL on NULL, or one that does more than RETURN
+  -- nor has one that is NULL on NULL
   pub no_plan_on_null : planned
       (row_of (one (Call (codes "F") (Function false [] Integer true (Return (number 1))) NoExpr)))
       ≡ false
-  -- a body of several statements has none
-  pub no_plan_of_statements : planned
+  -- a body of several statements has one, where each is in form
+  pub plan_of_statements : planned
       (row_of (one (Call (codes "F") (Function false [] Integer false
       (Compound false NoVariable 0 NoHandler (MoreStmts (Return (number 1)) NoStmt))) NoExpr)))
-      ≡ false
+      ≡ true
   -- rows of VALUES of two lengths have none
   pub uneven : planned (Values
       (MoreRows (one (number 1)) (MoreRows (two (number 1) (number 2)) NoRow))) ≡ false

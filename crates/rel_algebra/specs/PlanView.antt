@@ -22,10 +22,12 @@ use Rattle.rel_algebra.specs.Tree.{Aggregate, Operation, Negation, Arithmetic, C
 use Rattle.rel_algebra.specs.Tree.{CharLength, Substring, Cast, Assign, Opposite, NullTest}
 use Rattle.rel_algebra.specs.Tree.{TrueTest, FalseTest, AnyOf}
 use Rattle.rel_algebra.specs.Plan.{anew, Word, strict, and_word, or_word, case_word, coalesce_word}
-use Rattle.rel_algebra.specs.Plan.{Scalar, constant, column, argument, word, Scalars, none, more}
-use Rattle.rel_algebra.specs.Plan.{Kind, single, exists, member, aggregate, PlanTree, unit_row}
+use Rattle.rel_algebra.specs.Plan.{on_condition, Scalar, constant, column, argument, word, Scalars}
+use Rattle.rel_algebra.specs.Plan.{none, more, Kind, single, exists, member, aggregate, into}
+use Rattle.rel_algebra.specs.Plan.{PlanTree, unit_row}
 use Rattle.rel_algebra.specs.Plan.{scan, values, extend, apply, filter, keep, cross, left_outer}
 use Rattle.rel_algebra.specs.Plan.{settle, group, sort, Nodes, no_node, extend_by, apply_by}
+use Rattle.rel_algebra.specs.WordView.{condition_word}
 
 -- an operator with the plain scalar right of it
 pub record Link : Type 0 where
@@ -74,6 +76,8 @@ scalar_step (Scalar-F.Compare comparison a b) =
     word (strict (Comparing comparison)) (more a (more b none))
 scalar_step (Scalar-F.Chain first rest) = chained first rest
 scalar_step (Scalar-F.Listed w operands) = word (list_word w) (scalars operands)
+scalar_step (Scalar-F.OnCondition w operands) =
+    word (on_condition (condition_word w)) (scalars operands)
 
 -- one link of a chain, with what stands inside already seen as its plain scalar
 abbrev pub link_step : ScalarLink-F Scalar Link → Link
@@ -111,6 +115,7 @@ kind_of kind.Single = single
 kind_of kind.Exists = exists
 kind_of (kind.Member s) = member (scalar_of s)
 kind_of (kind.Aggregate columns) = aggregate (aggregates_of columns)
+kind_of (kind.Into columns) = into columns
 
 -- what a node makes of the plan below it, and of a run of nodes one that has an Extend or an Apply
 -- more at its lower end

@@ -12,6 +12,12 @@ use Rattle.rel_algebra.specs.Tree.{Comparing, Cross, Derived, Exists, Expr, Expr
 use Rattle.rel_algebra.specs.Tree.{Grouped, In, Inner, LeftOuter, Links, Literal, MoreExprs}
 use Rattle.rel_algebra.specs.Tree.{MoreLinks, MoreRows, NoExpr, NoLink, NoRow, Operate, Or, Ordered}
 use Rattle.rel_algebra.specs.Tree.{Query, Routine, Rows, Select, Single, Table, Values, Variable}
+use Rattle.rel_algebra.specs.Tree.{Function, Perhaps, Without, With, Variables, NoVariable}
+use Rattle.rel_algebra.specs.Tree.{MoreVariables, Stmt, Compound, If, SearchedCase, SimpleCase, Set}
+use Rattle.rel_algebra.specs.Tree.{SelectInto, Signal, Resignal, GetStatementItems}
+use Rattle.rel_algebra.specs.Tree.{GetConditionItems, Leave, Return, Stmts, NoStmt, MoreStmts}
+use Rattle.rel_algebra.specs.Tree.{Branches, NoBranch, MoreBranches, Handlers, NoHandler}
+use Rattle.rel_algebra.specs.Tree.{MoreHandlers}
 
 -- which rows a tree may name: so many of the innermost, or any
 pub data Reach : Type 0 where
@@ -154,7 +160,55 @@ abbrev mutual
   -- the body of a called function is, whose parameters are columns
   pub SimpleBody : Routine → (List ℕ → ℕ) → Type 0
   SimpleBody (Returned types returns x) S = Simple x S false
+  SimpleBody (Function false types returns false statement) S = SimpleStmt statement S
   SimpleBody _ S = ⊥
+
+  -- an expression that may be left out is, where variables are columns
+  pub SimplePerhaps : Perhaps → (List ℕ → ℕ) → Type 0
+  SimplePerhaps Without S = Unit {0}
+  SimplePerhaps (With x) S = Simple x S false
+
+  -- the defaults of declarations are
+  pub SimpleVariables : Variables → (List ℕ → ℕ) → Type 0
+  SimpleVariables NoVariable S = Unit {0}
+  SimpleVariables (MoreVariables k t default others) S = SimplePerhaps default S
+      × SimpleVariables others S
+
+  -- the expressions and queries of a statement in form are
+  pub SimpleStmt : Stmt → (List ℕ → ℕ) → Type 0
+  SimpleStmt (Compound atomic variables cursors handlers statements) S =
+      SimpleVariables variables S × SimpleHandlers handlers S × SimpleStmts statements S
+  SimpleStmt (If branches otherwise) S = SimpleBranches branches S × SimpleStmts otherwise S
+  SimpleStmt (SearchedCase branches otherwise) S = SimpleBranches branches S
+      × SimpleStmts otherwise S
+  SimpleStmt (SimpleCase x branches otherwise) S = Simple x S false × SimpleBranches branches S
+      × SimpleStmts otherwise S
+  SimpleStmt (Set t x) S = Simple x S false
+  SimpleStmt (SelectInto q targets) S = Nested q S false × SimpleQuery q S false
+  SimpleStmt (Signal state text) S = SimplePerhaps text S
+  SimpleStmt (Resignal state text) S = SimplePerhaps text S
+  SimpleStmt (GetStatementItems area reads) S = Unit {0}
+  SimpleStmt (GetConditionItems area number reads) S = Simple number S false
+  SimpleStmt (Leave outwards) S = Unit {0}
+  SimpleStmt (Return x) S = Simple x S false
+  SimpleStmt _ S = ⊥
+
+  -- those of statements are
+  pub SimpleStmts : Stmts → (List ℕ → ℕ) → Type 0
+  SimpleStmts NoStmt S = Unit {0}
+  SimpleStmts (MoreStmts s ss) S = SimpleStmt s S × SimpleStmts ss S
+
+  -- those of tests with their statements are
+  pub SimpleBranches : Branches → (List ℕ → ℕ) → Type 0
+  SimpleBranches NoBranch S = Unit {0}
+  SimpleBranches (MoreBranches test statements others) S = Simple test S false
+      × SimpleStmts statements S × SimpleBranches others S
+
+  -- those of handlers are
+  pub SimpleHandlers : Handlers → (List ℕ → ℕ) → Type 0
+  SimpleHandlers NoHandler S = Unit {0}
+  SimpleHandlers (MoreHandlers kind takes action others) S = SimpleStmt action S
+      × SimpleHandlers others S
 
   -- a query whose nested queries are such
   pub SimpleQuery : Query → (List ℕ → ℕ) → Bool → Type 0
@@ -188,9 +242,11 @@ pub record ClosedPlans : Type 0 where
   -- of a function by itself
   pub routines : (r : Routine) (S : List ℕ → ℕ) → tree_within (routine_plan r S) 0 ≡ true
 
--- the same of a function by itself, whose parameters are arguments of its plan
+-- The same of a function by itself, whose parameters are arguments of its plan. A block reads them
+-- once, and then has them in columns.
 abbrev pub SimpleRoutine : Routine → (List ℕ → ℕ) → Type 0
 SimpleRoutine (Returned types returns x) S = Simple x S true
+SimpleRoutine (Function false types returns false statement) S = SimpleStmt statement S
 SimpleRoutine _ S = ⊥
 
 -- each Apply of a simple query's plan can be removed, and each of a function's

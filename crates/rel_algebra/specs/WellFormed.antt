@@ -19,6 +19,12 @@ use Rattle.rel_algebra.specs.Tree.{Grouped, In, Inner, LeftOuter, Links, Literal
 use Rattle.rel_algebra.specs.Tree.{MoreLinks, MoreRows, NoExpr, NoLink, NoRow, Operate, Or, Ordered}
 use Rattle.rel_algebra.specs.Tree.{Query, Routine, Rows, Select, Single, Table, Values, Variable}
 use Rattle.rel_algebra.specs.Tree.{count, parameters_of}
+use Rattle.rel_algebra.specs.Tree.{Function, Perhaps, Without, With, Variables, NoVariable}
+use Rattle.rel_algebra.specs.Tree.{MoreVariables, Stmt, Compound, If, SearchedCase, SimpleCase, Set}
+use Rattle.rel_algebra.specs.Tree.{SelectInto, Signal, Resignal, GetStatementItems}
+use Rattle.rel_algebra.specs.Tree.{GetConditionItems, Leave, Return, Stmts, NoStmt, MoreStmts}
+use Rattle.rel_algebra.specs.Tree.{Branches, NoBranch, MoreBranches, Handlers, NoHandler}
+use Rattle.rel_algebra.specs.Tree.{MoreHandlers}
 use Rattle.row_types.specs.declared.sort_key.SortKey.{SortKey}
 
 -- a column that a row has: the widths are those of the rows in sight, the innermost first
@@ -162,7 +168,55 @@ abbrev mutual
   -- the body of a called function
   pub ShapedBody : Routine → (List ℕ → ℕ) → Type 0
   ShapedBody (Returned types returns x) S = Shaped x S
+  ShapedBody (Function false types returns false statement) S = ShapedStmt statement S
   ShapedBody _ S = ⊥
+
+  -- an expression that may be left out
+  pub ShapedPerhaps : Perhaps → (List ℕ → ℕ) → Type 0
+  ShapedPerhaps Without S = Unit {0}
+  ShapedPerhaps (With x) S = Shaped x S
+
+  -- declarations
+  pub ShapedVariables : Variables → (List ℕ → ℕ) → Type 0
+  ShapedVariables NoVariable S = Unit {0}
+  ShapedVariables (MoreVariables k t default others) S = ShapedPerhaps default S
+      × ShapedVariables others S
+
+  -- a statement in form, whose SELECT INTO has one target for each column
+  pub ShapedStmt : Stmt → (List ℕ → ℕ) → Type 0
+  ShapedStmt (Compound atomic variables cursors handlers statements) S =
+      ShapedVariables variables S × ShapedHandlers handlers S × ShapedStmts statements S
+  ShapedStmt (If branches otherwise) S = ShapedBranches branches S × ShapedStmts otherwise S
+  ShapedStmt (SearchedCase branches otherwise) S = ShapedBranches branches S
+      × ShapedStmts otherwise S
+  ShapedStmt (SimpleCase x branches otherwise) S = Shaped x S × ShapedBranches branches S
+      × ShapedStmts otherwise S
+  ShapedStmt (Set t x) S = Shaped x S
+  ShapedStmt (SelectInto q targets) S = (query_width q S ≡ length targets) × ShapedQuery q S
+  ShapedStmt (Signal state text) S = ShapedPerhaps text S
+  ShapedStmt (Resignal state text) S = ShapedPerhaps text S
+  ShapedStmt (GetStatementItems area reads) S = Unit {0}
+  ShapedStmt (GetConditionItems area number reads) S = Shaped number S
+  ShapedStmt (Leave outwards) S = Unit {0}
+  ShapedStmt (Return x) S = Shaped x S
+  ShapedStmt _ S = ⊥
+
+  -- statements
+  pub ShapedStmts : Stmts → (List ℕ → ℕ) → Type 0
+  ShapedStmts NoStmt S = Unit {0}
+  ShapedStmts (MoreStmts s ss) S = ShapedStmt s S × ShapedStmts ss S
+
+  -- tests with their statements
+  pub ShapedBranches : Branches → (List ℕ → ℕ) → Type 0
+  ShapedBranches NoBranch S = Unit {0}
+  ShapedBranches (MoreBranches test statements others) S = Shaped test S
+      × ShapedStmts statements S × ShapedBranches others S
+
+  -- handlers
+  pub ShapedHandlers : Handlers → (List ℕ → ℕ) → Type 0
+  ShapedHandlers NoHandler S = Unit {0}
+  ShapedHandlers (MoreHandlers kind takes action others) S = ShapedStmt action S
+      × ShapedHandlers others S
 
   -- a query. 7.16 and 7.17
   pub ShapedQuery : Query → (List ℕ → ℕ) → Type 0

@@ -4,6 +4,7 @@
 
 ghost use Rattle.std.specs.Prelude.{◌≡◌};
 ghost use Rattle.rel_algebra.specs.Arguments.{RemovedFree};
+ghost use Rattle.rel_algebra.specs.BlockExamples.{BlocksWorked};
 ghost use Rattle.rel_algebra.specs.Bound.{WorkBound};
 ghost use Rattle.rel_algebra.specs.CallExamples.{CallsAssign};
 ghost use Rattle.rel_algebra.specs.Changes.{ChangesRun};
@@ -27,11 +28,13 @@ ghost use Rattle.rel_algebra.specs.Theorem.{MeansPassing, MeansUnder, MeansWithi
 ghost use Rattle.rel_algebra.specs.WellFormed.{WellFormedPlans};
 
 mod column_places;
+mod condition_word;
 mod count;
 mod plan;
 mod scalar;
 
 pub use column_places::{ColumnPlaces, KeptPlaces};
+pub use condition_word::{ConditionValue, ConditionWord, ItemWord};
 pub use count::apply_count;
 pub use plan::{ApplyKind, Leaf, Node, Plan, ScalarRow};
 pub use scalar::{ListWord, Scalar, ScalarLink, UnaryWord};
@@ -76,7 +79,8 @@ pub fn self_calls()
 
 /// A function whose body is one RETURN gives its expression, assigned to the result's type: what
 /// the expression wrote is taken back where it raises an exception, and a planned one writes
-/// nothing. No other routine is planned.
+/// nothing. A function is planned where its body is one RETURN of a planned expression, or a
+/// statement in form; no other routine is.
 pub fn returned_means()
     ensures { ReturnedMeans }
 {}
@@ -89,8 +93,8 @@ pub fn changes_run()
 
 /// A planned query ends as its plan does, whatever the tables hold, and leaves the world in which
 /// it began: the same rows in the same order, or the same first condition. It is planned where each
-/// function that it calls, in turn, only returns an expression; the values of the frame are the
-/// plan's arguments.
+/// function that it calls, in turn, only returns an expression, or has a body in form; the values
+/// of the frame are the plan's arguments.
 pub fn means_passing()
     ensures { MeansPassing }
 {}
@@ -140,6 +144,11 @@ pub fn words_worked()
 /// body's value to the result's type: worked rows, where these cut a text or raise, by plans too.
 pub fn calls_assign()
     ensures { CallsAssign }
+{}
+
+/// What calls of functions give whose bodies are blocks: worked rows, by plans too.
+pub fn blocks_worked()
+    ensures { BlocksWorked }
 {}
 
 /// The plans of worked queries, what is done by them, and how many steps they take.

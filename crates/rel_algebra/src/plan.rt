@@ -24,9 +24,9 @@ pub enum Leaf {
     Values(Items<ScalarRow>),
 }
 
-/// What an Apply makes of the rows of its inner plan: one cell, or one for each aggregate. Where
-/// one of these rows is poisoned, or a cell of one is a condition, the first such area in the order
-/// of the rows stands in each of these cells.
+/// What an Apply makes of the rows of its inner plan: one cell, or one for each aggregate, or so
+/// many. Where one of these rows is poisoned, or a cell of one is a condition, the first such area
+/// in the order of the rows stands in each of these cells.
 #[derive(Drop)]
 pub enum ApplyKind {
     /// The value of the one row that there is; of none NULL, and of several the condition 21000
@@ -40,6 +40,9 @@ pub enum ApplyKind {
     /// These aggregates of the rows (10.9). Where one of them raises, the first that does stands in
     /// each cell.
     Aggregate(Items<AggregateColumn>),
+    /// So many cells of the one row that there is, NULL where it has fewer; of none the condition
+    /// 02000, and of several 21000, in each of them (14.7).
+    Into(usize),
 }
 
 /// A node of a plan. A poisoned row passes each of those that act row by row as it is. The others

@@ -1,5 +1,6 @@
 //! Scalars: what plans compute of a row. They name no routine, and columns by their places alone.
 
+use crate::condition_word::ConditionWord;
 use sql_values::{Comparison, Operator, SqlType, Value};
 use sqlite_items::{Boxed, Items};
 
@@ -65,6 +66,9 @@ pub enum Scalar {
     Chain(Boxed<Scalar>, Items<ScalarLink>),
     /// An operation on a list of operands.
     Listed(ListWord, Items<Scalar>),
+    /// A word over cells that may be conditions, with its operands: their conditions are not raised
+    /// by reading them.
+    OnCondition(ConditionWord, Items<Scalar>),
 }
 
 /// An operator and what stands right of it.

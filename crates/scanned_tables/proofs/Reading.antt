@@ -1,18 +1,18 @@
 -- The tables of a plan, node by node.
-use Rattle.std.proofs.Common.{◌≡◌, ℕ, Bool, true, false, ◌&&◌, List, [], ◌∷◌, ◌++◌, Option, None}
+use Rattle.std.proofs.Common.{◌≡◌, ℕ, Bool, true, false, List, [], ◌∷◌, ◌++◌, Option, None}
 use Rattle.std.proofs.Common.{Some, refl, ◌⊎◌, inl, inr, length, cond}
 use Rattle.std.proofs.lemmas.Bool.{and_parts}
 use Rattle.sql_values.specs.declared.value.Value.TheVariants.{Bool as Truth}
 use Rattle.rel_algebra.specs.Emit.{Emitted, EmittedAll, Folded, Key, Place, Waiting, all_plain}
-use Rattle.rel_algebra.specs.Emit.{all_waiting, ask, ask_member, asked, first_value, filters, folding}
+use Rattle.rel_algebra.specs.Emit.{all_waiting, ask, ask_member, first_value, filters, folding}
 use Rattle.rel_algebra.specs.Emit.{filters_width, is_plain, joined_nodes, key_step, list_nodes}
 use Rattle.rel_algebra.specs.Emit.{listed_by, none_waits, one_column, one_param, own_places, selected}
 use Rattle.rel_algebra.specs.Emit.{several, test_step, values_plan, width, at, given, nowhere}
 use Rattle.rel_algebra.specs.Emit.{turned, numbers, chosen, scalars_of}
-use Rattle.rel_algebra.specs.Plan.{Kind, Nodes, PlanTree, Scalar, Scalars, Way, anew, apply}
+use Rattle.rel_algebra.specs.Plan.{Kind, Nodes, PlanTree, Scalar, Scalars, anew, apply}
 use Rattle.rel_algebra.specs.Plan.{apply_by, constant, cross, extend, extend_by, filter, group, keep}
 use Rattle.rel_algebra.specs.Plan.{left_outer, member, no_node, on_each, scan, settle, sort, unit_row}
-use Rattle.rel_algebra.specs.Plan.{aggregate, values}
+use Rattle.rel_algebra.specs.Plan.{values}
 use Rattle.scanned_tables.specs.Scans.{scans, scans_in, AreWide}
 use Rattle.scanned_tables.specs.declared.scans.ScannedTable.{ScannedTable}
 

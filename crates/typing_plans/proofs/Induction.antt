@@ -1,6 +1,6 @@
 -- Each well typed tree is shaped: by induction over bound trees.
 use Rattle.std.proofs.Common.{◌≡◌, ℕ, true, List, [], ◌∷◌, map, Option, Some, None, sym, subst}
-use Rattle.std.proofs.Common.{◌∙◌, refl, ap, length}
+use Rattle.std.proofs.Common.{◌∙◌, ◌&&◌, refl, ap, length}
 use Rattle.std.proofs.lemmas.List.{length-map}
 use Rattle.row_types.specs.declared.RowType.{RowType}
 use Rattle.bound_trees.specs.declared.expr.BoundExpr.{BoundExpr, roll-BoundExpr}
@@ -21,7 +21,8 @@ use Rattle.bound_trees.specs.declared.expr.BoundExpr.TheFolds.{map-BoundSource, 
 use Rattle.bound_trees.specs.declared.expr.BoundExpr.TheFolds.{map-BoundGrouping, map-BoundSelect}
 use Rattle.bound_trees.specs.declared.expr.BoundExpr.TheFolds.{ind-BoundExpr, ind-BoundQuery}
 use Rattle.rel_algebra.specs.Plain.{planned_expr, planned_all, planned_links, planned_routine}
-use Rattle.rel_algebra.specs.Plain.{planned}
+use Rattle.rel_algebra.specs.Plain.{as_many, planned}
+use Rattle.rel_algebra.specs.Tree.{count}
 use Rattle.catalog_store.specs.Catalog.{Catalog, routine_named}
 use Rattle.catalog_store.specs.View.{exprs, links, rows, tree_of, item_of, query_of, row_of}
 use Rattle.catalog_store.specs.View.{source_of, link_of, grouping_of, select_of, expr_step}
@@ -217,9 +218,11 @@ module _ (known : Catalog) (widths : List ℕ → ℕ) (bodies : BodiesShaped kn
   expr_layer (BoundExpr-F.Call name args) a k w h p =
       let es = map kind_of (map (λ x. x.0) args) in
       let ts = exprs (map (tree_of known) (map (λ x. x.0) args)) in
-      let both = halves (planned_routine (routine_named name known)) (planned_all ts) p in
+      let r = routine_named name known in
+      let both = halves (planned_routine r) (planned_all ts && as_many r (count ts)) p in
+      let values = halves (planned_all ts) (as_many r (count ts)) both.1 in
       let kinds = then_some (kinds_of a es) _ k h in
-      (bodies name both.0, all_shaped widths es ts (all_of args) a kinds.0 w kinds.1 both.1)
+      (bodies name both.0, all_shaped widths es ts (all_of args) a kinds.0 w kinds.1 values.0)
   expr_layer (BoundExpr-F.Single q) a k w h p =
       let kinds = then_some (kinds_of_query q.0 a) only_column k h in
       let one = q.1 a kinds.0 w kinds.1 in (one.0 ∙ one_column kinds.0 k kinds.2, one.1 p)

@@ -1,6 +1,6 @@
 -- Each well typed tree is typed in a plan: by induction over bound trees.
 use Rattle.std.proofs.Common.{◌≡◌, inl, ℕ, List, [], ◌∷◌, map, Option, Some, None, subst}
-use Rattle.std.proofs.Common.{refl}
+use Rattle.std.proofs.Common.{◌&&◌, refl}
 use Rattle.row_types.specs.declared.RowType.{RowType}
 use Rattle.bound_trees.specs.declared.expr.BoundExpr.{BoundExpr, roll-BoundExpr}
 use Rattle.bound_trees.specs.declared.query.BoundFromItem.{BoundFromItem, roll-BoundFromItem}
@@ -20,7 +20,8 @@ use Rattle.bound_trees.specs.declared.expr.BoundExpr.TheFolds.{map-BoundSource, 
 use Rattle.bound_trees.specs.declared.expr.BoundExpr.TheFolds.{map-BoundGrouping, map-BoundSelect}
 use Rattle.bound_trees.specs.declared.expr.BoundExpr.TheFolds.{ind-BoundExpr, ind-BoundQuery}
 use Rattle.rel_algebra.specs.Plain.{planned_expr, planned_all, planned_links, planned_routine}
-use Rattle.rel_algebra.specs.Plain.{planned}
+use Rattle.rel_algebra.specs.Plain.{as_many, planned}
+use Rattle.rel_algebra.specs.Tree.{count}
 use Rattle.catalog_store.specs.Catalog.{Catalog, routine_named}
 use Rattle.catalog_store.specs.View.{exprs, links, rows, tree_of, item_of, query_of, row_of}
 use Rattle.catalog_store.specs.View.{source_of, link_of, grouping_of, select_of, expr_step}
@@ -250,10 +251,12 @@ module _ (known : Catalog) (T : List ℕ → Kinds) where
   expr_layer (BoundExpr-F.Call name args) a g p k s h q =
       let es = map kind_of (map (λ x. x.0) args) in
       let ts = exprs (map (tree_of known) (map (λ x. x.0) args)) in
-      let both = halves (planned_routine (routine_named name known)) (planned_all ts) q in
+      let r = routine_named name known in
+      let both = halves (planned_routine r) (planned_all ts && as_many r (count ts)) q in
+      let values = halves (planned_all ts) (as_many r (count ts)) both.1 in
       let kinds = then_some (kinds_of a es) _ k h in
-      let all = all_typed known T es ts (all_of args) a g p kinds.0 s kinds.1 both.1 in
-      call_typed known T (routine_named name known) (a.functions name) ts g p kinds.0 k
+      let all = all_typed known T es ts (all_of args) a g p kinds.0 s kinds.1 values.0 in
+      call_typed known T r (a.functions name) ts g p kinds.0 k
       (λ f e. s.functions name f e both.0) all.0 all.1 kinds.2
   expr_layer (BoundExpr-F.Single query) a g p k s h q =
       let kinds = then_some (kinds_of_query query.0 a) only_column k h in

@@ -25,8 +25,8 @@ use Rattle.bound_trees.specs.declared.expr.BoundExpr.TheFolds.{ind-BoundExpr, in
 use Rattle.sql_values.specs.declared.value.Value.TheVariants.{Null}
 use Rattle.rel_algebra.specs.Joins.{rows_width}
 use Rattle.rel_algebra.specs.Plain.{all_even, planned_expr, planned_links, planned_all}
-use Rattle.rel_algebra.specs.Plain.{planned_routine, planned_rows, planned_from, planned}
-use Rattle.rel_algebra.specs.Tree.{Expr, Exprs, From, Literal, Operate, And, Or}
+use Rattle.rel_algebra.specs.Plain.{as_many, planned_routine, planned_rows, planned_from, planned}
+use Rattle.rel_algebra.specs.Tree.{Expr, Exprs, From, Literal, Operate, And, Or, count}
 use Rattle.rel_algebra.specs.Tree.{Coalesce, Case, Chain, Call, Single, Exists, In, Cross, Values}
 use Rattle.rel_algebra.specs.Tree.{Ordered, Derived, Inner, LeftOuter}
 use Rattle.catalog_store.specs.Catalog.{Catalog, routine_named}
@@ -329,10 +329,11 @@ module _ (c : Catalog) (k : Known) (agree : PlainCalls c k) where
       (planned_links (links (map (link_of c) (map (λ x. x.0) rest)))) h in
       λ i. Chain (first.1 parts.0 i) (links (links-same rest parts.1 i))
   expr_layer (BoundExpr-F.Call name args) h =
-      let parts = halves (planned_routine (routine_named name c))
-      (planned_all (exprs (map (tree_of c) (map (λ x. x.0) args)))) h in
+      let r = routine_named name c in let es = exprs (map (tree_of c) (map (λ x. x.0) args)) in
+      let parts = halves (planned_routine r) (planned_all es && as_many r (count es)) h in
+      let planned_args = (halves (planned_all es) (as_many r (count es)) parts.1).0 in
       agree name (exprs (map (expr_in k) (map (λ x. x.0) args))) parts.0 ∙
-      (λ i. Call name (routine_named name c) (exprs (exprs-same args parts.1 i)))
+      (λ i. Call name (routine_named name c) (exprs (exprs-same args planned_args i)))
   expr_layer (BoundExpr-F.Single q) h = λ i. Single (q.1 h i)
   expr_layer (BoundExpr-F.Exists q) h = λ i. Exists (q.1 h i)
   expr_layer (BoundExpr-F.In e q) h =

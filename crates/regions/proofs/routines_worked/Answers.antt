@@ -81,7 +81,7 @@ returns c = record {
         tt,
         (
           ((refl, refl), tt),
-          (((tt, refl), ((refl, refl), ((refl, refl), tt))), ((tt, refl), tt)),
+          ((tt, refl, ((refl, refl), ((refl, refl), tt))), ((tt, refl), tt)),
         ),
       ),
       tt,

@@ -7,7 +7,8 @@ use Rattle.plan_nodes.specs.declared.received.Received.TheVariants.{Rows}
 use Rattle.plan_rows.specs.Firsts.{values_end}
 use Rattle.plan_nodes.specs.Fates.{passed}
 use Rattle.plan_nodes.specs.Receiving.{nothing_of, received}
-use Rattle.plan_exec.proofs.Collapsing.{judged_cells, judged_length, row_cells_are, row_length}
+use Rattle.plan_exec.proofs.Collapsing.{into_judged, judged_cells, judged_length, row_cells_are}
+use Rattle.plan_exec.proofs.Collapsing.{row_length}
 use Rattle.plan_exec.proofs.collapse.add_collapsed.Goals as goal
 
 pub returns-in_err-values-in-Aggregate-clause-work :
@@ -116,4 +117,24 @@ returns-in-Member-clause-work g c rows came =
       judged_length (nothing_of c.args.kind.now)
           c.args.came rows c.into_list-in-Member.result (ap nothing_of c.in-Member.is) came
           c.into_list-in-Member.ensures,
+    )
+
+pub returns-in-Into-clause-cells : goal.returns-in-Into-clause-cells
+returns-in-Into-clause-cells g c =
+    let old = c.args.cells.now.items in
+    on_ok_weaker c.add_into.result
+    (λ h rows came. h ∙ ap (λ cs. old ++ cs) (into_judged (nothing_of c.args.kind.now) c.args.came
+    rows c.into_list-in-Into.result (ap nothing_of c.in-Into.is) came
+    c.into_list-in-Into.ensures (kind_of c.args.kind.now) c.in-Into.columns c.args.member
+    (ap kind_of c.in-Into.is)))
+    c.add_into.ensures.cells
+
+pub returns-in-Into-clause-work : goal.returns-in-Into-clause-work
+returns-in-Into-clause-work g c rows came =
+    omega (
+      arith,
+      c.add_into.ensures.work,
+      judged_length (nothing_of c.args.kind.now) c.args.came
+          rows c.into_list-in-Into.result (ap nothing_of c.in-Into.is) came
+          c.into_list-in-Into.ensures,
     )

@@ -6,7 +6,9 @@ use Rattle.rel_algebra.specs.declared.scalar.Scalar.{Scalar}
 use Rattle.rel_algebra.specs.declared.scalar.ScalarLink.{ScalarLink}
 use Rattle.rel_algebra.specs.Plan.{cell_of}
 use Rattle.rel_algebra.specs.PlanView.{scalar_of, link_of}
+use Rattle.rel_algebra.specs.WordView.{condition_word}
 use Rattle.plan_scalars.specs.Sights.{sight_of, chained_cell}
+use Rattle.plan_scalars.proofs.OnConditions.{many_operands}
 use Rattle.plan_scalars.proofs.Words.{chain_cell, case_more}
 use Rattle.plan_scalars.proofs.scalars.+eval.Goals as goal
 
@@ -38,3 +40,9 @@ eval_any-returns-in_ok-cell-in-Chain t c =
 pub eval_link-returns-in-Some : goal.eval_link-returns-in-Some
 eval_link-returns-in-Some t c =
     rw c.in-Val.is (c.outcome_cell.ensures _ (c.in-Some.ensures (outer_rows c.args.outer.now)))
+
+pub on_condition-returns-in-len3-up : goal.on_condition-returns-in-len3-up
+on_condition-returns-in-len3-up t c =
+    sym (many_operands (condition_word c.args.word.now) c.args.operands.now
+    (sight_of c.args.row.now (outer_rows c.args.outer.now) c.args.args.now)
+    c.in-len3-up.len_at_least)

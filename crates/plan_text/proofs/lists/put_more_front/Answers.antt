@@ -1,4 +1,4 @@
-use Rattle.std.proofs.Common.{◌++◌, ◌-◌, map, arith}
+use Rattle.std.proofs.Common.{◌++◌, ◌-◌, map}
 use Rattle.std.specs.List.{flat_map}
 use Rattle.rel_algebra.specs.Joins.{places}
 use Rattle.plan_text.specs.ScalarText.{after, comma, place_text}

@@ -8,6 +8,7 @@ returns c =
     let own : Span = record { level = 0; first = c.args.first; count = c.args.columns } in
     let first = c.in_ok-push.ensures.ok ∙ ap (λ (xs : List Span). xs ++ own ∷ [])
     c.new-spans.ensures in
-    folded_there c.args.self.now.spans c.append.new.self c.args.self.now.parameters c.args.first
-    c.args.columns
+    folded_there c.args.self.now.spans c.append.new.self c.args.self.now.parameters
+    c.in_ok-parameters.parameters c.args.first c.args.columns
     (c.in_ok-append.ensures ∙ (λ j. first j ++ (c.in_ok-from_slice.ensures ∙ c.as_slice.ensures) j))
+    c.in_ok-parameters.ensures

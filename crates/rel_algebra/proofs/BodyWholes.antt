@@ -18,9 +18,10 @@ use Rattle.rel_algebra.specs.BodyDoing.{End, Doing, ends, left_by}
 use Rattle.rel_algebra.specs.BodyHandlers.{Handling, Scopes, best_here, raising, with_best}
 use Rattle.rel_algebra.specs.BodyCompounds.{compound, declared_or, exited, exited_or, left, left_or}
 use Rattle.rel_algebra.specs.BodyCompounds.{listed, scope_in, scopes_in, sealed, sealed_or}
-use Rattle.regions.proofs.Exceptions.{Excepts, Fails}
-use Rattle.regions.proofs.Same.{Does, Same, SameFound, SameHandlings, SameScopes, Told, acting_same}
-use Rattle.regions.proofs.Same.{best_same, ends_same, failing_same, goes_on, outcome_of}
+use Rattle.rel_algebra.proofs.BodyRaises.{Excepts, Fails, Told}
+use Rattle.rel_algebra.proofs.BodySame.{Does, Same, SameFound, SameHandlings, SameScopes}
+use Rattle.rel_algebra.proofs.BodySame.{acting_same}
+use Rattle.rel_algebra.proofs.BodySame.{best_same, ends_same, failing_same, goes_on, outcome_of}
 
 pub inside_same : (w : World) (atomic : Bool) (ss : handlers.Scopes) (ts : Scopes) →
     SameScopes w ss ts → SameScopes w (whole.scopes_in atomic ss) (scopes_in atomic ts)

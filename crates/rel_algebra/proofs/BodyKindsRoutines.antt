@@ -1,6 +1,7 @@
 -- The plan of a body is well kinded, where its leaves are, and its targets, defaults and result
 -- take what they are given: tests, declarations, compound statements, and the function.
 use Rattle.std.proofs.Common.{◌≡◌, ℕ, zero, suc, ◌+◌, ◌-◌, ◌<◌, Bool, true, false, ◌||◌}
+use Rattle.std.proofs.Common.{◌&&◌}
 use Rattle.std.proofs.Common.{List, [], ◌∷◌, ◌++◌, length, take, replicate, refl}
 use Rattle.std.proofs.Common.{sym, ap, ◌∙◌, subst, arith, append_assoc, length-append}
 use Rattle.std.proofs.lemmas.List.{append-nil, length-replicate}
@@ -12,20 +13,23 @@ use Rattle.rel_algebra.specs.Tree.{Assign, Comparing}
 use Rattle.rel_algebra.specs.Emit.{Emitted, Env as Reading, Place, assigning, at, given, nowhere}
 use Rattle.rel_algebra.specs.Emit.{outward, read, width}
 use Rattle.rel_algebra.specs.Joins.{places}
+use Rattle.rel_algebra.specs.Kinds.{NullKind, joined_kind}
+use Rattle.rel_algebra.specs.Plan.{coalesce_word}
 use Rattle.rel_algebra.specs.Kinds.{BooleanKind, DataKind, IntegerKind, Kinds, NullKind, agree}
 use Rattle.rel_algebra.specs.Kinds.{assigned_kind, kind_at, kinds_at, scalar_good}
 use Rattle.rel_algebra.specs.Kinds.{scalar_kind, scalars_good, table_widths}
 use Rattle.rel_algebra.specs.Kinds.{tree_good, tree_kinds, type_kind}
 use Rattle.rel_algebra.specs.Plan.{no_node, Scalar, Scalars, none, more, word, case_word, strict}
 use Rattle.rel_algebra.specs.Plan.{constant, extend, unit_row}
-use Rattle.rel_algebra.proofs.Laws.{and_true}
+use Rattle.rel_algebra.proofs.Truths.{and_true}
 use Rattle.rel_algebra.proofs.KindNodes.{PlanIs, Yields, after_grow, kinds_wider}
 use Rattle.rel_algebra.proofs.KindRows.{KindsGrow, first_kinds_columns, kinds_grow_at}
 use Rattle.rel_algebra.proofs.KindRows.{kinds_grow_by, kinds_grow_same, kinds_grow_trans}
 use Rattle.rel_algebra.proofs.KindRows.{kinds_grown_column, kinds_grown_columns}
 use Rattle.rel_algebra.proofs.KindWords.{HaveAll, agree_null, agree_turned, join_null, read_good}
 use Rattle.rel_algebra.specs.Bodies.{Without, With, Stmt, Compound, If, SearchedCase}
-use Rattle.rel_algebra.specs.Bodies.{SimpleCase, Set, SelectInto, Signal, Resignal, GetStatementItems}
+use Rattle.rel_algebra.specs.Bodies.{SimpleCase, Set, SelectInto, Signal, Resignal}
+use Rattle.rel_algebra.specs.Bodies.{GetStatementItems}
 use Rattle.rel_algebra.specs.Bodies.{GetConditionItems, Leave, Return, Stmts, NoStmt, MoreStmts}
 use Rattle.rel_algebra.specs.Bodies.{Branches, NoBranch, MoreBranches, Variables, NoVariable}
 use Rattle.rel_algebra.specs.Bodies.{MoreVariables, Handlers, NoHandler, MoreHandlers, Body}
@@ -35,32 +39,38 @@ use Rattle.rel_algebra.specs.BodyChain.{branching, not_found, equal_to, inside, 
 use Rattle.rel_algebra.specs.BodyChain.{ending, ending_width, whole_raise, variable_count}
 use Rattle.rel_algebra.specs.BodyChain.{has_default, null_scalars, emit, emit_all, emit_else}
 use Rattle.rel_algebra.specs.BodyChain.{emit_branches, emit_matching, emit_declares, coded, top}
-use Rattle.rel_algebra.specs.BodyChain.{raised_area, last_cell, first_cells, called_body, read_outward}
+use Rattle.rel_algebra.specs.BodyChain.{raised_area, last_cell, first_cells, called_body, of_type}
+use Rattle.rel_algebra.specs.BodyChain.{read_outward}
 use Rattle.rel_algebra.specs.BodyChain.{without_return_cell}
 use Rattle.rel_algebra.specs.BodyCompounds.{scopes_in}
 use Rattle.rel_algebra.specs.BodyDispatch.{Env, Emit, Coded, Codes, count, judging, raising_to}
-use Rattle.rel_algebra.specs.BodyDispatch.{scope_arms, scope_actions, whatever, action_env, dispatch}
+use Rattle.rel_algebra.specs.BodyDispatch.{scope_arms, scope_actions, whatever, action_env}
+use Rattle.rel_algebra.specs.BodyDispatch.{dispatch}
 use Rattle.rel_algebra.specs.BodyDispatch.{joins, handled}
-use Rattle.regions.specs.Kinds.{type_kinds}
+use Rattle.rel_algebra.specs.Kinds.{type_kinds}
 use Rattle.rel_algebra.specs.Leaves.{ValueLeaf}
 use Rattle.rel_algebra.specs.BodySteps.{Step, grow, fat, store, jump, only, two, col, tag, case_of}
 use Rattle.rel_algebra.specs.BodySteps.{code_is, steps_tree}
 use Rattle.rel_algebra.proofs.BodyBase.{both}
-use Rattle.regions.proofs.KindsBodies.{Yielded, again_goes, condition_goes, into_goes, one_at}
-use Rattle.regions.proofs.KindsBodies.{one_long, return_goes, set_goes, signal_goes}
-use Rattle.regions.proofs.KindsBodies.{statement_goes}
-use Rattle.regions.proofs.KindsHeld.{AllKinds, BranchesKinds, Gives, HandlersKinds, RoutineKinds}
-use Rattle.regions.proofs.KindsHeld.{StmtKinds, VariablesKinds, made_types}
-use Rattle.regions.proofs.KindsHandled.{CodesAre, EmitIs, HandlersAre, RestIs, area_stands}
-use Rattle.regions.proofs.KindsHandled.{arms_code, codes_on, dispatch_code, handled_goes}
-use Rattle.regions.proofs.KindsHandled.{joins_step, judging_are, raising_are, scope_arms_good}
-use Rattle.regions.proofs.KindsHandled.{scope_goes, stands_take}
-use Rattle.regions.proofs.KindsSteps.{AreAll, Around, Goes, Is, Stands, acts_are, after}
-use Rattle.regions.proofs.KindsSteps.{assigning_is, code_good, code_store, expr_is}
-use Rattle.regions.proofs.KindsSteps.{goes_append, jump_goes, kinds_at_append, more_are}
-use Rattle.regions.proofs.KindsSteps.{never_null, one_good, reading_kinds, same_agrees, stands_on}
-use Rattle.regions.proofs.KindsSteps.{steps_are, then_goes, two_are}
-use Rattle.regions.proofs.KindsSteps.{word_is}
+use Rattle.rel_algebra.proofs.BodyKindsStatements.{Yielded, again_goes, condition_goes, into_goes}
+use Rattle.rel_algebra.proofs.BodyKindsStatements.{one_at}
+use Rattle.rel_algebra.proofs.BodyKindsStatements.{one_long, return_goes, set_goes, signal_goes}
+use Rattle.rel_algebra.proofs.BodyKindsStatements.{statement_goes}
+use Rattle.rel_algebra.proofs.BodyKindsHeld.{AllKinds, BranchesKinds, Gives, HandlersKinds}
+use Rattle.rel_algebra.proofs.BodyKindsHeld.{RoutineKinds}
+use Rattle.rel_algebra.proofs.BodyKindsHeld.{StmtKinds, VariablesKinds, made_types}
+use Rattle.rel_algebra.proofs.BodyKindsHandled.{CodesAre, EmitIs, HandlersAre, RestIs, area_stands}
+use Rattle.rel_algebra.proofs.BodyKindsHandled.{arms_code, codes_on, dispatch_code, handled_goes}
+use Rattle.rel_algebra.proofs.BodyKindsHandled.{joins_step, judging_are, raising_are}
+use Rattle.rel_algebra.proofs.BodyKindsHandled.{scope_arms_good}
+use Rattle.rel_algebra.proofs.BodyKindsHandled.{scope_goes, stands_take}
+use Rattle.rel_algebra.proofs.BodyKindsSteps.{AreAll, Around, Goes, Is, Stands, acts_are, after}
+use Rattle.rel_algebra.proofs.BodyKindsSteps.{assigning_is, code_good, code_store, expr_is}
+use Rattle.rel_algebra.proofs.BodyKindsSteps.{goes_append, jump_goes, kinds_at_append, more_are}
+use Rattle.rel_algebra.proofs.BodyKindsSteps.{never_null, one_good, reading_kinds, same_agrees}
+use Rattle.rel_algebra.proofs.BodyKindsSteps.{stands_on}
+use Rattle.rel_algebra.proofs.BodyKindsSteps.{joined_takes, steps_are, then_goes, two_are}
+use Rattle.rel_algebra.proofs.BodyKindsSteps.{word_is}
 
 -- ---- tests
 
@@ -154,7 +164,7 @@ null_is A Integer q = (refl, refl)
 null_is A (Varchar n) q = (refl, refl)
 null_is A Boolean q = (refl, refl)
 
--- What a caller reads a parameter as, so that it has exactly the kind of its type.
+-- what a target of a type takes has the type's kind
 pub assigned_is : (A : Around) (t : SqlType) (s : Scalar) (q : Kinds) (k : DataKind) →
     Is A s q k → agree k (type_kind t) ≡ true → Is A (assigned_as t s) q (type_kind t)
 assigned_is A t s q k h g =
@@ -569,41 +579,55 @@ outward_kind (at level i) q ks ps = refl
 outward_kind (given i) q ks ps = refl
 outward_kind nowhere q ks ps = refl
 
-outward_are : (e : Reading) (i : ℕ) (ts : List SqlType) (ks : List Kinds) (ps : Kinds) →
-    ((j : ℕ) → j < length ts →
-    scalar_kind (read (e.params (i + j))) ks ps ≡ kind_at (type_kinds ts) j) →
-    HaveAll (read_outward e i (length ts)) ([] ∷ ks) ps (type_kinds ts)
-outward_are e i [] ks ps h = (refl, refl)
-outward_are e i (t ∷ ts) ks ps h =
-    let s = read (outward (e.params i)) in
-    let rest = outward_are e (suc i) ts ks ps
-    (λ j l. ap (λ (m : ℕ). scalar_kind (read (e.params m)) ks ps)
-    (let e1 : suc i + j ≡ i + suc j = omega arith in e1) ∙ h (suc j) (omega arith)) in (
-      both (λ (a : DataKind) (b : Kinds). a ∷ b) _ _ _ _
-          (outward_kind (e.params i) [] ks ps
-          ∙ (ap (λ (m : ℕ). scalar_kind (read (e.params m)) ks ps)
-          (let e0 : i ≡ i + 0 = omega arith in e0) ∙ h 0 (omega arith))) rest.0,
-      and_true (scalar_good s ([] ∷ ks) ps)
-          (scalars_good (read_outward e (suc i) (length ts)) ([] ∷ ks) ps)
-          (read_good (outward (e.params i)) ([] ∷ ks) ps) rest.1,
-    )
+-- a scalar, read as one of a type
+of_type_is : (A : Around) (t : SqlType) (s : Scalar) (q : Kinds) (k : DataKind) → Is A s q k →
+    agree k (type_kind t) ≡ true → Is A (of_type t s) q (type_kind t)
+of_type_is A t s q k h g =
+    let R = type_kind t in
+    let last : joined_kind R NullKind ≡ R = join_null R in
+    subst (λ (j : DataKind). Is A (of_type t s) q j)
+    (ap (joined_kind k) last ∙ joined_takes k t g)
+    (word_is A coalesce_word (two s (null_of t)) q (k ∷ R ∷ [])
+    (two_are A s (null_of t) q k R h (null_is A t q))
+    (and_true (agree k (joined_kind R NullKind)) (agree R NullKind && true)
+    (ap (agree k) last ∙ g) (and_true (agree R NullKind) true (agree_null R) refl)))
 
--- What a call emits has the kind of the result, where the environment's parameters have the kinds
--- of their types.
+outward_are : (A : Around) (e : Reading) (i : ℕ) (ts : List SqlType) →
+    ((j : ℕ) → j < length ts →
+    agree (scalar_kind (read (e.params (i + j))) A.outer A.args) (kind_at (type_kinds ts) j)
+    ≡ true) → AreAll A (read_outward e i ts) [] (type_kinds ts)
+outward_are A e i [] h = (refl, refl)
+outward_are A e i (t ∷ ts) h =
+    let p = e.params i in
+    let k = scalar_kind (read p) A.outer A.args in
+    more_are A (of_type t (read (outward p))) (read_outward e (suc i) ts) [] (type_kind t)
+    (type_kinds ts)
+    (of_type_is A t (read (outward p)) [] k
+    (outward_kind p [] A.outer A.args, read_good (outward p) ([] ∷ A.outer) A.args)
+    (ap (λ (m : ℕ). agree (scalar_kind (read (e.params m)) A.outer A.args) (type_kind t))
+    (let e0 : i ≡ i + 0 = omega arith in e0) ∙ h 0 (omega arith)))
+    (outward_are A e (suc i) ts
+    (λ j l. ap (λ (m : ℕ). agree (scalar_kind (read (e.params m)) A.outer A.args)
+    (kind_at (type_kinds ts) j)) (let e1 : suc i + j ≡ i + suc j = omega arith in e1)
+    ∙ h (suc j) (omega arith)))
+
+-- What a call emits has the kind of the result, where the types of the parameters take what the
+-- environment's parameters have.
 pub called_kinds : (types : List SqlType) (returns : SqlType) (body : Stmt)
     (T : List ℕ → Kinds) → RoutineKinds T (Body types returns body) →
     (e : Reading) (n : ℕ) (r : Kinds) (ks : List Kinds) (ps : Kinds) → length r ≡ n →
     ((j : ℕ) → j < length types →
-    scalar_kind (read (e.params j)) (r ∷ ks) ps ≡ kind_at (type_kinds types) j) →
+    agree (scalar_kind (read (e.params j)) (r ∷ ks) ps) (kind_at (type_kinds types) j) ≡ true) →
     Yields (called_body (Body types returns body) (table_widths T) e n) T r ks ps
     (type_kind returns)
 called_kinds types returns body T s e n r ks ps l h =
-    let k = length types in let params = read_outward e 0 k in let R = type_kind returns in
+    let A : Around = record { tables = T; outer = r ∷ ks; args = ps; returns = returns } in
+    let params = read_outward e 0 types in let R = type_kind returns in
     let inner = inline_with (Body types returns body) (table_widths T) params in
     let p = well_kinded types returns body T params (r ∷ ks) ps s
-    (outward_are e 0 types (r ∷ ks) ps
-    (λ j g. ap (λ (m : ℕ). scalar_kind (read (e.params m)) (r ∷ ks) ps)
-    (let e0 : 0 + j ≡ j = omega arith in e0) ∙ h j g)) in
+    (outward_are A e 0 types
+    (λ j g. ap (λ (m : ℕ). agree (scalar_kind (read (e.params m)) (r ∷ ks) ps)
+    (kind_at (type_kinds types) j)) (let e0 : 0 + j ≡ j = omega arith in e0) ∙ h j g)) in
     let one : kind_at (tree_kinds inner T (r ∷ ks) ps) 0 ∷ [] ≡ R ∷ [] =
     ap (λ (j : Kinds). kind_at j 0 ∷ []) p.1 in (
       and_true (tree_good inner T (r ∷ ks) ps) true p.0 refl,

@@ -1,25 +1,22 @@
 -- Whatever an expression or a query raises is an exception.
-use Rattle.std.proofs.Common.{◌≡◌, ℕ, Bool, true, false, cond, List, [], ◌∷◌, ◌++◌, refl, Ok, Err}
+use Rattle.std.proofs.Common.{ℕ, Bool, true, false, cond, List, [], ◌∷◌, ◌++◌, refl, Ok}
 use Rattle.std.proofs.Common.{Some, None}
 use Rattle.sql_values.specs.declared.value.Value.{Value}
 use Rattle.sql_values.specs.declared.value.Value.TheVariants.{Null, Bool as Truth}
 use Rattle.sql_values.specs.declared.value.SqlType.{SqlType}
-use Rattle.sql_values.specs.declared.value.ValueFault.{ValueFault}
-use Rattle.sql_values.specs.declared.value.ValueFault.TheVariants.{TooLong, OutOfRange, DivZero}
-use Rattle.sql_values.specs.declared.value.ValueFault.TheVariants.{BadCast, BadSubstring, NoMemory}
-use Rattle.sql_values.specs.Values.{Outcome, is_null, is_true, negation_of, remainder_of}
+use Rattle.sql_values.specs.Values.{is_null, is_true, negation_of, remainder_of}
 use Rattle.sql_values.specs.Texts.{substring_of}
 use Rattle.sql_values.specs.Casts.{assigned, cast_to}
 use Rattle.sql_values.specs.Operators.{applied}
 use Rattle.sql_values.specs.Folds.{folded}
-use Rattle.sql_conditions.specs.Conditions.{Area, area_of}
 use Rattle.row_types.specs.Rows.{Row}
 use Rattle.rel_algebra.specs.Tree.{Aggregate, And, Call, CallSelf, Case, CaseOf, Chain, Coalesce}
 use Rattle.rel_algebra.specs.Tree.{Column, Cross, Derived, Exists, Expr, Exprs, From, Returned}
 use Rattle.rel_algebra.specs.Tree.{Grouped, In, Inner, LeftOuter, Links, Literal, MoreExprs}
 use Rattle.rel_algebra.specs.Tree.{MoreLinks, MoreRows, NoExpr, NoLink, NoRow, Operate, Or, Ordered}
 use Rattle.rel_algebra.specs.Tree.{Query, Routine, Rows, Select, Single, Table, Values, Variable}
-use Rattle.rel_algebra.specs.Tree.{parameters_of, Operation, Negation, Arithmetic, Modulo}
+use Rattle.rel_algebra.specs.Tree.{Function, parameters_of, Operation, Negation, Arithmetic}
+use Rattle.rel_algebra.specs.Tree.{Modulo}
 use Rattle.rel_algebra.specs.Tree.{Substring, Cast, Assign, Opposite, Comparing, CharLength}
 use Rattle.rel_algebra.specs.Tree.{NullTest, TrueTest, FalseTest, AnyOf}
 use Rattle.rel_algebra.specs.Endings.{Ending, after, ending_of, equal_values, is_false, op_value}
@@ -31,38 +28,13 @@ use Rattle.rel_algebra.specs.Plain.{Inputs, Scope, answer, call, columns_in, eac
 use Rattle.rel_algebra.specs.Plain.{ev_and, ev_args, ev_case, ev_coalesce, ev_links, ev_or, ev_rows}
 use Rattle.rel_algebra.specs.Plain.{from_rows, holds, joined_row, kept_if, list_if, list_where}
 use Rattle.rel_algebra.specs.Plain.{within}
-use Rattle.rel_algebra.specs.States.{is_exception, state_in}
-use Rattle.rel_algebra.specs.World.{condition_of}
-
--- these conditions are those of an exception
-abbrev pub Excepts : Area → Type 0
-Excepts area = is_exception (state_in area) ≡ true
-
--- what raises at all raises an exception
-abbrev pub Fails : {A : Type 0} → Ending A → Type 0
-Fails (Ok a) = Unit {0}
-Fails (Err area) = Excepts area
-
-pub fails_after : {A B : Type 0} (e : Ending A) (go : A → Ending B) → Fails e →
-    ((a : A) → Fails (go a)) → Fails (after e go)
-fails_after (Ok a) go h k = k a
-fails_after (Err area) go h k = h
+use Rattle.rel_algebra.specs.Bodies as body
+use Rattle.rel_algebra.specs.Plain.{stmt_meant}
+use Rattle.rel_algebra.proofs.BodyRaises.{Fails, body_fails, ending_fails, fails_after}
 
 fails_if : {A : Type 0} (b : Bool) (e d : Ending A) → Fails e → Fails d → Fails (cond b e d)
 fails_if true e d h k = h
 fails_if false e d h k = k
-
-fault_excepts : (fault : ValueFault) → Excepts (area_of (condition_of fault))
-fault_excepts TooLong = refl
-fault_excepts OutOfRange = refl
-fault_excepts DivZero = refl
-fault_excepts BadCast = refl
-fault_excepts BadSubstring = refl
-fault_excepts NoMemory = refl
-
-pub ending_fails : (o : Outcome) → Fails (ending_of o)
-ending_fails (Ok v) = tt
-ending_fails (Err fault) = fault_excepts fault
 
 op_fails : (op : Operation) (vs : List Value) → Fails (op_value op vs)
 op_fails Negation (x ∷ []) = ending_fails (negation_of x)
@@ -195,6 +167,8 @@ mutual
   call_fails (Returned types returns e) vs w =
       fails_after (ev e w (record { rows = []; params = vs })) _
       (ev_fails e w (record { rows = []; params = vs })) (λ v. ending_fails (assigned returns v))
+  call_fails (Function false types returns false statement) vs w =
+      body_fails (body.Body types returns (stmt_meant statement)) vs w
   call_fails _ vs w = tt
 
   holds_fails : (tests : Exprs) (w : Inputs) (f : Scope) → Fails (holds tests w f)

@@ -16,7 +16,7 @@ use Rattle.rel_algebra.specs.Kinds.{tree_kinds, type_kind, way_good, word_good, 
 use Rattle.rel_algebra.specs.Plan.{Nodes, no_node, extend_by, apply_by, Scalar, Scalars, none, more}
 use Rattle.rel_algebra.specs.Plan.{word, Word, and_word, case_word, PlanTree, extend, keep}
 use Rattle.rel_algebra.specs.Plan.{on_each, Way, anew, once, lookup}
-use Rattle.rel_algebra.proofs.Laws.{and_true, left_true, right_true}
+use Rattle.rel_algebra.proofs.Truths.{and_true, left_true, right_true}
 use Rattle.rel_algebra.proofs.KindNodes.{KindsRead, PlanIs, Yields, after_grow, after_join}
 use Rattle.rel_algebra.proofs.KindNodes.{good_join, kinds_wider, on_each_is}
 use Rattle.rel_algebra.proofs.KindRows.{KindsGrow, first_kinds_columns}
@@ -25,13 +25,15 @@ use Rattle.rel_algebra.proofs.KindWords.{Has, HaveAll, all_values_has, assigning
 use Rattle.rel_algebra.specs.BodyChain.{place_at, column_at, reading, emitted, with_column}
 use Rattle.rel_algebra.specs.BodyChain.{with_columns}
 use Rattle.rel_algebra.specs.BodyDispatch.{Env}
-use Rattle.regions.specs.Kinds.{Tables, type_kinds}
+use Rattle.rel_algebra.specs.Kinds.{Tables, type_kinds}
 use Rattle.rel_algebra.specs.Leaves.{ValueLeaf}
-use Rattle.rel_algebra.specs.BodySteps.{asked_when, Step, grow, fat, Store, store, steps_tree, is_sure}
-use Rattle.rel_algebra.specs.BodySteps.{asked_at, code_is, case_of, guarded, placed, acts, jump, only, two}
+use Rattle.rel_algebra.specs.BodySteps.{asked_when, Step, grow, fat, Store, store, steps_tree}
+use Rattle.rel_algebra.specs.BodySteps.{is_sure}
+use Rattle.rel_algebra.specs.BodySteps.{asked_at, code_is, case_of, guarded, placed, acts, jump}
+use Rattle.rel_algebra.specs.BodySteps.{only, two}
 use Rattle.rel_algebra.specs.BodySteps.{col, tag}
 use Rattle.rel_algebra.proofs.BodyBase.{both}
-use Rattle.regions.proofs.KindsHeld.{ValueKinds}
+use Rattle.rel_algebra.proofs.BodyKindsHeld.{ValueKinds}
 
 -- the kinds of the tables, of the rows outside and of the arguments, and the type of the result
 pub record Around : Type 0 where

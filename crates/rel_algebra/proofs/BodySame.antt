@@ -14,14 +14,14 @@ use Rattle.rel_algebra.specs.World as worlds
 use Rattle.rel_algebra.specs.World.{World, Ends, Eval, Raises, unit_of, with_tables}
 use Rattle.rel_algebra.specs.Doing as doing
 use Rattle.rel_algebra.specs.Handlers as handlers
-use Rattle.regions.specs.Tree.{Target}
+use Rattle.rel_algebra.specs.Bodies.{Target}
 use Rattle.rel_algebra.specs.BodyDoing.{Frame, Outcome, Next, Leaving, Returning, Exiting, Raising}
 use Rattle.rel_algebra.specs.BodyDoing.{End, Doing, ends, in_turn, next_or, outside, storing}
 use Rattle.rel_algebra.specs.BodyDoing.{take_values}
 use Rattle.rel_algebra.specs.BodyHandlers.{Handling, Scope, Scopes, act_by, best_here, covers_it}
 use Rattle.rel_algebra.specs.BodyHandlers.{names_it, first_with, or_else, raising, unhandled}
 use Rattle.rel_algebra.specs.BodyHandlers.{with_best, with_end, with_value}
-use Rattle.regions.proofs.Exceptions.{Excepts, Fails, ending_fails, fails_after}
+use Rattle.rel_algebra.proofs.BodyRaises.{Excepts, Fails, Told, ending_fails, fails_after}
 
 -- the same outcome among all outcomes
 abbrev pub outcome_of : Outcome → doing.Outcome
@@ -30,14 +30,6 @@ outcome_of (Leaving l) = doing.Leaving l
 outcome_of (Returning v) = doing.Returning v
 outcome_of (Exiting l area) = doing.Exiting l area
 outcome_of (Raising area) = doing.Raising area
-
--- what is raised is an exception
-abbrev pub Told : Outcome → Type 0
-Told Next = Unit {0}
-Told (Leaving l) = Unit {0}
-Told (Returning v) = Unit {0}
-Told (Exiting l area) = Unit {0}
-Told (Raising area) = Excepts area
 
 -- the same end, in this world
 pub record Same (w : World) (e : doing.End) (p : End) : Type 0 where

@@ -1,10 +1,10 @@
 -- Which plain words the words of the code stand for.
-use Rattle.plan_conditions.specs.declared.word.ConditionValue.{ConditionValue as ValueCode}
-use Rattle.plan_conditions.specs.declared.word.ConditionValue.TheVariants as waited
-use Rattle.plan_conditions.specs.declared.word.ConditionWord.{ConditionWord as WordCode}
-use Rattle.plan_conditions.specs.declared.word.ConditionWord.TheVariants as word
-use Rattle.plan_conditions.specs.declared.word.ItemWord.{ItemWord as ItemCode}
-use Rattle.plan_conditions.specs.declared.word.ItemWord.TheVariants as item
+use Rattle.rel_algebra.specs.declared.condition_word.ConditionValue.{ConditionValue as ValueCode}
+use Rattle.rel_algebra.specs.declared.condition_word.ConditionValue.TheVariants as waited
+use Rattle.rel_algebra.specs.declared.condition_word.ConditionWord.{ConditionWord as WordCode}
+use Rattle.rel_algebra.specs.declared.condition_word.ConditionWord.TheVariants as word
+use Rattle.rel_algebra.specs.declared.condition_word.ItemWord.{ItemWord as ItemCode}
+use Rattle.rel_algebra.specs.declared.condition_word.ItemWord.TheVariants as item
 use Rattle.rel_algebra.specs.OnConditions.{ConditionWord, ItemWord, catch_word, class_word}
 use Rattle.rel_algebra.specs.OnConditions.{item_word as item_of_word, matches_word, number_word}
 use Rattle.rel_algebra.specs.OnConditions.{push_word, raise_word, retext_word, state_item}

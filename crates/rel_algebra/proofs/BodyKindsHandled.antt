@@ -13,24 +13,27 @@ use Rattle.rel_algebra.specs.Kinds.{case_good, kind_at, kinds_at, results_kind}
 use Rattle.rel_algebra.specs.Kinds.{scalars_good, scalars_kinds, tests_good, type_kind}
 use Rattle.rel_algebra.specs.Plan.{Nodes, no_node, Scalar, Scalars, none, more, word, case_word}
 use Rattle.rel_algebra.specs.Plan.{strict}
-use Rattle.rel_algebra.proofs.Laws.{and_true}
+use Rattle.rel_algebra.proofs.Truths.{and_true}
 use Rattle.rel_algebra.proofs.KindNodes.{after_grow, kinds_wider}
 use Rattle.rel_algebra.proofs.KindRows.{KindsGrow, first_kinds_columns, kinds_grow_by}
 use Rattle.rel_algebra.proofs.KindRows.{kinds_grow_trans}
 use Rattle.rel_algebra.specs.Bodies.{HandlerType, Continue, Exit, Undo}
 use Rattle.rel_algebra.specs.BodyChain.{Rest, one_raise, one_step, with_column}
 use Rattle.rel_algebra.specs.BodyDispatch.{Env, Emit, Coded, Codes, count, is_value, area_in}
-use Rattle.rel_algebra.specs.BodyDispatch.{named_tests, general_tests, arm, named_arms, general_arms}
-use Rattle.rel_algebra.specs.BodyDispatch.{scope_arms, aimed, dispatch, code_or, judging, raising_to}
+use Rattle.rel_algebra.specs.BodyDispatch.{named_tests, general_tests, arm, named_arms}
+use Rattle.rel_algebra.specs.BodyDispatch.{general_arms}
+use Rattle.rel_algebra.specs.BodyDispatch.{scope_arms, aimed, dispatch, code_or, judging}
+use Rattle.rel_algebra.specs.BodyDispatch.{raising_to}
 use Rattle.rel_algebra.specs.BodyDispatch.{store_if, action_env, if_continue, scope_actions}
 use Rattle.rel_algebra.specs.BodyDispatch.{actions, has_continue, tags, joins, handled}
-use Rattle.regions.specs.Kinds.{type_kinds}
+use Rattle.rel_algebra.specs.Kinds.{type_kinds}
 use Rattle.rel_algebra.specs.BodySteps.{Step, grow, Store, store, case_of, only, col, tag}
-use Rattle.regions.proofs.KindsSteps.{Around, Goes, Good, Is, Stands, StepIs, StoreIs}
-use Rattle.regions.proofs.KindsSteps.{StoresAre, after, case_is, code_store, goes_append}
-use Rattle.regions.proofs.KindsSteps.{joined_takes, kind_grows, more_are, one_after, one_good}
-use Rattle.regions.proofs.KindsSteps.{placed_kinds, same_agrees, stands_on}
-use Rattle.regions.proofs.KindsSteps.{stores_append, then_goes, word_is}
+use Rattle.rel_algebra.proofs.BodyKindsSteps.{Around, Goes, Good, Is, Stands, StepIs, StoreIs}
+use Rattle.rel_algebra.proofs.BodyKindsSteps.{StoresAre, after, case_is, code_store, goes_append}
+use Rattle.rel_algebra.proofs.BodyKindsSteps.{joined_takes, kind_grows, more_are, one_after}
+use Rattle.rel_algebra.proofs.BodyKindsSteps.{one_good}
+use Rattle.rel_algebra.proofs.BodyKindsSteps.{placed_kinds, same_agrees, stands_on}
+use Rattle.rel_algebra.proofs.BodyKindsSteps.{stores_append, then_goes, word_is}
 
 -- ---- dispatch
 

@@ -17,13 +17,13 @@ use Rattle.rel_algebra.specs.OnConditions.{state_item, ItemWord}
 use Rattle.rel_algebra.specs.Plan.{Nodes, no_node, extend_by, apply_by, Scalar, Scalars, none, more}
 use Rattle.rel_algebra.specs.Plan.{on_condition, constant, PlanTree, into}
 use Rattle.rel_algebra.specs.Plan.{aggregate, anew}
-use Rattle.rel_algebra.proofs.Laws.{and_true}
+use Rattle.rel_algebra.proofs.Truths.{and_true}
 use Rattle.rel_algebra.proofs.KindNodes.{Yields, after_grow, after_join}
 use Rattle.rel_algebra.proofs.KindNodes.{after_long, aggregates_long, good_join}
 use Rattle.rel_algebra.proofs.KindNodes.{kinds_wider}
 use Rattle.rel_algebra.proofs.KindRows.{KindsGrow, first_kinds_columns, kinds_grow_by}
 use Rattle.rel_algebra.proofs.KindRows.{kinds_grow_same, kinds_grow_trans, kinds_grown_column}
-use Rattle.rel_algebra.proofs.KindTrees.{FoldIs}
+use Rattle.rel_algebra.proofs.KindNodes.{FoldIs}
 use Rattle.rel_algebra.proofs.KindWords.{if_values_has}
 use Rattle.rel_algebra.specs.Bodies.{word_of, Target, Perhaps, Without, With, StatementItem, Number}
 use Rattle.rel_algebra.specs.Bodies.{RowCount, StatementRead, ConditionRead}
@@ -36,17 +36,19 @@ use Rattle.rel_algebra.specs.BodyChain.{perhaps_emitted, again, emit_signal}
 use Rattle.rel_algebra.specs.BodyChain.{emit_again, statement_cell, statement_cells, item_cell}
 use Rattle.rel_algebra.specs.BodyChain.{emit_statement_items, condition_cells, emit_condition_items}
 use Rattle.rel_algebra.specs.BodyDispatch.{Env, Codes, store_if}
-use Rattle.regions.specs.Kinds.{AllTaken, EachTaken, Taken}
+use Rattle.rel_algebra.specs.Kinds.{AllTaken, EachTaken, Taken}
 use Rattle.rel_algebra.specs.Leaves.{QueryLeaf, ValueLeaf}
 use Rattle.rel_algebra.specs.BodySteps.{two, col, tag}
-use Rattle.regions.proofs.KindsHeld.{Gives, PerhapsGives, Selects, Sets}
-use Rattle.regions.proofs.KindsHandled.{CodesAre, EmitIs, if_store, one_goes}
-use Rattle.regions.proofs.KindsHandled.{raise_goes}
-use Rattle.regions.proofs.KindsSteps.{AreAll, Around, Goes, Good, Is, Stands, StoresAre, after}
-use Rattle.regions.proofs.KindsSteps.{assigned_agrees, assigning_is, column_is, expr_is}
-use Rattle.regions.proofs.KindsSteps.{more_after, more_are, more_good}
-use Rattle.regions.proofs.KindsSteps.{one_after, one_good, reading_kinds, slot_is, stands_on}
-use Rattle.regions.proofs.KindsSteps.{two_are, word_is}
+use Rattle.rel_algebra.proofs.BodyKindsHeld.{Gives, PerhapsGives, Selects, Sets}
+use Rattle.rel_algebra.proofs.BodyKindsHandled.{CodesAre, EmitIs, if_store, one_goes}
+use Rattle.rel_algebra.proofs.BodyKindsHandled.{raise_goes}
+use Rattle.rel_algebra.proofs.BodyKindsSteps.{AreAll, Around, Goes, Good, Is, Stands, StoresAre}
+use Rattle.rel_algebra.proofs.BodyKindsSteps.{after}
+use Rattle.rel_algebra.proofs.BodyKindsSteps.{assigned_agrees, assigning_is, column_is, expr_is}
+use Rattle.rel_algebra.proofs.BodyKindsSteps.{more_after, more_are, more_good}
+use Rattle.rel_algebra.proofs.BodyKindsSteps.{one_after, one_good, reading_kinds, slot_is}
+use Rattle.rel_algebra.proofs.BodyKindsSteps.{stands_on}
+use Rattle.rel_algebra.proofs.BodyKindsSteps.{two_are, word_is}
 
 -- ---- columns that nodes add
 

@@ -6,7 +6,7 @@ use Rattle.rel_algebra.specs.Emit.{Env}
 use Rattle.rel_algebra.specs.Kinds.{BooleanKind, DataKind, IntegerKind, Kinds, TextKind, agree}
 use Rattle.rel_algebra.specs.Kinds.{table_widths, type_kind}
 use Rattle.rel_algebra.proofs.KindNodes.{KindsAgree, KindsRead, PlanIs, Yields}
-use Rattle.rel_algebra.proofs.KindTrees.{FoldIs}
+use Rattle.rel_algebra.proofs.KindNodes.{FoldIs}
 use Rattle.rel_algebra.specs.Bodies.{Perhaps, Without, With, Variables, NoVariable, MoreVariables}
 use Rattle.rel_algebra.specs.Bodies.{Target, Stmt, Compound, If, SearchedCase, SimpleCase, Set}
 use Rattle.rel_algebra.specs.Bodies.{SelectInto, Signal, Resignal, GetStatementItems}
@@ -14,7 +14,7 @@ use Rattle.rel_algebra.specs.Bodies.{GetConditionItems, Leave, Return, Stmts, No
 use Rattle.rel_algebra.specs.Bodies.{Branches, NoBranch, MoreBranches, Handlers, NoHandler}
 use Rattle.rel_algebra.specs.Bodies.{MoreHandlers, Routine, Body}
 use Rattle.rel_algebra.specs.BodyMeaning.{statement_targets, condition_targets}
-use Rattle.regions.specs.Kinds.{AllTaken, EachTaken, Tables, Taken, type_kinds}
+use Rattle.rel_algebra.specs.Kinds.{AllTaken, EachTaken, Tables, Taken, type_kinds}
 use Rattle.rel_algebra.specs.Leaves.{QueryLeaf, ValueLeaf}
 
 -- an expression's columns and scalar, where the variables in sight have these kinds

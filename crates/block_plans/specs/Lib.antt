@@ -1,0 +1,4 @@
+pub mod Callees
+pub mod View
+pub mod Blocks
+pub mod Laws

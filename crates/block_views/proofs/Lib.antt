@@ -1,0 +1,4 @@
+pub mod Layers
+pub mod Agreeing
+pub mod Running
+pub mod Laws
