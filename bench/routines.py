@@ -1,5 +1,5 @@
-"""The work of routines, for the program in SQL/PSM and for PostgreSQL in PL/pgSQL: what is made first, and the statement that is
-timed, both by a number n. A statement may be run several times over what was made."""
+"""The work of routines, for the program in SQL/PSM, for PostgreSQL in PL/pgSQL, and some of it for MariaDB in its own SQL/PSM: what is made
+first, and the statement that is timed, both by a number n. A statement may be run several times over what was made."""
 
 KEYED = 20_000  # rows of the table that is changed by its key
 ASKED = 1_000  # rows of the tables that a query in a loop asks
@@ -70,36 +70,71 @@ def updates_by_key(n):
 
 
 class Work:
-    """What is timed, how many rounds, calls or rows it has, and how it is written for each."""
+    """What is timed, how many rounds, calls or rows it has, and how it is written for each system, by its name. In a query of functions
+    in form the bodies stand in a plan, and the same is timed row by row."""
 
-    def __init__(self, name, n, made, statement, pg_made, pg_statement):
+    def __init__(self, name, n, made, statement, pg_made, pg_statement, maria=None, in_form=False):
         self.name = name
         self.n = n
         self.made = made
         self.statement = statement
-        self.pg_made = pg_made
-        self.pg_statement = pg_statement
+        self.others = {"PostgreSQL": (pg_made, pg_statement)}
+        if maria is not None:
+            self.others["MariaDB"] = maria
+        self.in_form = in_form
 
 
-SAFE = (
-    "CREATE FUNCTION safe (x INTEGER) RETURNS INTEGER BEGIN DECLARE EXIT HANDLER FOR SQLSTATE '22012' RETURN -1;\n"
-    "RETURN 100 / x; END;\n"
-)
+def valued(value):
+    """A table of n rows of these values."""
+    made = "CREATE TABLE t (k INTEGER PRIMARY KEY, a INTEGER);\n"
+    return lambda n: made + "INSERT INTO t VALUES " + ",".join(f"({i},{value(i)})" for i in range(n)) + ";\n"
+
+
+def called(name, value, function, body, pg_body, maria_body):
+    """A function of x that is called for each of n rows of these values, by its body for each system."""
+    filled = valued(value)
+    ours = f"CREATE FUNCTION {function} (x INTEGER) RETURNS INTEGER BEGIN {body} END;\n"
+    pg = pg_routine("FUNCTION", f"{function} (x BIGINT) RETURNS BIGINT", pg_body)
+    maria = f"DELIMITER //\nCREATE FUNCTION {function} (x BIGINT) RETURNS BIGINT BEGIN {maria_body} END //\nDELIMITER ;\n"
+    asked = fixed(f"SELECT SUM({function}(a)) FROM t;\n")
+    return Work(
+        f"rows of {name}",
+        100_000,
+        lambda n: filled(n) + ours,
+        asked,
+        lambda n: filled(n) + pg,
+        fixed(f"SELECT SUM(pg_temp.{function}(a)) FROM t;\n"),
+        maria=(lambda n: filled(n) + maria, asked),
+        in_form=True,
+    )
 
 
 def handled(raising, value):
-    """A function whose EXIT handler is taken where x is 0, called for each of n rows of these values."""
-    made = "CREATE TABLE t (k INTEGER PRIMARY KEY, a INTEGER);\n"
-    filled = lambda n: made + "INSERT INTO t VALUES " + ",".join(f"({i},{value(i)})" for i in range(n)) + ";\n"
-    pg = pg_routine("FUNCTION", "safe (x BIGINT) RETURNS BIGINT", "RETURN 100 / x; EXCEPTION WHEN division_by_zero THEN RETURN -1;")
-    return Work(
-        f"rows of a function with an EXIT handler, of which {raising} raise",
-        100_000,
-        lambda n: filled(n) + SAFE,
-        fixed("SELECT SUM(safe(a)) FROM t;\n"),
-        lambda n: filled(n) + pg,
-        fixed("SELECT SUM(pg_temp.safe(a)) FROM t;\n"),
+    """A function whose EXIT handler is taken where x is 0. MariaDB has no exception there, and is told to raise one."""
+    return called(
+        f"a function with an EXIT handler, of which {raising} raise",
+        value,
+        "safe",
+        "DECLARE EXIT HANDLER FOR SQLSTATE '22012' RETURN -1; RETURN 100 / x;",
+        "RETURN 100 / x; EXCEPTION WHEN division_by_zero THEN RETURN -1;",
+        "DECLARE EXIT HANDLER FOR SQLSTATE '22012' RETURN -1; IF x = 0 THEN SIGNAL SQLSTATE '22012'; END IF; RETURN 100 DIV x;",
     )
+
+
+STEPS = "DECLARE y {0} DEFAULT x; DECLARE z {0} DEFAULT 50; IF y > z THEN SET y = y - z; END IF; RETURN y;"
+PG_STEPS = "DECLARE y BIGINT := x; z BIGINT := 50; BEGIN IF y > z THEN y := y - z; END IF; RETURN y; END;"
+
+NESTED = (
+    "DECLARE y {0} DEFAULT 1; DECLARE EXIT HANDLER FOR SQLEXCEPTION RETURN -1;\n"
+    "BEGIN DECLARE CONTINUE HANDLER FOR SQLSTATE '22012' SET y = y + 1; DECLARE EXIT HANDLER FOR SQLSTATE '45000' SET y = y + 2;\n"
+    "BEGIN DECLARE EXIT HANDLER FOR SQLSTATE '22018' SET y = 0; {1} IF x = 3 THEN SIGNAL SQLSTATE '45000'; END IF; SET y = y + x; END;\n"
+    "SET y = y * 2; END; RETURN y;"
+)
+PG_NESTED = (
+    "DECLARE y BIGINT := 1; BEGIN BEGIN BEGIN BEGIN y := 100 / x; EXCEPTION WHEN division_by_zero THEN y := y + 1; END;\n"
+    "IF x = 3 THEN RAISE SQLSTATE '45000'; END IF; y := y + x; EXCEPTION WHEN SQLSTATE '22018' THEN y := 0; END;\n"
+    "y := y * 2; EXCEPTION WHEN SQLSTATE '45000' THEN y := y + 2; END; RETURN y; EXCEPTION WHEN OTHERS THEN RETURN -1; END;"
+)
 
 
 ROUTINES = [
@@ -247,9 +282,25 @@ ROUTINES = [
         fixed(rows(KEYED)),
         updates_by_key,
     ),
+    called(
+        "a function with two variables, an IF and a SET",
+        lambda i: i % 97,
+        "steps",
+        STEPS.format("INTEGER"),
+        PG_STEPS,
+        STEPS.format("BIGINT"),
+    ),
     handled("none", lambda i: 1 + i % 9),
     handled("a tenth", lambda i: i % 10),
     handled("all", lambda i: 0),
+    called(
+        "a function with three nested compound statements and four handlers",
+        lambda i: i % 10,
+        "nested",
+        NESTED.format("INTEGER", "SET y = 100 / x;"),
+        PG_NESTED,
+        NESTED.format("BIGINT", "IF x = 0 THEN SIGNAL SQLSTATE '22012'; ELSE SET y = 100 DIV x; END IF;"),
+    ),
 ]
 
 
@@ -282,4 +333,36 @@ PAIRS = [
         atomic_inserts("DECLARE UNDO HANDLER FOR SQLEXCEPTION BEGIN END;", ""),
         2.0,
     ),
+]
+
+
+HEAVY = 4_096  # the greatest weight of a body that has a plan
+
+
+def of_statements(name, weight):
+    """A body of one statement after the other."""
+    return f"CREATE FUNCTION {name} (x INTEGER) RETURNS INTEGER BEGIN DECLARE r INTEGER DEFAULT x;\n" + "SET r = r + 1;\n" * (weight - 2) + "RETURN r; END;\n"
+
+
+def of_handlers(name, levels):
+    """A body whose one statement stands in so many compound statements with a handler each, and so weighs 2 to that."""
+    first = "BEGIN DECLARE EXIT HANDLER FOR SQLEXCEPTION RETURN -x;\n"
+    rest = "".join(f"BEGIN DECLARE EXIT HANDLER FOR SQLSTATE '450{i + 1:02}' RESIGNAL SQLSTATE '450{i:02}';\n" for i in range(2, levels))
+    last = "BEGIN DECLARE EXIT HANDLER FOR SQLSTATE '22012' RESIGNAL SQLSTATE '450" + f"{levels:02}';\n"
+    return f"CREATE FUNCTION {name} (x INTEGER) RETURNS INTEGER\n{first}{rest}{last}RETURN 100 / x; " + "END; " * levels + "\n"
+
+
+def of_calls(name, times):
+    """Eight functions of which each calls the one below so many times: they weigh 1, 2, 5, 21, 85, 341, 1365 and 4096."""
+    text = f"CREATE FUNCTION {name}1 (x INTEGER) RETURNS INTEGER BEGIN RETURN 100 / x; END;\n"
+    for i, n in enumerate(times, 2):
+        calls = " + ".join([f"{name}{i - 1}(x)"] * n)
+        text += f"CREATE FUNCTION {name}{i if i < 8 else ''} (x INTEGER) RETURNS INTEGER BEGIN RETURN {calls}; END;\n"
+    return text
+
+
+HEAVIEST = [
+    ("statements", lambda name: of_statements(name, HEAVY), lambda name: of_statements(name, HEAVY // 10)),
+    ("handlers", lambda name: of_handlers(name, 12), None),
+    ("calls", lambda name: of_calls(name, [1, 2, 4, 4, 4, 4, 3]), None),
 ]

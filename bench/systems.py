@@ -19,7 +19,6 @@ class Sqlite:
     after commas."""
 
     name = "sqlite3"
-    has_routines = False
 
     def __enter__(self):
         if shutil.which("sqlite3") is None:
@@ -38,7 +37,6 @@ class PostgreSQL:
     """A PostgreSQL server of its own, in a folder that goes when it is done. Tables are temporary."""
 
     name = "PostgreSQL"
-    has_routines = True
 
     def __enter__(self):
         found = sorted(glob.glob("/usr/lib/postgresql/*/bin"))
@@ -67,3 +65,42 @@ class PostgreSQL:
         script = script.replace(b"CREATE FUNCTION f (x INTEGER) RETURNS INTEGER RETURN", b"CREATE FUNCTION pg_temp.f (x BIGINT) RETURNS BIGINT LANGUAGE SQL IMMUTABLE RETURN")
         script = script.replace(b"f(a)", b"pg_temp.f(a)").replace(b"INTEGER", b"BIGINT")
         return timed(["psql", "-q", "-v", "ON_ERROR_STOP=1", "-h", self.folder, "-U", "bench", "postgres"], script, **self.options)
+
+
+class MariaDB:
+    """A MariaDB server of its own, in a folder that goes when it is done. Each script has a new database; tables are temporary. It is given
+    routines alone."""
+
+    name = "MariaDB"
+
+    def __enter__(self):
+        server = shutil.which("mariadbd")
+        if server is None or shutil.which("mariadb") is None or shutil.which("mariadb-install-db") is None:
+            raise OSError("no MariaDB server")
+        self.folder = tempfile.mkdtemp()
+        data = os.path.join(self.folder, "data")
+        self.socket = os.path.join(self.folder, "socket")
+        common = ["--no-defaults", f"--basedir={os.path.dirname(os.path.dirname(server))}", f"--datadir={data}"]
+        quiet = {"stdout": subprocess.DEVNULL, "stderr": subprocess.DEVNULL}
+        user = ["--user=root"] if os.getuid() == 0 else []
+        install = ["mariadb-install-db", *common, *user, "--auth-root-authentication-method=normal", "--skip-test-db"]
+        subprocess.run(install, check=True, **quiet)
+        self.process = subprocess.Popen([server, *common, *user, f"--socket={self.socket}", "--skip-networking"], **quiet)
+        for _ in range(300):
+            if subprocess.run([*self.client(), "-e", "SELECT 1"], **quiet).returncode == 0:
+                return self
+            time.sleep(0.1)
+        self.__exit__()
+        raise OSError("a MariaDB server that does not answer")
+
+    def __exit__(self, *_):
+        self.process.terminate()
+        self.process.wait()
+        shutil.rmtree(self.folder)
+
+    def client(self):
+        return ["mariadb", "--no-defaults", f"--socket={self.socket}", "-u", "root"]
+
+    def run(self, text):
+        script = text.replace(b"CREATE TABLE", b"CREATE TEMPORARY TABLE").replace(b"INTEGER", b"BIGINT")
+        return timed(self.client(), b"DROP DATABASE IF EXISTS bench; CREATE DATABASE bench; USE bench;\n" + script)

@@ -10,7 +10,8 @@ use Rattle.std.proofs.lemmas.Bool.{eq-eqb, ne_eqb}
 use Rattle.std.proofs.lemmas.Slice.Eq.{bytes_eq-Decides}
 use Rattle.indexmap.specs.IndexMap.{insert_entry}
 use Rattle.rel_algebra.specs.Emit.{Emitted, emit_body, top}
-use Rattle.rel_algebra.specs.Tree.{Routine, parameters_of}
+use Rattle.rel_algebra.specs.Plain.{as_many, planned_routine}
+use Rattle.rel_algebra.specs.Tree.{Returned, Routine, parameters_of}
 use Rattle.catalog_store.specs.Catalog.{Catalog, routine_named}
 use Rattle.catalog_store.specs.Kept.{HasPlan}
 use Rattle.catalog_store.specs.Widths.{width_in}
@@ -108,6 +109,11 @@ other_run known bs name n b h e other =
     (ne_eqb n (length (parameters_of (routines_of known name)))
     (λ q. other (ap length there.0.parameters ∙ sym q)))
 
+-- so many values are as many as a routine of so many parameters takes
+taken : (r : Routine) (n : ℕ) → nat_eq n (length (parameters_of r)) ≡ true → as_many r n ≡ true
+taken (Returned types returns x) n h = refl
+taken _ n h = h
+
 pub block_run : (known : Catalog) (bs : List (List ℕ × BlockPlan)) (name : List ℕ) (n : ℕ)
     (b : BlockPlan) → AreBlocks known bs → lookup (bytes_eq name) bs ≡ Some b →
     length b.parameters ≡ n → IsRun (seen_by known bs) name n b
@@ -118,6 +124,12 @@ block_run known bs name n b h e many =
     (eq-eqb n (length (parameters_of (routines_of known name)))
     (sym many ∙ ap length there.0.parameters)) in
     record {
+      planned = ap planned_routine runs ∙ there.0.planned;
+      takes =
+          ap (λ (r : Routine). as_many r n) runs
+          ∙ taken (routines_of known name) n
+          (eq-eqb n (length (parameters_of (routines_of known name)))
+          (sym many ∙ ap length there.0.parameters));
       parameters = there.0.parameters ∙ ap parameters_of (sym runs);
       plan = subst (HasPlan b.plan)
           (λ i. emit_body (sym runs i) (width_in known) (top (many i)) 0) there.0.plan;

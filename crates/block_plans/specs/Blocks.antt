@@ -4,7 +4,7 @@ use Rattle.std.specs.Prelude.{Some, None}
 use Rattle.std.specs.Borrow.{Bor}
 use Rattle.std.specs.Str.{bytes_eq}
 use Rattle.rel_algebra.specs.Emit.{emit_body, top}
-use Rattle.rel_algebra.specs.Plain.{planned_routine}
+use Rattle.rel_algebra.specs.Plain.{as_many, planned_routine}
 use Rattle.rel_algebra.specs.Tree.{parameters_of}
 use Rattle.catalog_store.specs.Catalog.{Catalog}
 use Rattle.catalog_store.specs.Kept.{HasPlan}
@@ -34,8 +34,11 @@ abbrev pub with_name : List ℕ → List (List ℕ) → List (List ℕ)
 with_name name [] = name ∷ []
 with_name name (n ∷ ns) = if bytes_eq name n then n ∷ ns else n ∷ with_name name ns
 
--- what is known of the block that a call with so many arguments runs
+-- what is known of the block that a call with so many arguments runs: it has a plan and takes as
+-- many
 pub record IsRun (k : Callees) (name : List ℕ) (n : ℕ) (b : BlockPlan) : Type 0 where
+  pub planned : planned_routine (callee k name n) ≡ true
+  pub takes : as_many (callee k name n) n ≡ true
   pub parameters : b.parameters ≡ parameters_of (callee k name n)
   pub plan : HasPlan b.plan (emit_body (callee k name n) (width_in k) (top n) 0)
 

@@ -3,15 +3,14 @@
 //! is opened.
 
 ghost use Rattle.std.specs.Prelude.{IfOk, OnOk};
-ghost use Rattle.kept_queries.specs.Keeping.{ArePlans};
+ghost use Rattle.kept_queries.specs.Keeping.{AreKept};
 
 use crate::outermost::{keep_in_expr, keep_outermost};
 use bound_trees::{
     BoundArgument, BoundBlock, BoundBranch, BoundExpr, BoundHandler, BoundInformation, BoundQuery,
     BoundRow, BoundStmt, BoundVariables,
 };
-use catalog_store::Catalog;
-use kept_queries::KeptQuery;
+use kept_queries::{Around, KeptQuery};
 use sql_values::NoMemory;
 use sqlite_items::Items;
 use std::alloc::Global;
@@ -23,12 +22,12 @@ pub fn keep_body(
     alloc: Global,
     body: &BoundStmt,
     variables: usize,
-    catalog: &Catalog,
+    around: &Around,
 ) -> Result<Items<KeptQuery>, NoMemory>
-    ensures { IfOk result (λ kept. ArePlans catalog.now kept) }
+    ensures { IfOk result (λ kept. AreKept around.now kept) }
 {
     let mut kept = Items::new(alloc);
-    keep_in_stmt(alloc, body, variables, &[], catalog, &mut kept)?;
+    keep_in_stmt(alloc, body, variables, &[], around, &mut kept)?;
     Ok(kept)
 }
 
@@ -37,14 +36,14 @@ fn keep_perhaps(
     alloc: Global,
     expr: Option<&BoundExpr>,
     variables: usize,
-    catalog: &Catalog,
+    around: &Around,
     kept: &mut Items<KeptQuery>,
 ) -> Result<(), NoMemory>
-    requires { ArePlans catalog.now kept.old }
-    ensures { OnOk result (ArePlans catalog.now kept.new) }
+    requires { AreKept around.now kept.old }
+    ensures { OnOk result (AreKept around.now kept.new) }
 {
     match expr {
-        Some(expr) => keep_in_expr(alloc, expr, variables, catalog, kept),
+        Some(expr) => keep_in_expr(alloc, expr, variables, around, kept),
         None => Ok(()),
     }
 }
@@ -54,14 +53,14 @@ fn keep_in_arguments(
     alloc: Global,
     arguments: &[BoundArgument],
     variables: usize,
-    catalog: &Catalog,
+    around: &Around,
     kept: &mut Items<KeptQuery>,
 ) -> Result<(), NoMemory>
-    requires { ArePlans catalog.now kept.old }
-    ensures { OnOk result (ArePlans catalog.now kept.new) }
+    requires { AreKept around.now kept.old }
+    ensures { OnOk result (AreKept around.now kept.new) }
 {
     for argument in arguments {
-        keep_in_argument(alloc, argument, variables, catalog, kept)?;
+        keep_in_argument(alloc, argument, variables, around, kept)?;
     }
     Ok(())
 }
@@ -71,14 +70,14 @@ fn keep_in_argument(
     alloc: Global,
     argument: &BoundArgument,
     variables: usize,
-    catalog: &Catalog,
+    around: &Around,
     kept: &mut Items<KeptQuery>,
 ) -> Result<(), NoMemory>
-    requires { ArePlans catalog.now kept.old }
-    ensures { OnOk result (ArePlans catalog.now kept.new) }
+    requires { AreKept around.now kept.old }
+    ensures { OnOk result (AreKept around.now kept.new) }
 {
     match argument {
-        BoundArgument::Value(expr) => keep_in_expr(alloc, expr, variables, catalog, kept),
+        BoundArgument::Value(expr) => keep_in_expr(alloc, expr, variables, around, kept),
         BoundArgument::Variable(_) => Ok(()),
         BoundArgument::Given => Ok(()),
     }
@@ -89,16 +88,16 @@ fn keep_in_information(
     alloc: Global,
     information: &BoundInformation,
     variables: usize,
-    catalog: &Catalog,
+    around: &Around,
     kept: &mut Items<KeptQuery>,
 ) -> Result<(), NoMemory>
-    requires { ArePlans catalog.now kept.old }
-    ensures { OnOk result (ArePlans catalog.now kept.new) }
+    requires { AreKept around.now kept.old }
+    ensures { OnOk result (AreKept around.now kept.new) }
 {
     match information {
         BoundInformation::Statement(_) => Ok(()),
         BoundInformation::Condition(number, _) => {
-            keep_in_expr(alloc, number, variables, catalog, kept)
+            keep_in_expr(alloc, number, variables, around, kept)
         }
     }
 }
@@ -109,14 +108,14 @@ fn keep_of_cursor(
     slot: usize,
     variables: usize,
     cursors: &[&BoundQuery],
-    catalog: &Catalog,
+    around: &Around,
     kept: &mut Items<KeptQuery>,
 ) -> Result<(), NoMemory>
-    requires { ArePlans catalog.now kept.old }
-    ensures { OnOk result (ArePlans catalog.now kept.new) }
+    requires { AreKept around.now kept.old }
+    ensures { OnOk result (AreKept around.now kept.new) }
 {
     match cursors.get(slot) {
-        Some(query) => keep_outermost(alloc, *query, variables, catalog, kept),
+        Some(query) => keep_outermost(alloc, *query, variables, around, kept),
         None => Ok(()),
     }
 }
@@ -127,15 +126,15 @@ fn keep_in_defaults(
     alloc: Global,
     declared: &[BoundVariables],
     variables: usize,
-    catalog: &Catalog,
+    around: &Around,
     kept: &mut Items<KeptQuery>,
 ) -> Result<usize, NoMemory>
-    requires { ArePlans catalog.now kept.old }
-    ensures { OnOk result (ArePlans catalog.now kept.new) }
+    requires { AreKept around.now kept.old }
+    ensures { OnOk result (AreKept around.now kept.new) }
 {
     let mut in_sight = variables;
     for group in declared {
-        keep_perhaps(alloc, group.default.as_ref(), in_sight, catalog, kept)?;
+        keep_perhaps(alloc, group.default.as_ref(), in_sight, around, kept)?;
         in_sight = in_sight.saturating_add(group.count);
     }
     Ok(in_sight)
@@ -181,34 +180,34 @@ fn keep_in_simple(
     stmt: &BoundStmt,
     variables: usize,
     cursors: &[&BoundQuery],
-    catalog: &Catalog,
+    around: &Around,
     kept: &mut Items<KeptQuery>,
 ) -> Result<(), NoMemory>
-    requires { ArePlans catalog.now kept.old }
-    ensures { OnOk result (ArePlans catalog.now kept.new) }
+    requires { AreKept around.now kept.old }
+    ensures { OnOk result (AreKept around.now kept.new) }
 {
     match stmt {
         BoundStmt::Insert(insert, _) => {
-            keep_outermost(alloc, &insert.source, variables, catalog, kept)
+            keep_outermost(alloc, &insert.source, variables, around, kept)
         }
-        BoundStmt::Update(update) => keep_outermost(alloc, &update.rows, variables, catalog, kept),
-        BoundStmt::Delete(delete) => keep_outermost(alloc, &delete.rows, variables, catalog, kept),
+        BoundStmt::Update(update) => keep_outermost(alloc, &update.rows, variables, around, kept),
+        BoundStmt::Delete(delete) => keep_outermost(alloc, &delete.rows, variables, around, kept),
         BoundStmt::Call(call) => {
-            keep_in_arguments(alloc, call.arguments.as_slice(), variables, catalog, kept)
+            keep_in_arguments(alloc, call.arguments.as_slice(), variables, around, kept)
         }
-        BoundStmt::Set(_, expr) => keep_in_expr(alloc, expr, variables, catalog, kept),
-        BoundStmt::SelectInto(query, _) => keep_outermost(alloc, query, variables, catalog, kept),
-        BoundStmt::Open(slot) => { keep_of_cursor(alloc, *slot, variables, cursors, catalog, kept) }
+        BoundStmt::Set(_, expr) => keep_in_expr(alloc, expr, variables, around, kept),
+        BoundStmt::SelectInto(query, _) => keep_outermost(alloc, query, variables, around, kept),
+        BoundStmt::Open(slot) => { keep_of_cursor(alloc, *slot, variables, cursors, around, kept) }
         BoundStmt::Signal(signal) => {
-            keep_perhaps(alloc, signal.message.as_ref(), variables, catalog, kept)
+            keep_perhaps(alloc, signal.message.as_ref(), variables, around, kept)
         }
         BoundStmt::Resignal(signal) => {
-            keep_perhaps(alloc, signal.message.as_ref(), variables, catalog, kept)
+            keep_perhaps(alloc, signal.message.as_ref(), variables, around, kept)
         }
         BoundStmt::GetDiagnostics(get) => {
-            keep_in_information(alloc, &get.information, variables, catalog, kept)
+            keep_in_information(alloc, &get.information, variables, around, kept)
         }
-        BoundStmt::Return(expr) => keep_in_expr(alloc, expr, variables, catalog, kept),
+        BoundStmt::Return(expr) => keep_in_expr(alloc, expr, variables, around, kept),
         _ => Ok(()),
     }
 }
@@ -221,42 +220,42 @@ fn keep_in_stmt<'a>(
     stmt: &'a BoundStmt,
     variables: usize,
     cursors: &[&'a BoundQuery],
-    catalog: &Catalog,
+    around: &Around,
     kept: &mut Items<KeptQuery>,
 ) -> Result<(), NoMemory>
-    requires { ArePlans catalog.now kept.old }
-    ensures { OnOk result (ArePlans catalog.now kept.new) }
+    requires { AreKept around.now kept.old }
+    ensures { OnOk result (AreKept around.now kept.new) }
 {
     match stmt {
-        BoundStmt::Block(block) => keep_in_block(alloc, block, variables, cursors, catalog, kept),
+        BoundStmt::Block(block) => keep_in_block(alloc, block, variables, cursors, around, kept),
         BoundStmt::If(branches, otherwise) => {
             let (branches, otherwise) = (branches.as_slice(), otherwise.as_slice());
-            keep_in_branches(alloc, branches, variables, cursors, catalog, kept)?;
-            keep_in_stmts(alloc, otherwise, variables, cursors, catalog, kept)
+            keep_in_branches(alloc, branches, variables, cursors, around, kept)?;
+            keep_in_stmts(alloc, otherwise, variables, cursors, around, kept)
         }
         BoundStmt::Case(operand, branches, otherwise) => {
             let (branches, otherwise) = (branches.as_slice(), otherwise.as_slice());
-            keep_perhaps(alloc, operand.as_ref(), variables, catalog, kept)?;
-            keep_in_branches(alloc, branches, variables, cursors, catalog, kept)?;
-            keep_in_stmts(alloc, otherwise, variables, cursors, catalog, kept)
+            keep_perhaps(alloc, operand.as_ref(), variables, around, kept)?;
+            keep_in_branches(alloc, branches, variables, cursors, around, kept)?;
+            keep_in_stmts(alloc, otherwise, variables, cursors, around, kept)
         }
         BoundStmt::Loop(body) => {
-            keep_in_stmts(alloc, body.as_slice(), variables, cursors, catalog, kept)
+            keep_in_stmts(alloc, body.as_slice(), variables, cursors, around, kept)
         }
         BoundStmt::While(test, body) => {
-            keep_in_expr(alloc, test, variables, catalog, kept)?;
-            keep_in_stmts(alloc, body.as_slice(), variables, cursors, catalog, kept)
+            keep_in_expr(alloc, test, variables, around, kept)?;
+            keep_in_stmts(alloc, body.as_slice(), variables, cursors, around, kept)
         }
         BoundStmt::Repeat(body, test) => {
-            keep_in_expr(alloc, test, variables, catalog, kept)?;
-            keep_in_stmts(alloc, body.as_slice(), variables, cursors, catalog, kept)
+            keep_in_expr(alloc, test, variables, around, kept)?;
+            keep_in_stmts(alloc, body.as_slice(), variables, cursors, around, kept)
         }
         BoundStmt::For(query, _, body) => {
-            keep_outermost(alloc, query, variables, catalog, kept)?;
+            keep_outermost(alloc, query, variables, around, kept)?;
             let inside = variables.saturating_add(columns_of(query));
-            keep_in_stmts(alloc, body.as_slice(), inside, cursors, catalog, kept)
+            keep_in_stmts(alloc, body.as_slice(), inside, cursors, around, kept)
         }
-        _ => keep_in_simple(alloc, stmt, variables, cursors, catalog, kept),
+        _ => keep_in_simple(alloc, stmt, variables, cursors, around, kept),
     }
 }
 
@@ -267,14 +266,14 @@ fn keep_in_stmts<'a>(
     stmts: &'a [BoundStmt],
     variables: usize,
     cursors: &[&'a BoundQuery],
-    catalog: &Catalog,
+    around: &Around,
     kept: &mut Items<KeptQuery>,
 ) -> Result<(), NoMemory>
-    requires { ArePlans catalog.now kept.old }
-    ensures { OnOk result (ArePlans catalog.now kept.new) }
+    requires { AreKept around.now kept.old }
+    ensures { OnOk result (AreKept around.now kept.new) }
 {
     for stmt in stmts {
-        keep_in_stmt(alloc, stmt, variables, cursors, catalog, kept)?;
+        keep_in_stmt(alloc, stmt, variables, cursors, around, kept)?;
     }
     Ok(())
 }
@@ -286,14 +285,14 @@ fn keep_in_branches<'a>(
     branches: &'a [BoundBranch],
     variables: usize,
     cursors: &[&'a BoundQuery],
-    catalog: &Catalog,
+    around: &Around,
     kept: &mut Items<KeptQuery>,
 ) -> Result<(), NoMemory>
-    requires { ArePlans catalog.now kept.old }
-    ensures { OnOk result (ArePlans catalog.now kept.new) }
+    requires { AreKept around.now kept.old }
+    ensures { OnOk result (AreKept around.now kept.new) }
 {
     for branch in branches {
-        keep_in_branch(alloc, branch, variables, cursors, catalog, kept)?;
+        keep_in_branch(alloc, branch, variables, cursors, around, kept)?;
     }
     Ok(())
 }
@@ -305,19 +304,19 @@ fn keep_in_branch<'a>(
     branch: &'a BoundBranch,
     variables: usize,
     cursors: &[&'a BoundQuery],
-    catalog: &Catalog,
+    around: &Around,
     kept: &mut Items<KeptQuery>,
 ) -> Result<(), NoMemory>
-    requires { ArePlans catalog.now kept.old }
-    ensures { OnOk result (ArePlans catalog.now kept.new) }
+    requires { AreKept around.now kept.old }
+    ensures { OnOk result (AreKept around.now kept.new) }
 {
-    keep_in_expr(alloc, &branch.test, variables, catalog, kept)?;
+    keep_in_expr(alloc, &branch.test, variables, around, kept)?;
     keep_in_stmts(
         alloc,
         branch.body.as_slice(),
         variables,
         cursors,
-        catalog,
+        around,
         kept,
     )
 }
@@ -329,19 +328,19 @@ fn keep_in_block<'a>(
     block: &'a BoundBlock,
     variables: usize,
     outer: &[&'a BoundQuery],
-    catalog: &Catalog,
+    around: &Around,
     kept: &mut Items<KeptQuery>,
 ) -> Result<(), NoMemory>
-    requires { ArePlans catalog.now kept.old }
-    ensures { OnOk result (ArePlans catalog.now kept.new) }
+    requires { AreKept around.now kept.old }
+    ensures { OnOk result (AreKept around.now kept.new) }
 {
-    let inside = keep_in_defaults(alloc, block.variables.as_slice(), variables, catalog, kept)?;
+    let inside = keep_in_defaults(alloc, block.variables.as_slice(), variables, around, kept)?;
     let own = block.cursors.as_slice();
     if own.is_empty() {
-        return keep_declared(alloc, block, inside, outer, catalog, kept);
+        return keep_declared(alloc, block, inside, outer, around, kept);
     }
     match with_cursors(alloc, outer, own) {
-        Ok(cursors) => keep_declared(alloc, block, inside, cursors.as_slice(), catalog, kept),
+        Ok(cursors) => keep_declared(alloc, block, inside, cursors.as_slice(), around, kept),
         Err(NoMemory) => Err(NoMemory),
     }
 }
@@ -353,18 +352,18 @@ fn keep_declared<'a>(
     block: &'a BoundBlock,
     variables: usize,
     cursors: &[&'a BoundQuery],
-    catalog: &Catalog,
+    around: &Around,
     kept: &mut Items<KeptQuery>,
 ) -> Result<(), NoMemory>
-    requires { ArePlans catalog.now kept.old }
-    ensures { OnOk result (ArePlans catalog.now kept.new) }
+    requires { AreKept around.now kept.old }
+    ensures { OnOk result (AreKept around.now kept.new) }
 {
     keep_in_stmts(
         alloc,
         block.statements.as_slice(),
         variables,
         cursors,
-        catalog,
+        around,
         kept,
     )?;
     keep_in_handlers(
@@ -372,7 +371,7 @@ fn keep_declared<'a>(
         block.handlers.as_slice(),
         variables,
         cursors,
-        catalog,
+        around,
         kept,
     )
 }
@@ -385,11 +384,11 @@ fn keep_in_handlers<'a>(
     handlers: &'a [BoundHandler],
     variables: usize,
     cursors: &[&'a BoundQuery],
-    catalog: &Catalog,
+    around: &Around,
     kept: &mut Items<KeptQuery>,
 ) -> Result<(), NoMemory>
-    requires { ArePlans catalog.now kept.old }
-    ensures { OnOk result (ArePlans catalog.now kept.new) }
+    requires { AreKept around.now kept.old }
+    ensures { OnOk result (AreKept around.now kept.new) }
 {
     for handler in handlers {
         keep_in_stmt(
@@ -397,7 +396,7 @@ fn keep_in_handlers<'a>(
             handler.action.get(),
             variables,
             cursors,
-            catalog,
+            around,
             kept,
         )?;
     }

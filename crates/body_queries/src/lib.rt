@@ -1,7 +1,9 @@
 //! The plans of the queries in bodies.
 #![tactic(auto)]
 
+mod blocks;
 mod bodies;
+mod calls;
 mod expression_calls;
 mod outermost;
 mod routines;
@@ -9,4 +11,4 @@ mod statement_calls;
 
 pub use bodies::keep_body;
 pub use outermost::MOST_KEPT;
-pub use routines::{Asking, keep_called};
+pub use routines::{Asking, keep_blocks, keep_called};

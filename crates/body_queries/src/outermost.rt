@@ -2,12 +2,11 @@
 
 ghost use Rattle.std.specs.Prelude.{◌≡◌, true, IfOk, OnOk};
 ghost use Rattle.rel_algebra.specs.Plain.{planned};
-ghost use Rattle.catalog_store.specs.View.{query_of};
-ghost use Rattle.kept_queries.specs.Keeping.{ArePlans};
+ghost use Rattle.block_plans.specs.View.{query_seen};
+ghost use Rattle.kept_queries.specs.Keeping.{AreKept};
 
 use bound_trees::{BoundExpr, BoundFromItem, BoundLink, BoundQuery, BoundRow, BoundSource};
-use catalog_store::Catalog;
-use kept_queries::{KeptQuery, find, keep};
+use kept_queries::{Around, KeptQuery, find, keep};
 use planned_queries::is_planned;
 use sql_values::NoMemory;
 use sqlite_items::Items;
@@ -22,12 +21,12 @@ pub const MOST_KEPT: usize = 256;
 pub(crate) fn keep_asked(
     alloc: Global,
     query: &BoundQuery,
-    catalog: &Catalog,
+    around: &Around,
 ) -> Result<Items<KeptQuery>, NoMemory>
-    ensures { IfOk result (λ kept. ArePlans catalog.now kept) }
+    ensures { IfOk result (λ kept. AreKept around.now kept) }
 {
     let mut kept = Items::new(alloc);
-    keep_outermost(alloc, query, 0, catalog, &mut kept)?;
+    keep_outermost(alloc, query, 0, around, &mut kept)?;
     Ok(kept)
 }
 
@@ -38,14 +37,15 @@ pub(crate) fn keep_returned(
     returned: &BoundExpr,
     parameters: usize,
     others: usize,
-    catalog: &Catalog,
+    around: &Around,
 ) -> Result<Items<KeptQuery>, NoMemory>
-    ensures { IfOk result (λ kept. ArePlans catalog.now kept) }
+    ensures { IfOk result (λ kept. AreKept around.now kept) }
 {
-    let mut kept = Items::new(alloc);
-    if others < MOST_KEPT {
-        keep_in_expr(alloc, returned, parameters, catalog, &mut kept)?;
+    if others >= MOST_KEPT {
+        return Ok(Items::new(alloc));
     }
+    let mut kept = Items::new(alloc);
+    keep_in_expr(alloc, returned, parameters, around, &mut kept)?;
     Ok(kept)
 }
 
@@ -55,31 +55,31 @@ pub(crate) fn keep_in_expr(
     alloc: Global,
     expr: &BoundExpr,
     variables: usize,
-    catalog: &Catalog,
+    around: &Around,
     kept: &mut Items<KeptQuery>,
 ) -> Result<(), NoMemory>
-    requires { ArePlans catalog.now kept.old }
-    ensures { OnOk result (ArePlans catalog.now kept.new) }
+    requires { AreKept around.now kept.old }
+    ensures { OnOk result (AreKept around.now kept.new) }
 {
     match expr {
         BoundExpr::Literal(_) => Ok(()),
         BoundExpr::Column(_, _) => Ok(()),
         BoundExpr::Variable(_) => Ok(()),
         BoundExpr::Operation(_, operands) => {
-            keep_in_exprs(alloc, operands.as_slice(), variables, catalog, kept)
+            keep_in_exprs(alloc, operands.as_slice(), variables, around, kept)
         }
         BoundExpr::Chain(first, rest) => {
-            keep_in_expr(alloc, first.get(), variables, catalog, kept)?;
-            keep_in_links(alloc, rest.as_slice(), variables, catalog, kept)
+            keep_in_expr(alloc, first.get(), variables, around, kept)?;
+            keep_in_links(alloc, rest.as_slice(), variables, around, kept)
         }
         BoundExpr::Call(_, arguments) => {
-            keep_in_exprs(alloc, arguments.as_slice(), variables, catalog, kept)
+            keep_in_exprs(alloc, arguments.as_slice(), variables, around, kept)
         }
-        BoundExpr::Single(query) => keep_outermost(alloc, query.get(), variables, catalog, kept),
-        BoundExpr::Exists(query) => keep_outermost(alloc, query.get(), variables, catalog, kept),
+        BoundExpr::Single(query) => keep_outermost(alloc, query.get(), variables, around, kept),
+        BoundExpr::Exists(query) => keep_outermost(alloc, query.get(), variables, around, kept),
         BoundExpr::In(left, query) => {
-            keep_in_expr(alloc, left.get(), variables, catalog, kept)?;
-            keep_outermost(alloc, query.get(), variables, catalog, kept)
+            keep_in_expr(alloc, left.get(), variables, around, kept)?;
+            keep_outermost(alloc, query.get(), variables, around, kept)
         }
     }
 }
@@ -90,14 +90,14 @@ fn keep_in_exprs(
     alloc: Global,
     exprs: &[BoundExpr],
     variables: usize,
-    catalog: &Catalog,
+    around: &Around,
     kept: &mut Items<KeptQuery>,
 ) -> Result<(), NoMemory>
-    requires { ArePlans catalog.now kept.old }
-    ensures { OnOk result (ArePlans catalog.now kept.new) }
+    requires { AreKept around.now kept.old }
+    ensures { OnOk result (AreKept around.now kept.new) }
 {
     for expr in exprs {
-        keep_in_expr(alloc, expr, variables, catalog, kept)?;
+        keep_in_expr(alloc, expr, variables, around, kept)?;
     }
     Ok(())
 }
@@ -108,14 +108,14 @@ fn keep_in_links(
     alloc: Global,
     links: &[BoundLink],
     variables: usize,
-    catalog: &Catalog,
+    around: &Around,
     kept: &mut Items<KeptQuery>,
 ) -> Result<(), NoMemory>
-    requires { ArePlans catalog.now kept.old }
-    ensures { OnOk result (ArePlans catalog.now kept.new) }
+    requires { AreKept around.now kept.old }
+    ensures { OnOk result (AreKept around.now kept.new) }
 {
     for link in links {
-        keep_in_expr(alloc, &link.operand, variables, catalog, kept)?;
+        keep_in_expr(alloc, &link.operand, variables, around, kept)?;
     }
     Ok(())
 }
@@ -126,16 +126,16 @@ pub(crate) fn keep_outermost(
     alloc: Global,
     query: &BoundQuery,
     variables: usize,
-    catalog: &Catalog,
+    around: &Around,
     kept: &mut Items<KeptQuery>,
 ) -> Result<(), NoMemory>
-    requires { ArePlans catalog.now kept.old }
-    ensures { OnOk result (ArePlans catalog.now kept.new) }
+    requires { AreKept around.now kept.old }
+    ensures { OnOk result (AreKept around.now kept.new) }
 {
-    if is_planned(query, catalog) {
-        keep_once(alloc, query, variables, catalog, kept)
+    if is_planned(query, around.functions) {
+        keep_once(alloc, query, variables, around, kept)
     } else {
-        keep_in_query(alloc, query, variables, catalog, kept)
+        keep_in_query(alloc, query, variables, around, kept)
     }
 }
 
@@ -149,17 +149,17 @@ fn keep_once(
     alloc: Global,
     query: &BoundQuery,
     variables: usize,
-    catalog: &Catalog,
+    around: &Around,
     kept: &mut Items<KeptQuery>,
 ) -> Result<(), NoMemory>
-    requires planned { planned (query_of catalog.now query.now) ≡ true }
-    requires kept { ArePlans catalog.now kept.old }
-    ensures { OnOk result (ArePlans catalog.now kept.new) }
+    requires planned { planned (query_seen around.now.functions.now query.now) ≡ true }
+    requires kept { AreKept around.now kept.old }
+    ensures { OnOk result (AreKept around.now kept.new) }
 {
     if is_done(kept.as_slice(), query, variables) {
         return Ok(());
     }
-    let one = keep(alloc, query, variables, catalog)?;
+    let one = keep(alloc, query, variables, around)?;
     kept.push(one)?;
     Ok(())
 }
@@ -171,21 +171,21 @@ fn keep_in_query(
     alloc: Global,
     query: &BoundQuery,
     variables: usize,
-    catalog: &Catalog,
+    around: &Around,
     kept: &mut Items<KeptQuery>,
 ) -> Result<(), NoMemory>
-    requires { ArePlans catalog.now kept.old }
-    ensures { OnOk result (ArePlans catalog.now kept.new) }
+    requires { AreKept around.now kept.old }
+    ensures { OnOk result (AreKept around.now kept.new) }
 {
     match query {
         BoundQuery::Select(select) => {
-            keep_in_from(alloc, select.from.as_slice(), variables, catalog, kept)
+            keep_in_from(alloc, select.from.as_slice(), variables, around, kept)
         }
         BoundQuery::Values(rows) => {
-            keep_in_rows(alloc, rows.as_slice(), variables, catalog, kept)
+            keep_in_rows(alloc, rows.as_slice(), variables, around, kept)
         }
         BoundQuery::Ordered(query, _) => {
-            keep_in_query(alloc, query.get(), variables, catalog, kept)
+            keep_in_query(alloc, query.get(), variables, around, kept)
         }
     }
 }
@@ -196,14 +196,14 @@ fn keep_in_from(
     alloc: Global,
     items: &[BoundFromItem],
     variables: usize,
-    catalog: &Catalog,
+    around: &Around,
     kept: &mut Items<KeptQuery>,
 ) -> Result<(), NoMemory>
-    requires { ArePlans catalog.now kept.old }
-    ensures { OnOk result (ArePlans catalog.now kept.new) }
+    requires { AreKept around.now kept.old }
+    ensures { OnOk result (AreKept around.now kept.new) }
 {
     for item in items {
-        keep_in_item(alloc, item, variables, catalog, kept)?;
+        keep_in_item(alloc, item, variables, around, kept)?;
     }
     Ok(())
 }
@@ -214,17 +214,17 @@ fn keep_in_item(
     alloc: Global,
     item: &BoundFromItem,
     variables: usize,
-    catalog: &Catalog,
+    around: &Around,
     kept: &mut Items<KeptQuery>,
 ) -> Result<(), NoMemory>
-    requires { ArePlans catalog.now kept.old }
-    ensures { OnOk result (ArePlans catalog.now kept.new) }
+    requires { AreKept around.now kept.old }
+    ensures { OnOk result (AreKept around.now kept.new) }
 {
     match item {
-        BoundFromItem::Comma(source) => keep_in_source(alloc, source, variables, catalog, kept),
-        BoundFromItem::Cross(source) => keep_in_source(alloc, source, variables, catalog, kept),
-        BoundFromItem::Inner(source, _) => keep_in_source(alloc, source, variables, catalog, kept),
-        BoundFromItem::Left(source, _) => keep_in_source(alloc, source, variables, catalog, kept),
+        BoundFromItem::Comma(source) => keep_in_source(alloc, source, variables, around, kept),
+        BoundFromItem::Cross(source) => keep_in_source(alloc, source, variables, around, kept),
+        BoundFromItem::Inner(source, _) => keep_in_source(alloc, source, variables, around, kept),
+        BoundFromItem::Left(source, _) => keep_in_source(alloc, source, variables, around, kept),
     }
 }
 
@@ -234,16 +234,16 @@ fn keep_in_source(
     alloc: Global,
     source: &BoundSource,
     variables: usize,
-    catalog: &Catalog,
+    around: &Around,
     kept: &mut Items<KeptQuery>,
 ) -> Result<(), NoMemory>
-    requires { ArePlans catalog.now kept.old }
-    ensures { OnOk result (ArePlans catalog.now kept.new) }
+    requires { AreKept around.now kept.old }
+    ensures { OnOk result (AreKept around.now kept.new) }
 {
     match source {
         BoundSource::Table(_) => Ok(()),
         BoundSource::Derived(query) => {
-            keep_outermost(alloc, query.get(), variables, catalog, kept)
+            keep_outermost(alloc, query.get(), variables, around, kept)
         }
     }
 }
@@ -254,14 +254,14 @@ fn keep_in_rows(
     alloc: Global,
     rows: &[BoundRow],
     variables: usize,
-    catalog: &Catalog,
+    around: &Around,
     kept: &mut Items<KeptQuery>,
 ) -> Result<(), NoMemory>
-    requires { ArePlans catalog.now kept.old }
-    ensures { OnOk result (ArePlans catalog.now kept.new) }
+    requires { AreKept around.now kept.old }
+    ensures { OnOk result (AreKept around.now kept.new) }
 {
     for row in rows {
-        keep_in_row(alloc, row, variables, catalog, kept)?;
+        keep_in_row(alloc, row, variables, around, kept)?;
     }
     Ok(())
 }
@@ -272,15 +272,15 @@ fn keep_in_row(
     alloc: Global,
     row: &BoundRow,
     variables: usize,
-    catalog: &Catalog,
+    around: &Around,
     kept: &mut Items<KeptQuery>,
 ) -> Result<(), NoMemory>
-    requires { ArePlans catalog.now kept.old }
-    ensures { OnOk result (ArePlans catalog.now kept.new) }
+    requires { AreKept around.now kept.old }
+    ensures { OnOk result (AreKept around.now kept.new) }
 {
     match row {
         BoundRow::Row(values) => {
-            keep_in_exprs(alloc, values.as_slice(), variables, catalog, kept)
+            keep_in_exprs(alloc, values.as_slice(), variables, around, kept)
         }
     }
 }

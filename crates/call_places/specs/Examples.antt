@@ -8,6 +8,7 @@ use Rattle.bound_trees.specs.declared.query.BoundQuery.{BoundQuery}
 use Rattle.bound_trees.specs.declared.query.BoundQuery.TheVariants as query
 use Rattle.bound_trees.specs.declared.query.BoundRow.TheVariants as row
 use Rattle.catalog_store.specs.Examples.{count_of_rows, with_statements}
+use Rattle.block_plans.specs.Callees.{Callees, without_blocks}
 use Rattle.call_places.specs.Places.{inlined_places, interpreted_places}
 
 -- VALUES with one value
@@ -26,11 +27,15 @@ next = bound.Call (codes "NEXT") []
 abbrev pub again : BoundExpr
 again = bound.Call (codes "AGAIN") []
 
+-- where no block has a plan
+abbrev pub no_block : Callees
+no_block = without_blocks with_statements
+
 -- the places of VALUES with one value: how many are inlined, and how many interpreted
 abbrev pub places : BoundExpr → ℕ × ℕ
 places e = (
-  inlined_places with_statements (value_alone e),
-  interpreted_places with_statements (value_alone e),
+  inlined_places no_block (value_alone e),
+  interpreted_places no_block (value_alone e),
 )
 
 -- Which places are counted, and how often.

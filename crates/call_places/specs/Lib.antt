@@ -1,4 +1,3 @@
 pub mod Places
 pub mod Found
-pub mod Laws
 pub mod Examples

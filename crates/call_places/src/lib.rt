@@ -1,4 +1,4 @@
-//! In how many places of its text a query calls functions with plans, and functions without.
+//! In how many places of its text a query calls what has a plan, and what has none.
 #![tactic(auto)]
 
 mod calls;
@@ -6,5 +6,5 @@ mod laws;
 mod places;
 
 pub use calls::call_places;
-pub use laws::{none_interpreted, places_are_counted};
+pub use laws::places_are_counted;
 pub use places::CallPlaces;

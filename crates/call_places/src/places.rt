@@ -1,46 +1,18 @@
-//! The places that are found, and which of them a use adds to.
+//! The places that are found, and which of them a call adds to.
 
 ghost use Rattle.std.specs.Prelude.{◌≡◌};
-ghost use Rattle.catalog_store.specs.Catalog.{object_named};
-ghost use Rattle.call_places.specs.Places.{has_plan as is_planned, is_run as is_run_by_plans};
 ghost use Rattle.call_places.specs.Found.{one_more as one_more_of, with_call as with_call_of};
-ghost use Rattle.call_places.specs.Found.{with_read as with_read_of};
 
-use catalog_store::{Catalog, Object};
+use block_plans::Functions;
+use planned_queries::callee_planned;
 use sql_values::Name;
 
-/// In how many places of its text a query calls functions that have plans, and that have none. Each
-/// number stands still at 2^64 - 1.
+/// In how many places of its text a query calls what has a plan, and what has none. Each number
+/// stands still at 2^64 - 1.
 #[derive(Clone, Copy, Debug, PartialEq, Eq)]
 pub struct CallPlaces {
     pub inlined: u64,
     pub interpreted: u64,
-}
-
-// Whether a name stands for a function with a plan.
-fn has_plan(catalog: &Catalog, name: &Name) -> bool
-    ensures { result ≡ is_planned (object_named name.now catalog.now) }
-{
-    match catalog.get(name) {
-        Some(Object::Function(_)) => true,
-        Some(Object::Table(_)) => false,
-        Some(Object::Interpreted(_)) => false,
-        Some(Object::Procedure(_)) => false,
-        None => false,
-    }
-}
-
-// Whether plans run what a name stands for.
-fn is_run(catalog: &Catalog, name: &Name) -> bool
-    ensures { result ≡ is_run_by_plans (object_named name.now catalog.now) }
-{
-    match catalog.get(name) {
-        Some(Object::Function(_)) => true,
-        Some(Object::Table(_)) => true,
-        Some(Object::Interpreted(_)) => false,
-        Some(Object::Procedure(_)) => false,
-        None => false,
-    }
 }
 
 // One more, where it is one.
@@ -54,22 +26,18 @@ fn one_more(is_one: bool, count: u64) -> u64
     }
 }
 
-/// The places with a call of a name.
-pub(crate) fn with_call(found: CallPlaces, catalog: &Catalog, name: &Name) -> CallPlaces
-    ensures { result ≡ with_call_of catalog.now found name.now }
+/// The places with a call of a name with so many arguments.
+pub(crate) fn with_call(
+    found: CallPlaces,
+    functions: &Functions,
+    name: &Name,
+    arguments: usize,
+) -> CallPlaces
+    ensures { result ≡ with_call_of functions.now found name.now arguments }
 {
+    let planned = callee_planned(name, arguments, functions);
     CallPlaces {
-        inlined: one_more(has_plan(catalog, name), found.inlined),
-        interpreted: one_more(!is_run(catalog, name), found.interpreted),
-    }
-}
-
-/// The places with a table in FROM.
-pub(crate) fn with_read(found: CallPlaces, catalog: &Catalog, name: &Name) -> CallPlaces
-    ensures { result ≡ with_read_of catalog.now found name.now }
-{
-    CallPlaces {
-        inlined: found.inlined,
-        interpreted: one_more(!is_run(catalog, name), found.interpreted),
+        inlined: one_more(planned, found.inlined),
+        interpreted: one_more(!planned, found.interpreted),
     }
 }

@@ -1,15 +1,16 @@
 //! Queries with their plans, found by equality.
 
-ghost use Rattle.std.specs.Prelude.{◌≡◌, true, IfOk, IfSome};
+ghost use Rattle.std.specs.Prelude.{◌≡◌, ℕ, true, List, Option, IfOk, IfSome};
+ghost use Rattle.std.specs.Option.{option_copied};
 ghost use Rattle.rel_algebra.specs.Plain.{planned};
 ghost use Rattle.catalog_store.specs.Catalog.{Catalog as PlainCatalog};
-ghost use Rattle.catalog_store.specs.View.{query_of};
-ghost use Rattle.kept_queries.specs.Keeping.{IsKept, ArePlans, KeptMean, KeptLast};
+ghost use Rattle.block_plans.specs.View.{query_seen};
+ghost use Rattle.kept_queries.specs.Keeping.{IsKeptFor, ArePlans, KeptMean, KeptLast};
 
-use block_plans::Functions;
+use crate::around::Around;
+use block_places::seen_in_place;
 use bound_equality::{copied_query, same_query};
 use bound_trees::BoundQuery;
-use catalog_store::Catalog;
 use plan_expressions::NameSources;
 use plan_queries::plan_within;
 use rel_algebra::Plan;
@@ -18,9 +19,9 @@ use sql_values::NoMemory;
 use sqlite_items::Items;
 use std::alloc::Global;
 
-/// A query in the body of a routine, how many variables are in sight where it stands, its plan over
-/// as many arguments (ISO/IEC 9075-2, 7.17), and the tables that the plan reads, with the columns
-/// that each has there.
+/// A query, how many variables are in sight where it stands, its plan over as many arguments
+/// (ISO/IEC 9075-2, 7.17), and the tables that the plan reads, with the columns that each has
+/// there.
 #[derive(Drop)]
 pub struct KeptQuery {
     pub query: BoundQuery,
@@ -29,26 +30,24 @@ pub struct KeptQuery {
     pub tables: Items<ScannedTable>,
 }
 
-/// A query whose functions all have plans, with its plan over so many variables, as many columns
-/// as each table has in the catalog. It can fail for want of memory alone.
+/// A query whose calls all run what has a plan, with its plan over so many variables, as many
+/// columns as each table has in the catalog. It can fail for want of memory alone.
 pub fn keep(
     alloc: Global,
     query: &BoundQuery,
     variables: usize,
-    catalog: &Catalog,
+    around: &Around,
 ) -> Result<KeptQuery, NoMemory>
-    requires { planned (query_of catalog.now query.now) ≡ true }
-    ensures kept { IfOk result (λ k. IsKept catalog.now k) }
+    requires { planned (query_seen around.now.functions.now query.now) ≡ true }
+    ensures kept { IfOk result (λ k. IsKeptFor around.now.functions.now.known
+        (option_copied around.now.own) k) }
     ensures query { IfOk result (λ k. k.query ≡ query.now) }
     ensures variables { IfOk result (λ k. k.variables ≡ variables) }
 {
-    let functions = Functions::of(catalog);
-    let plan = plan_within(
-        alloc,
-        query,
-        &NameSources::top(alloc, variables),
-        &functions,
-    )?;
+    seen_in_place();
+    let functions = around.functions;
+    let _entries = functions.catalog().len();
+    let plan = plan_within(alloc, query, &NameSources::top(alloc, variables), functions)?;
     let tables = scanned(alloc, &plan)?;
     let query = copied_query(alloc, query)?;
     Ok(KeptQuery {
@@ -60,7 +59,7 @@ pub fn keep(
 }
 
 /// The first of these that is kept of an equal query over so many variables. What holds of all of
-/// them in a catalog holds of it.
+/// them in a catalog and a routine holds of it.
 pub fn find<'a>(
     kept: &'a [KeptQuery],
     query: &BoundQuery,
@@ -68,8 +67,8 @@ pub fn find<'a>(
 ) -> Option<&'a KeptQuery>
     ensures query { IfSome result (λ k. k.now.query ≡ query.now) }
     ensures variables { IfSome result (λ k. k.now.variables ≡ variables) }
-    ensures kept { (known : PlainCatalog) → ArePlans known kept.now →
-        IfSome result (λ k. IsKept known k.now) }
+    ensures kept { (known : PlainCatalog) (own : Option (List ℕ)) → ArePlans known own kept.now →
+        IfSome result (λ k. IsKeptFor known own k.now) }
 {
     for one in kept {
         if one.variables == variables && same_query(&one.query, query) {
@@ -79,9 +78,9 @@ pub fn find<'a>(
     None
 }
 
-/// In the body of a routine a kept query ends as its plan does, in the world in which it began:
-/// over all tables, of which those that the plan reads have the columns that they have there, and
-/// over a frame of so many variables, which are the plan's arguments.
+/// Where it stands a kept query ends as its plan does, in the world in which it began: over all
+/// tables, of which those that the plan reads have the columns that they have there, and over a
+/// frame of so many variables, which are the plan's arguments.
 pub fn kept_mean()
     ensures { KeptMean }
 {}

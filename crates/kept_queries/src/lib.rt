@@ -1,8 +1,10 @@
-//! Queries in the bodies of routines with their plans.
+//! Queries with their plans, by where they stand.
 #![tactic(auto)]
 
+mod around;
 mod keeping;
 mod plans;
 
+pub use around::Around;
 pub use keeping::{KeptQuery, find, keep, kept_last, kept_mean};
 pub use plans::KeptPlans;

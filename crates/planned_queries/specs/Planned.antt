@@ -14,9 +14,10 @@ use Rattle.bound_trees.specs.declared.query.BoundSelect.{BoundSelect}
 use Rattle.bound_trees.specs.declared.query.BoundSource.{BoundSource}
 use Rattle.rel_algebra.specs.Plain.{planned_all, planned_from}
 use Rattle.rel_algebra.specs.Tree.{Exprs, Rows, NoRow, MoreRows, count}
-use Rattle.catalog_store.specs.Catalog.{Catalog}
 use Rattle.catalog_store.specs.View.{Grouping, Joining, after_comma, crossing, matching}
-use Rattle.catalog_store.specs.View.{matching_or_nulls, item_of, grouping_of, exprs_of}
+use Rattle.catalog_store.specs.View.{matching_or_nulls}
+use Rattle.block_plans.specs.Callees.{Callees}
+use Rattle.block_plans.specs.View.{item_seen, grouping_seen, exprs_seen}
 
 -- a select, with its parts in sight
 abbrev pub SelectLayer : Type 0
@@ -50,11 +51,11 @@ items_planned first [] = true
 items_planned first (i ∷ is) = item_planned first i && items_planned false is
 
 -- FROM and WHERE of a select have plans
-abbrev pub tables_planned : Catalog → SelectLayer → Bool
+abbrev pub tables_planned : Callees → SelectLayer → Bool
 tables_planned known s =
-    items_planned true (map (item_of known) s.from) && planned_all (exprs_of known s.conjuncts)
+    items_planned true (map (item_seen known) s.from) && planned_all (exprs_seen known s.conjuncts)
 
 -- its groups and its list do
-abbrev pub lists_planned : Catalog → SelectLayer → Bool
-lists_planned known s = groups_planned (option_map (grouping_of known) s.grouping)
-    && planned_all (exprs_of known s.items)
+abbrev pub lists_planned : Callees → SelectLayer → Bool
+lists_planned known s = groups_planned (option_map (grouping_seen known) s.grouping)
+    && planned_all (exprs_seen known s.items)

@@ -3,4 +3,4 @@
 
 mod planned;
 
-pub use planned::{is_planned, is_planned_expr};
+pub use planned::{callee_planned, is_planned, is_planned_expr};

@@ -5,11 +5,13 @@ ghost use Rattle.std.specs.Option.{option_map};
 ghost use Rattle.bound_trees.specs.declared.query.BoundSelect.{out-BoundSelect};
 ghost use Rattle.rel_algebra.specs.Joins.{rows_width};
 ghost use Rattle.rel_algebra.specs.Plain as plain;
-ghost use Rattle.rel_algebra.specs.Tree.{count};
-ghost use Rattle.catalog_store.specs.Catalog.{Catalog as PlainCatalog, routine_named};
-ghost use Rattle.catalog_store.specs.View as view;
+ghost use Rattle.rel_algebra.specs.Tree.{count as columns};
+ghost use Rattle.catalog_store.specs.Catalog.{routine_named};
+ghost use Rattle.block_plans.specs.Callees.{Callees, callee};
+ghost use Rattle.block_plans.specs.View as view;
 ghost use Rattle.planned_queries.specs.Planned as spec;
 
+use block_plans::Functions;
 use bound_trees::{
     BoundExpr, BoundFromItem, BoundGrouping, BoundLink, BoundQuery, BoundRow, BoundSelect,
     BoundSource,
@@ -17,9 +19,9 @@ use bound_trees::{
 use catalog_store::{Catalog, Object};
 use sql_values::Name;
 
-// Whether a name is that of a function with a plan. The body of each is one RETURN, so that it is
-// called with any number of values.
-fn callee_planned(name: &Name, catalog: &Catalog) -> bool
+// Whether a name is that of a function with a plan in the catalog. The body of each is one RETURN,
+// so that it is called with any number of values.
+fn named_planned(name: &Name, catalog: &Catalog) -> bool
     ensures planned { result ≡ plain.planned_routine (routine_named name.now catalog.now) }
     ensures called { (n : ℕ) →
         (result && plain.as_many (routine_named name.now catalog.now) n) ≡ result }
@@ -33,10 +35,22 @@ fn callee_planned(name: &Name, catalog: &Catalog) -> bool
     }
 }
 
-/// Whether an expression has a plan: each function that it calls has one.
+/// Whether what a call of a name with so many arguments runs has a plan, and then takes as many.
+pub fn callee_planned(name: &Name, count: usize, functions: &Functions) -> bool
+    ensures planned { result ≡ plain.planned_routine (callee functions.now name.now count) }
+    ensures called { result ≡ true →
+        plain.as_many (callee functions.now name.now count) count ≡ true }
+{
+    match functions.block(name, count) {
+        Some(_) => true,
+        None => named_planned(name, functions.catalog()),
+    }
+}
+
+/// Whether an expression has a plan: what each of its calls runs has one.
 #[cycle(planned)]
-pub fn is_planned_expr(expr: &BoundExpr, catalog: &Catalog) -> bool
-    ensures { result ≡ plain.planned_expr (view.tree_of catalog.now expr.now) }
+pub fn is_planned_expr(expr: &BoundExpr, functions: &Functions) -> bool
+    ensures { result ≡ plain.planned_expr (view.expr_seen functions.now expr.now) }
 {
     match expr {
         BoundExpr::Literal(_) => true,
@@ -44,28 +58,29 @@ pub fn is_planned_expr(expr: &BoundExpr, catalog: &Catalog) -> bool
         BoundExpr::Variable(_) => true,
         // over another number of operands than it takes a word is NULL
         BoundExpr::Operation(word, operands) => {
-            !word.takes(operands.len()) || all_planned(operands.as_slice(), catalog)
+            !word.takes(operands.len()) || all_planned(operands.as_slice(), functions)
         }
         BoundExpr::Chain(first, rest) => {
-            is_planned_expr(first.get(), catalog) && links_planned(rest.as_slice(), catalog)
+            is_planned_expr(first.get(), functions) && links_planned(rest.as_slice(), functions)
         }
         BoundExpr::Call(name, arguments) => {
-            callee_planned(name, catalog) && all_planned(arguments.as_slice(), catalog)
+            callee_planned(name, arguments.len(), functions)
+                && all_planned(arguments.as_slice(), functions)
         }
-        BoundExpr::Single(query) => is_planned(query.get(), catalog),
-        BoundExpr::Exists(query) => is_planned(query.get(), catalog),
+        BoundExpr::Single(query) => is_planned(query.get(), functions),
+        BoundExpr::Exists(query) => is_planned(query.get(), functions),
         BoundExpr::In(left, query) => {
-            is_planned_expr(left.get(), catalog) && is_planned(query.get(), catalog)
+            is_planned_expr(left.get(), functions) && is_planned(query.get(), functions)
         }
     }
 }
 
 #[cycle(planned)]
-fn all_planned(exprs: &[BoundExpr], catalog: &Catalog) -> bool
-    ensures { result ≡ plain.planned_all (view.exprs_of catalog.now exprs.now) }
+fn all_planned(exprs: &[BoundExpr], functions: &Functions) -> bool
+    ensures { result ≡ plain.planned_all (view.exprs_seen functions.now exprs.now) }
 {
     for expr in exprs {
-        if !is_planned_expr(expr, catalog) {
+        if !is_planned_expr(expr, functions) {
             return false;
         }
     }
@@ -73,36 +88,36 @@ fn all_planned(exprs: &[BoundExpr], catalog: &Catalog) -> bool
 }
 
 #[cycle(planned)]
-fn links_planned(links: &[BoundLink], catalog: &Catalog) -> bool
-    ensures { result ≡ plain.planned_links (view.links_of catalog.now links.now) }
+fn links_planned(links: &[BoundLink], functions: &Functions) -> bool
+    ensures { result ≡ plain.planned_links (view.links_seen functions.now links.now) }
 {
     for link in links {
-        if !is_planned_expr(&link.operand, catalog) {
+        if !is_planned_expr(&link.operand, functions) {
             return false;
         }
     }
     true
 }
 
-/// Whether a query has a plan: each function that it calls has one, and the rows of each VALUES are
+/// Whether a query has a plan: what each of its calls runs has one, and the rows of each VALUES are
 /// of one length.
 #[cycle(planned)]
-pub fn is_planned(query: &BoundQuery, catalog: &Catalog) -> bool
-    ensures { result ≡ plain.planned (view.query_of catalog.now query.now) }
+pub fn is_planned(query: &BoundQuery, functions: &Functions) -> bool
+    ensures { result ≡ plain.planned (view.query_seen functions.now query.now) }
 {
     match query {
-        BoundQuery::Select(select) => select_planned(select, catalog),
+        BoundQuery::Select(select) => select_planned(select, functions),
         BoundQuery::Values(rows) => {
             let width = first_width(rows.as_slice());
-            rows_planned(rows.as_slice(), width, catalog)
+            rows_planned(rows.as_slice(), width, functions)
         }
-        BoundQuery::Ordered(query, _) => is_planned(query.get(), catalog),
+        BoundQuery::Ordered(query, _) => is_planned(query.get(), functions),
     }
 }
 
 // The values of a row of VALUES.
 fn values_in(row: &BoundRow) -> &[BoundExpr]
-    ensures { (known : PlainCatalog) → view.exprs_of known result.now ≡ view.row_of known row.now }
+    ensures { (known : Callees) → view.exprs_seen known result.now ≡ view.row_seen known row.now }
 {
     match row {
         BoundRow::Row(values) => values.as_slice(),
@@ -111,14 +126,14 @@ fn values_in(row: &BoundRow) -> &[BoundExpr]
 
 // How many columns a row of VALUES has.
 fn row_width(row: &BoundRow) -> usize
-    ensures { (known : PlainCatalog) → result ≡ count (view.row_of known row.now) }
+    ensures { (known : Callees) → result ≡ columns (view.row_seen known row.now) }
 {
     values_in(row).len()
 }
 
 // The number of columns of the first row; 0 where there is none.
 fn first_width(rows: &[BoundRow]) -> usize
-    ensures { (known : PlainCatalog) → result ≡ rows_width (view.rows_of known rows.now) }
+    ensures { (known : Callees) → result ≡ rows_width (view.rows_seen known rows.now) }
 {
     match rows.first() {
         Some(row) => row_width(row),
@@ -128,11 +143,11 @@ fn first_width(rows: &[BoundRow]) -> usize
 
 // Whether rows have so many columns each, and plans.
 #[cycle(planned)]
-fn rows_planned(rows: &[BoundRow], width: usize, catalog: &Catalog) -> bool
-    ensures { result ≡ spec.rows_planned width (view.rows_of catalog.now rows.now) }
+fn rows_planned(rows: &[BoundRow], width: usize, functions: &Functions) -> bool
+    ensures { result ≡ spec.rows_planned width (view.rows_seen functions.now rows.now) }
 {
     for row in rows {
-        if !row_planned(row, width, catalog) {
+        if !row_planned(row, width, functions) {
             return false;
         }
     }
@@ -140,67 +155,67 @@ fn rows_planned(rows: &[BoundRow], width: usize, catalog: &Catalog) -> bool
 }
 
 #[cycle(planned)]
-fn row_planned(row: &BoundRow, width: usize, catalog: &Catalog) -> bool
-    ensures { result ≡ spec.row_planned width (view.row_of catalog.now row.now) }
+fn row_planned(row: &BoundRow, width: usize, functions: &Functions) -> bool
+    ensures { result ≡ spec.row_planned width (view.row_seen functions.now row.now) }
 {
     match row {
-        BoundRow::Row(values) => values_planned(values.as_slice(), width, catalog),
+        BoundRow::Row(values) => values_planned(values.as_slice(), width, functions),
     }
 }
 
 // Whether there are so many values, each with a plan.
 #[cycle(planned)]
-fn values_planned(values: &[BoundExpr], width: usize, catalog: &Catalog) -> bool
-    ensures { result ≡ spec.row_planned width (view.exprs_of catalog.now values.now) }
+fn values_planned(values: &[BoundExpr], width: usize, functions: &Functions) -> bool
+    ensures { result ≡ spec.row_planned width (view.exprs_seen functions.now values.now) }
 {
-    values.len() == width && all_planned(values, catalog)
+    values.len() == width && all_planned(values, functions)
 }
 
 #[cycle(planned)]
-fn select_planned(select: &BoundSelect, catalog: &Catalog) -> bool
-    ensures { result ≡ plain.planned (view.select_of catalog.now select.now) }
+fn select_planned(select: &BoundSelect, functions: &Functions) -> bool
+    ensures { result ≡ plain.planned (view.select_seen functions.now select.now) }
 {
-    tables_planned(select, catalog) && lists_planned(select, catalog)
+    tables_planned(select, functions) && lists_planned(select, functions)
 }
 
 // FROM and WHERE.
 #[cycle(planned)]
-fn tables_planned(select: &BoundSelect, catalog: &Catalog) -> bool
-    ensures { result ≡ spec.tables_planned catalog.now (out-BoundSelect select.now) }
+fn tables_planned(select: &BoundSelect, functions: &Functions) -> bool
+    ensures { result ≡ spec.tables_planned functions.now (out-BoundSelect select.now) }
 {
-    from_planned(select.from.as_slice(), catalog)
-        && all_planned(select.conjuncts.as_slice(), catalog)
+    from_planned(select.from.as_slice(), functions)
+        && all_planned(select.conjuncts.as_slice(), functions)
 }
 
 // The groups and the list.
 #[cycle(planned)]
-fn lists_planned(select: &BoundSelect, catalog: &Catalog) -> bool
-    ensures { result ≡ spec.lists_planned catalog.now (out-BoundSelect select.now) }
+fn lists_planned(select: &BoundSelect, functions: &Functions) -> bool
+    ensures { result ≡ spec.lists_planned functions.now (out-BoundSelect select.now) }
 {
-    groups_planned(&select.grouping, catalog) && all_planned(select.items.as_slice(), catalog)
+    groups_planned(&select.grouping, functions) && all_planned(select.items.as_slice(), functions)
 }
 
 #[cycle(planned)]
-fn groups_planned(grouping: &Option<BoundGrouping>, catalog: &Catalog) -> bool
+fn groups_planned(grouping: &Option<BoundGrouping>, functions: &Functions) -> bool
     ensures { result ≡ spec.groups_planned
-        (option_map (view.grouping_of catalog.now) grouping.now) }
+        (option_map (view.grouping_seen functions.now) grouping.now) }
 {
     match grouping {
         Some(grouping) => {
-            all_planned(grouping.parts.as_slice(), catalog)
-                && all_planned(grouping.having.as_slice(), catalog)
+            all_planned(grouping.parts.as_slice(), functions)
+                && all_planned(grouping.having.as_slice(), functions)
         }
         None => true,
     }
 }
 
 #[cycle(planned)]
-fn from_planned(items: &[BoundFromItem], catalog: &Catalog) -> bool
-    ensures { result ≡ spec.items_planned true (map (view.item_of catalog.now) items.now) }
+fn from_planned(items: &[BoundFromItem], functions: &Functions) -> bool
+    ensures { result ≡ spec.items_planned true (map (view.item_seen functions.now) items.now) }
 {
     let mut first = true;
     for item in items {
-        if !item_planned(item, first, catalog) {
+        if !item_planned(item, first, functions) {
             return false;
         }
         first = false;
@@ -210,27 +225,27 @@ fn from_planned(items: &[BoundFromItem], catalog: &Catalog) -> bool
 
 // An item of FROM; ON of the first joins it to nothing.
 #[cycle(planned)]
-fn item_planned(item: &BoundFromItem, first: bool, catalog: &Catalog) -> bool
-    ensures { result ≡ spec.item_planned first (view.item_of catalog.now item.now) }
+fn item_planned(item: &BoundFromItem, first: bool, functions: &Functions) -> bool
+    ensures { result ≡ spec.item_planned first (view.item_seen functions.now item.now) }
 {
     match item {
-        BoundFromItem::Comma(source) => source_planned(source, catalog),
-        BoundFromItem::Cross(source) => source_planned(source, catalog),
+        BoundFromItem::Comma(source) => source_planned(source, functions),
+        BoundFromItem::Cross(source) => source_planned(source, functions),
         BoundFromItem::Inner(source, on) => {
-            source_planned(source, catalog) && (first || all_planned(on.as_slice(), catalog))
+            source_planned(source, functions) && (first || all_planned(on.as_slice(), functions))
         }
         BoundFromItem::Left(source, on) => {
-            source_planned(source, catalog) && (first || all_planned(on.as_slice(), catalog))
+            source_planned(source, functions) && (first || all_planned(on.as_slice(), functions))
         }
     }
 }
 
 #[cycle(planned)]
-fn source_planned(source: &BoundSource, catalog: &Catalog) -> bool
-    ensures { result ≡ plain.planned_from (view.source_of catalog.now source.now) }
+fn source_planned(source: &BoundSource, functions: &Functions) -> bool
+    ensures { result ≡ plain.planned_from (view.source_seen functions.now source.now) }
 {
     match source {
         BoundSource::Table(_) => true,
-        BoundSource::Derived(query) => is_planned(query.get(), catalog),
+        BoundSource::Derived(query) => is_planned(query.get(), functions),
     }
 }

@@ -1,6 +1,6 @@
 -- Heads go on listing what bodies call, and calls go on standing before what calls them, as a
 -- statement makes or drops an entry.
-use Rattle.std.proofs.Common.{◌≡◌, ℕ, Bool, List, [], ◌∷◌, ◌++◌, Result, Ok, Err, refl, sym, ap, ◌∙◌}
+use Rattle.std.proofs.Common.{◌≡◌, ℕ, Bool, List, [], ◌∷◌, ◌++◌, Result, Ok, Err, refl, sym, ap}
 use Rattle.std.proofs.Common.{subst}
 use Rattle.std.specs.Prelude.{IfOk, OnErr}
 use Rattle.sql_texts.specs.declared.memory.NoMemory.{NoMemory}

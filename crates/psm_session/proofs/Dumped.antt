@@ -1,7 +1,7 @@
 -- A dump, table by table.
 use Rattle.std.proofs.Common.{◌≡◌, ◌<◌, ◌+◌, ℕ, zero, suc, List, [], ◌∷◌, ◌++◌, length, arith, get_or}
-use Rattle.std.proofs.Common.{take, refl, sym, ap, ◌∙◌, append_assoc, append-nil}
-use Rattle.row_types.specs.Tables.{Stored, Tables, names_of, table_at}
+use Rattle.std.proofs.Common.{take, sym, ap, ◌∙◌, append_assoc, append-nil}
+use Rattle.row_types.specs.Tables.{Tables, names_of, table_at}
 use Rattle.reply_text.specs.Texts.{table_text}
 use Rattle.psm_session.specs.Dump.{tables_text}
 

@@ -1,7 +1,7 @@
 -- At each token before the end stands a statement, or nothing is read there; either way there is a
 -- reply, and the next one begins further on. The catalog's functions with plans go on having them.
 use Rattle.std.proofs.Common.{◌≡◌, ◌<◌, ◌≤◌, ℕ, Bool, true, false, List, [], ◌∷◌, Some, Ok, Err}
-use Rattle.std.proofs.Common.{length, drop, refl, ap, ◌∙◌, subst, inl, inr, arith}
+use Rattle.std.proofs.Common.{length, drop, refl, ap, ◌∙◌, inl, inr, arith}
 use Rattle.std.specs.Prelude.{if◌then◌else◌}
 use Rattle.sql_lex.specs.Tokens.{Lexing}
 use Rattle.syntax_trees.specs.declared.anchor.Anchor.{Anchor}
@@ -23,13 +23,11 @@ use Rattle.bind_statements.proofs.Made.{faultless-fits}
 use Rattle.reply_text.specs.declared.fault.FaultText.{FaultText}
 use Rattle.reply_text.specs.declared.fault.FaultText.TheVariants as text
 use Rattle.psm_effects.specs.Database.{Plain}
-use Rattle.psm_effects.specs.Explaining.{IsExplained}
 use Rattle.psm_effects.proofs.Laws.{some_explained}
 use Rattle.psm_session.specs.Effects.{is_done, effect, checked}
 use Rattle.psm_session.specs.Executing.{Executes, Checks}
 use Rattle.psm_session.specs.Planned.{EachPlanned}
 use Rattle.psm_session.specs.Statement.{Reads, Stops, Doing, StatementBy}
-use Rattle.psm_session.proofs.AllUsed.{has-plan}
 use Rattle.psm_session.proofs.KeptPlans.{planned-names, effect-planned, checked-planned}
 
 -- ---- what comes of a statement
@@ -64,13 +62,6 @@ execution-of : (budget : ℕ) (found : Noted BoundStatement) (at : Anchor) (befo
 execution-of budget found at before planned fit =
     by_faults found.faults refl (is_done found.value.bound) refl
   where
-    explained : found.faults ≡ [] → (q : BoundQuery) → found.value.bound ≡ bound.Explain q →
-        (reply : List ℕ) × IsExplained before.catalog q reply
-    explained none q is =
-        let f : BoundFits before.catalog found.value.by_plan (bound.Explain q) =
-        subst (BoundFits before.catalog found.value.by_plan) is (fit none) in
-        some_explained before.catalog q (has-plan before.catalog q f)
-
     by_faults : (faults : List Fault) → found.faults ≡ faults → (done : Bool) →
         is_done found.value.bound ≡ done → (reply : List ℕ) × (after : Plain) ×
         Executes budget found at before reply after × EachPlanned after.catalog
@@ -82,7 +73,7 @@ execution-of budget found at before planned fit =
     )
     by_faults [] none false runs =
         let form = explain-form found.value.bound runs in
-        let told = explained none form.0 form.1 in (
+        let told = some_explained before.catalog form.0 in (
           told.0,
           before,
           inr (inl (record {

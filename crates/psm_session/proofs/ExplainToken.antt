@@ -13,10 +13,8 @@ use Rattle.statement_trees.specs.declared.statement.Declaration.TheViews.{outs-Q
 use Rattle.statement_trees.specs.declared.statement.Declaration.TheViews.{outs-Call, outs-Labelled}
 use Rattle.statement_trees.specs.declared.statement.Stmt.{Stmt, out-Stmt}
 use Rattle.statement_trees.specs.declared.statement.Stmt.TheVariants as stmt_of
-use Rattle.sql_lex.specs.Tokens.{Lexing, kind_of}
+use Rattle.sql_lex.specs.Tokens.{Lexing}
 use Rattle.sql_lex.specs.declared.token.Token.{Token}
-use Rattle.sql_lex.specs.declared.token.TokenKind.TheVariants as kind
-use Rattle.sql_lex.specs.declared.word.Word.TheVariants as w
 use Rattle.grammar_algebra.specs.Grammar.{Inner, Spells, map_to, inside}
 use Rattle.grammar_algebra.specs.Statement.{most_open}
 use Rattle.grammar_sql.specs.Trees.{G, Rule, Tree}

@@ -6,7 +6,6 @@ pub mod Preparing
 pub mod Laws
 pub mod Unread
 pub mod Calls
-pub mod AllUsed
 pub mod KeptPlans
 pub mod ExplainToken
 pub mod Naming

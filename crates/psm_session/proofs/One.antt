@@ -4,7 +4,6 @@ use Rattle.std.proofs.Common.{ap₂, sym, ◌∙◌, subst, inl, inr, arith}
 use Rattle.std.specs.Prelude.{slice_get}
 use Rattle.sql_lex.specs.Tokens.{Lexing}
 use Rattle.sql_lex.specs.Openings.{place_at}
-use Rattle.syntax_trees.specs.declared.anchor.Anchor.{Anchor}
 use Rattle.statement_trees.specs.declared.statement.Stmt.{Stmt}
 use Rattle.grammar_algebra.specs.Statement.{BeginsWithin, IsStuck, IsTooDeep, IsFurthest, most_open}
 use Rattle.grammar_algebra.proofs.Laws.{one_spelling}

@@ -1,5 +1,5 @@
 -- What is done by plans in a mode has them.
-use Rattle.std.proofs.Common.{◌≡◌, Bool, true, false, refl}
+use Rattle.std.proofs.Common.{Bool}
 use Rattle.catalog_store.specs.Catalog.{Catalog}
 use Rattle.bind_direct.specs.declared.bound.Bound.{Bound}
 use Rattle.bind_direct.specs.declared.bound.Bound.TheVariants as bound

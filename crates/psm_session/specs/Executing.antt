@@ -1,6 +1,6 @@
 -- What comes of a statement that was read: where it is valid, its effect, or where it is an EXPLAIN, a
 -- reply that it may have; else its least fault. And what comes of it where it is checked alone.
-use Rattle.std.specs.Prelude.{ℕ, ◌≡◌, ◌⊎◌, true, false, List, [], Some}
+use Rattle.std.specs.Prelude.{ℕ, ◌≡◌, ◌⊎◌, true, List, [], Some}
 use Rattle.syntax_trees.specs.declared.anchor.Anchor.{Anchor}
 use Rattle.bind_faults.specs.declared.fault.Fault.{Fault}
 use Rattle.bind_faults.specs.Faults.{Noted, least}

@@ -8,13 +8,9 @@ ghost use Rattle.rel_algebra.specs.Joins.{table_width};
 ghost use Rattle.rel_algebra.specs.Lasting.{QueryLasts};
 ghost use Rattle.rel_algebra.specs.Plain.{planned};
 ghost use Rattle.rel_algebra.specs.Work.{work};
-ghost use Rattle.catalog_store.specs.Uses.{names_used, uses_in_query};
 ghost use Rattle.catalog_store.specs.View.{query_of};
 ghost use Rattle.bind_direct.specs.declared.bound.Bound.TheVariants.{Explain};
-ghost use Rattle.bind_queries.specs.Binds.{HasPlan};
-ghost use Rattle.bind_queries.specs.Runs.{Runs};
 ghost use Rattle.typing_plans.specs.Bodies.{kinds_in};
-ghost use Rattle.bind_statements.specs.Binds.{StatementFits};
 ghost use Rattle.bind_statements.specs.Statements.{judged_statement, anchor_of};
 ghost use Rattle.bound_trees.specs.declared.query.BoundQuery.{BoundQuery};
 ghost use Rattle.psm_effects.specs.Answering.{ends_with, HasValues};
@@ -30,6 +26,8 @@ use crate::effect::{check_bound, is_done, run_found};
 use bind_direct::{Bound, BoundStatement};
 use bind_faults::Fault;
 use bind_statements::{NameFault, bind_statement};
+use block_plans::Functions;
+use body_queries::keep_blocks;
 use bound_trees::BoundQuery;
 use catalog_store::Catalog;
 use kept_queries::KeptPlans;
@@ -48,9 +46,9 @@ use table_store::Tables;
 
 /// A catalog, and the tables that it names, each with the columns and the key that it says, in its
 /// order; the body of each function with a plan is well typed over the entries made before it; and
-/// the head of each routine lists what its body calls, which was made before it, but for the routine
-/// itself. Contracts see both as plain data. Beside them stand the names of the tables, in their
-/// order, and plans of queries in bodies, in this catalog.
+/// the head of each routine lists what its body calls, which was made before it, but for the
+/// routine itself. Contracts see both as plain data. Beside them stand the names of the tables, in
+/// their order, and plans of queries in bodies, in this catalog.
 #[derive(Drop)]
 pub struct Database {
     alloc: Global,
@@ -181,23 +179,20 @@ impl Database {
         dump.into_reply()
     }
 
-    /// The reply to EXPLAIN of a query, which reads no variable, and has a plan where all that it uses
-    /// may be run by one: in how many places it calls functions with plans and without, and, where
-    /// there is none of the latter, the lines of a plan that means it, whatever the tables hold.
-    /// Nothing is run and nothing changes.
+    /// The reply to EXPLAIN of a query: in how many places it calls functions with plans, blocks
+    /// that may have plans among them, and functions without, and, where it has a plan, the lines
+    /// of one that means it, whatever the tables hold. Nothing is run and nothing changes.
     pub fn explain(&self, query: &BoundQuery) -> Result<Reply, NoMemory>
-        requires fits { Runs self.now.catalog (names_used (uses_in_query query.now)) →
-            HasPlan self.now.catalog query.now }
         ensures { IfOk result (λ r. IsExplained self.now.catalog query.now r) }
     {
-        let _entries = self.catalog.len();
-        explain_query(self.alloc, query, &self.catalog)
+        let kept = keep_blocks(self.alloc, query, &self.catalog)?;
+        let functions = Functions::with_blocks(&self.catalog, kept.blocks());
+        explain_query(self.alloc, query, &functions)
     }
 
     // The reply to an EXPLAIN whose names are resolved.
     fn explain_bound(&self, stmt: BoundStatement) -> Result<Reply, NoMemory>
-        requires form { is_done_of stmt.bound ≡ false }
-        requires fits { StatementFits self.now.catalog stmt }
+        requires { is_done_of stmt.bound ≡ false }
         ensures { IfOk result (λ r. (query : BoundQuery) × (stmt.bound ≡ Explain query) ×
             IsExplained self.now.catalog query r) }
     {
@@ -207,9 +202,9 @@ impl Database {
     }
 
     /// Does a statement in a mode with so many turns, and answers its reply, which is the same in
-    /// both modes, but for which plan of its query an EXPLAIN tells. A statement with faults in this
-    /// catalog changes nothing, and its reply is the least of them; an EXPLAIN changes nothing, and
-    /// takes no turn. Without memory nothing changes either.
+    /// both modes, but for which plan of its query an EXPLAIN tells. A statement with faults in
+    /// this catalog changes nothing, and its reply is the least of them; an EXPLAIN changes
+    /// nothing, and takes no turn. Without memory nothing changes either.
     pub fn exec_statement(
         &mut self,
         stmt: &Stmt,

@@ -2,6 +2,7 @@
 //! does.
 
 ghost use Rattle.std.specs.Prelude.{◌≡◌};
+ghost use Rattle.viewing_laws.specs.Standing.{CallsStandBefore};
 
 use bind_direct::Bound;
 use body_queries::{Asking, keep_called};
@@ -24,7 +25,8 @@ fn asking_of<'a>(stmt: &'a Bound) -> Option<Asking<'a>> {
 
 // Those of what a statement asks of the interpreter.
 fn keep_asked(alloc: Global, stmt: &Bound, catalog: &Catalog, kept: &mut KeptPlans)
-    requires { kept.old ≡ catalog.now }
+    requires kept { kept.old ≡ catalog.now }
+    requires calls { CallsStandBefore catalog.now }
     ensures { kept.new ≡ kept.old }
 {
     match asking_of(stmt) {
@@ -35,9 +37,10 @@ fn keep_asked(alloc: Global, stmt: &Bound, catalog: &Catalog, kept: &mut KeptPla
     }
 }
 
-/// Keeps the plans of queries in a statement's own body and in those of the routines that it calls,
-/// in the mode that inlines. In the plain one none is kept. A statement that is done by plans calls
-/// no routine without one. Where there is no memory for a plan, its query goes row by row.
+/// Keeps the plans of the blocks that a statement calls, and of the queries in it and in the bodies
+/// of the routines that it calls, in the mode that inlines. In the plain one none is kept. A
+/// statement that is done by plans calls no routine without one. Where there is no memory for a
+/// plan, what it is of goes row by row.
 pub(crate) fn keep_plans(
     alloc: Global,
     mode: Mode,
@@ -46,7 +49,8 @@ pub(crate) fn keep_plans(
     catalog: &Catalog,
     kept: &mut KeptPlans,
 )
-    requires { kept.old ≡ catalog.now }
+    requires kept { kept.old ≡ catalog.now }
+    requires calls { CallsStandBefore catalog.now }
     ensures { kept.new ≡ kept.old }
 {
     if by_plan {

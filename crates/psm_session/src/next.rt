@@ -34,8 +34,8 @@ fn unread(
 
 /// Does the statement at a token with so many turns, in the plain mode where that is said: its
 /// reply, and the token at which the next one begins, which is the number of tokens where the script
-/// ends. All of this is the same in both modes. A statement with faults replies the least of them, changes nothing, and the script
-/// goes on after it. Where no statement is read, the reply says so
+/// ends. All of this is the same in both modes. A statement with faults replies the least of them,
+/// changes nothing, and the script goes on after it. Where no statement is read, the reply says so
 /// with the place up to which one begins, nothing changes, and the script ends. Without memory
 /// nothing changes.
 pub fn run_next(

@@ -2,7 +2,7 @@
 
 ghost use Rattle.region_trees.specs.Examples.{FormsWorked, ChoicesWorked, OthersWorked};
 ghost use Rattle.region_trees.specs.Examples.{BodiesWorked, RegionsWorked};
-ghost use Rattle.region_trees.specs.Laws.{RegionsEmbed, BodiesFormed, BodiesMean};
+ghost use Rattle.region_trees.specs.Laws.{RegionsEmbed, RegionsAgree, BodiesFormed, BodiesMean};
 
 use regions::body_plans;
 
@@ -34,6 +34,11 @@ pub fn regions_worked()
 /// The tree of a body in form is the very statement that the body stands for.
 pub fn regions_embed()
     ensures { RegionsEmbed }
+{}
+
+/// Where what has a plan is seen alike in two ways, the tree of a body in form is the same by both.
+pub fn regions_agree()
+    ensures { RegionsAgree }
 {}
 
 /// The tree of a body in form that doesn't call itself is formed as plans want it.

@@ -3,10 +3,9 @@
 
 mod forming;
 mod laws;
-mod planned;
 
 pub use forming::in_form;
 pub use laws::{
     bodies_formed, bodies_mean, bodies_worked, choices_worked, forms_worked, others_worked,
-    regions_embed, regions_worked,
+    regions_agree, regions_embed, regions_worked,
 };

@@ -1,3 +1,4 @@
 mod Wide
 mod Ended
 mod Chosen
+mod Calls

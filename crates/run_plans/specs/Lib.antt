@@ -1,2 +1,3 @@
 pub mod Ending
 pub mod Widths
+pub mod Calling

@@ -4,11 +4,10 @@ ghost use Rattle.std.specs.Prelude.{◌≡◌, [], IfSome};
 ghost use Rattle.rel_algebra.specs.Joins.{table_width};
 ghost use Rattle.rel_algebra.specs.Meaning.{answer};
 ghost use Rattle.scanned_tables.specs.Scans.{AreWide};
-ghost use Rattle.catalog_store.specs.View.{query_of};
 ghost use Rattle.routine_views.specs.Views.{query_in};
 ghost use Rattle.run_choices.specs.Sight.{seen};
 ghost use Rattle.run_expressions.specs.Content.{world_of};
-ghost use Rattle.run_places.specs.Places.{known_of, self_of};
+ghost use Rattle.run_places.specs.Places.{known_of, own_in, self_of};
 ghost use Rattle.kept_queries.specs.Keeping.{IsKept};
 ghost use Rattle.run_plans.specs.Ending.{kept_end};
 
@@ -19,7 +18,6 @@ use rel_algebra::kept_tables_fit;
 use run_expressions::{Frame, RowsInSight, World};
 use run_places::Place;
 use table_store::Tables;
-use viewing_laws::planned_views;
 
 /// A kept plan by which a query at a place ends: where no row is in sight, the plan has as many
 /// arguments as there are variables, and each table that it reads has as many columns as it has in
@@ -76,13 +74,10 @@ fn if_wide<'a>(kept: &'a KeptQuery, tables: &Tables) -> Option<&'a KeptQuery>
 // What is kept of a query over so many variables for the routine around a place, or for what is run
 // outside of routines.
 fn kept_at<'a>(place: &Place<'a>, query: &BoundQuery, variables: usize) -> Option<&'a KeptQuery>
-    ensures kept { IfSome result (λ k. IsKept place.now.catalog.now k.now) }
-    ensures query { IfSome result (λ k. query_in (known_of place.now) query.now ≡
-        query_of place.now.catalog.now k.now.query) }
+    ensures kept { IfSome result (λ k. IsKept place.now.catalog.now (own_in place.now.own) k.now) }
+    ensures query { IfSome result (λ k. k.now.query ≡ query.now) }
     ensures variables { IfSome result (λ k. k.now.variables ≡ variables) }
 {
-    planned_views();
-    let _entries = place.catalog.len();
     match place.own {
         Some(own) => place.kept.find(Some(own.name), query, variables),
         None => place.kept.find(None, query, variables),

@@ -34,8 +34,8 @@ pub fn run_kept(kept: &KeptQuery, frame: &Frame, world: &World) -> Result<Items<
     }
 }
 
-// The values of a plan's rows over tables and arguments, or their first area.
-fn plan_values(
+/// The values of a plan's rows over tables and arguments, or their first area.
+pub(crate) fn plan_values(
     alloc: Global,
     plan: &Plan,
     tables: &Tables,

@@ -4,22 +4,26 @@ ghost use Rattle.std.specs.Prelude.{◌≡◌, [], true, Some};
 ghost use Rattle.rel_algebra.specs.Tree.{Call, CallSelf, Returned};
 ghost use Rattle.rel_algebra.specs.Plain.{planned_expr};
 ghost use Rattle.rel_algebra.specs.Meaning.{ev, call as call_by};
+ghost use Rattle.catalog_store.specs.Entries.{interpreted_of};
 ghost use Rattle.routine_views.specs.Views.{called, expr_in, types_of};
-ghost use Rattle.routine_views.specs.Routines.{routines_of};
+ghost use Rattle.routine_views.specs.Routines.{function_view, routines_of};
 ghost use Rattle.run_expressions.specs.Content.{world_of};
 ghost use Rattle.run_expressions.specs.Ending.{Ended};
 ghost use Rattle.run_choices.specs.Sight.{seen};
+ghost use Rattle.run_places.specs.Callees.{IsPlanned};
 ghost use Rattle.run_places.specs.Places.{known_of, self_of, no_routine, parameters_in};
 ghost use Rattle.run_places.specs.Views.{exprs_in};
 
 use crate::expr::{eval, eval_arguments};
 use crate::functions::call_function;
 use bound_trees::BoundExpr;
+use catalog_store::{FunctionHead, InterpretedFunction};
 use run_expressions::{Arguments, Frame, RowsInSight, Stop, World};
 use run_places::{
     Callee, Own, Place, SelfCall, in_no_routine, named, own_named, own_parameters, refused,
     self_call,
 };
+use run_plans::{call_plan_for, run_call_plan};
 use run_rows::assigned;
 use sql_values::{Name, SqlType, Value};
 
@@ -89,17 +93,62 @@ fn call_other(
         Callee::Planned(head, body) => {
             let parameters = head.parameters.as_slice();
             let values = eval_arguments(arguments, parameters, rows, frame, world, place)?;
-            run_body(body, head.returns, values, world, place)
+            call_returned(name, head, body, values, world, place)
         }
         Callee::Interpreted(function) => {
             let parameters = function.head.parameters.as_slice();
             let values = eval_arguments(arguments, parameters, rows, frame, world, place)?;
-            let room = world.room();
-            call_function(name, function, room, values, world, place)
+            call_stated(name, function, values, world, place)
         }
         Callee::Nothing => {
             let _values = eval_arguments(arguments, &[], rows, frame, world, place)?;
             Ok(Value::Null)
+        }
+    }
+}
+
+// A call of a function whose body is one RETURN: by a plan that is kept of its calls and fits there,
+// or else by its body.
+#[cycle(run)]
+fn call_returned(
+    name: &Name,
+    head: &FunctionHead,
+    body: &BoundExpr,
+    values: Arguments,
+    world: &mut World,
+    place: &Place,
+) -> Result<Value, Stop>
+    requires { IsPlanned place.now.catalog.now (routines_of place.now.catalog.now name.now) head.now
+        body.now }
+    ensures { Ended world.old world.new result
+        (call_by (routines_of place.now.catalog.now name.now) values (world_of world.old)) }
+{
+    match call_plan_for(place, name, &values, &*world) {
+        Some(call) => run_call_plan(call, values, &*world),
+        None => run_body(body, head.returns, values, world, place),
+    }
+}
+
+// A call of a function whose body is a statement: by a plan that is kept of its calls and fits
+// there, or else by its body, with the room that is left.
+#[cycle(run)]
+fn call_stated(
+    name: &Name,
+    function: &InterpretedFunction,
+    values: Arguments,
+    world: &mut World,
+    place: &Place,
+) -> Result<Value, Stop>
+    requires { routines_of place.now.catalog.now name.now ≡ function_view
+        (routines_of place.now.catalog.now) name.now (interpreted_of function.now) }
+    ensures { Ended world.old world.new result
+        (call_by (routines_of place.now.catalog.now name.now) values (world_of world.old)) }
+{
+    match call_plan_for(place, name, &values, &*world) {
+        Some(call) => run_call_plan(call, values, &*world),
+        None => {
+            let room = world.room();
+            call_function(name, function, room, values, world, place)
         }
     }
 }

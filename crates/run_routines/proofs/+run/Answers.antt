@@ -3,7 +3,7 @@ use Rattle.std.proofs.Common.{rules, ◌≡◌, subst, ◌++◌, Bool, true, fal
 use Rattle.std.proofs.Common.{Result, Ok, Err, take}
 use Rattle.std.specs.Option.{option_copied}
 use Rattle.rel_algebra.specs.Meaning.{ev_args, from_rows, record_of, Context, does_all, inside}
-use Rattle.rel_algebra.specs.Meaning.{does, inside_scopes, answer, ev_perhaps}
+use Rattle.rel_algebra.specs.Meaning.{call, does, inside_scopes, answer, ev_perhaps}
 use Rattle.routine_views.specs.Views.{arguments as arguments_in, stmt_in, target, perhaps}
 use Rattle.routine_views.specs.Views.{query_in}
 use Rattle.run_places.specs.Views.{exprs_in, item_in}
@@ -38,7 +38,7 @@ use Rattle.run_places.proofs.Laws.{single_ends, exists_ends, ordered_ends}
 use Rattle.run_places.specs.Places.{known_of, no_routine, self_of, call_cost, context_of}
 use Rattle.run_places.specs.Places.{queries_of, scopes_of, handlers_costs, queries_in}
 use Rattle.run_places.proofs.Laws.{returned_ends, another_ends, within_ends}
-use Rattle.rel_algebra.specs.Tree.{parameters_of, Query}
+use Rattle.rel_algebra.specs.Tree.{Routine, parameters_of, Query}
 use Rattle.catalog_store.specs.Entries.{interpreted_of, procedure_of}
 use Rattle.routine_views.specs.Routines.{function_view, procedure_view, routines_of, with_modes}
 use Rattle.run_places.specs.declared.own.SelfCall.{SelfCall}
@@ -771,15 +771,32 @@ calls::call_other-returns-in_ok-values-in-Interpreted t c =
     another_ends (self_of c.args.place.now) (seen c.args.rows.now) c.args.frame.now
     (exprs_in (known_of c.args.place.now) c.args.arguments.now)
     c.as_slice-parameters-in-Interpreted.result.now c.args.world.now
-    c.eval_arguments-in-Interpreted.new.world c.call_function.new.world c.args.name.now
+    c.eval_arguments-in-Interpreted.new.world c.call_stated.new.world c.args.name.now
     (routines_of c.args.place.now.catalog.now c.args.name.now)
-    c.in_ok-values-in-Interpreted.values c.call_function.result
+    c.in_ok-values-in-Interpreted.values c.call_stated.result
     (c.as_slice-parameters-in-Interpreted.ensures ∙ sym (ap parameters_of c.in-Interpreted.ensures))
-    c.in_ok-values-in-Interpreted.ensures
-    (within_ends (routines_of c.args.place.now.catalog.now c.args.name.now) _ _ _ _ _
-    c.room-room.result c.in_ok-values-in-Interpreted.values
-    c.eval_arguments-in-Interpreted.new.world c.call_function.new.world c.call_function.result
-    c.in-Interpreted.ensures c.room-room.ensures c.call_function.ensures)
+    c.in_ok-values-in-Interpreted.ensures c.call_stated.ensures
+
+pub calls::call_returned-returns-in-Some : goal.calls::call_returned-returns-in-Some
+calls::call_returned-returns-in-Some t c =
+    subst (λ (e : Ends Value). Ended c.args.world.now c.args.world.now c.run_call_plan.result e)
+    (sym c.in-Some.ensures) c.run_call_plan.ensures
+
+pub calls::call_returned-returns-in-None : goal.calls::call_returned-returns-in-None
+calls::call_returned-returns-in-None t c =
+    subst (λ (q : Routine). Ended c.args.world.now c.run_body.new.world c.run_body.result
+    (call q c.args.values (world_of c.args.world.now))) (sym c.requires.stands) c.run_body.ensures
+
+pub calls::call_stated-returns-in-Some : goal.calls::call_stated-returns-in-Some
+calls::call_stated-returns-in-Some t c =
+    subst (λ (e : Ends Value). Ended c.args.world.now c.args.world.now c.run_call_plan.result e)
+    (sym c.in-Some.ensures) c.run_call_plan.ensures
+
+pub calls::call_stated-returns-in-None : goal.calls::call_stated-returns-in-None
+calls::call_stated-returns-in-None t c =
+    within_ends (routines_of c.args.place.now.catalog.now c.args.name.now) _ _ _ _ _
+    c.room-room.result c.args.values c.args.world.now c.call_function.new.world
+    c.call_function.result c.requires c.room-room.ensures c.call_function.ensures
 
 -- functions whose body is a statement
 

@@ -323,6 +323,14 @@ abbrev pub decreases-calls::call_other : goal.decreases-calls::call_other
 decreases-calls::call_other l = 8 * (costs (exprs_in (known_of l.place.now) l.arguments.now) +
     routine_cost (routines_of l.place.now.catalog.now l.name.now) + 1 + self_cost l.place.now)
 
+abbrev pub decreases-calls::call_returned : goal.decreases-calls::call_returned
+decreases-calls::call_returned l =
+    8 * routine_cost (routines_of l.place.now.catalog.now l.name.now) + 4
+
+abbrev pub decreases-calls::call_stated : goal.decreases-calls::call_stated
+decreases-calls::call_stated l =
+    8 * routine_cost (routines_of l.place.now.catalog.now l.name.now) + 4
+
 abbrev pub decreases-calls::run_body : goal.decreases-calls::run_body
 decreases-calls::run_body l =
     8 * (cost (expr_in (no_routine l.place.now.catalog.now) l.body.now) + 1)

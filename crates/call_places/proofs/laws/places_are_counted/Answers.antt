@@ -19,7 +19,7 @@ use Rattle.catalog_store.proofs.Bound.{uses_in_query-Select, uses_in_query-Value
 use Rattle.catalog_store.proofs.Bound.{uses_in_row-Row, uses_in_source-Table}
 use Rattle.catalog_store.proofs.Bound.{uses_in_select-made}
 use Rattle.catalog_store.proofs.Layers.{grouping_uses-at}
-use Rattle.call_places.specs.Examples.{again, next, one, places, value_alone}
+use Rattle.call_places.specs.Examples.{again, next, no_block, one, places, value_alone}
 use Rattle.call_places.specs.Places.{is_inlined, is_interpreted}
 use Rattle.call_places.proofs.laws.places_are_counted.Goals as goal
 
@@ -31,7 +31,7 @@ alone e = uses_in_query-Values (row.Row (e ∷ []) ∷ []) ∙
 -- the places among uses
 abbrev places_in : Uses → ℕ × ℕ
 places_in us =
-    (count_by (is_inlined with_statements) us, count_by (is_interpreted with_statements) us)
+    (count_by (is_inlined no_block) us, count_by (is_interpreted no_block) us)
 
 -- those of VALUES with one value that uses these
 of_uses : (e : BoundExpr) (us : Uses) → uses_in e ≡ us →

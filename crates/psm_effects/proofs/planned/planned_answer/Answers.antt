@@ -1,8 +1,7 @@
 -- The prepared query is run over the tables of its catalog.
-use Rattle.std.proofs.Common.{List, ap, ◌∙◌, []}
-use Rattle.row_types.specs.Rows.{Row}
+use Rattle.std.proofs.Common.{ap, ◌∙◌, []}
 use Rattle.rel_algebra.specs.Tree.{Query}
-use Rattle.rel_algebra.specs.World.{Ends, no_self, no_frame}
+use Rattle.rel_algebra.specs.World.{no_self, no_frame}
 use Rattle.rel_algebra.specs.Meaning.{answer}
 use Rattle.catalog_store.specs.View.{query_of}
 use Rattle.catalog_store.specs.Widths.{width_in}

@@ -6,9 +6,12 @@ pub invariant_of-self : goal.invariant_of-self
 invariant_of-self c = (
   c.self.invariant.0,
   (
-    put_after c.self.inside.known.value c.args.self.now c.self.inside.returned c.args.queries
-        c.append.new.self c.self.view_is c.self.invariant.1.0 c.requires c.in-Ok.ensures,
-    c.self.invariant.1.1,
+    c.self.invariant.1.0,
+    (
+      put_after c.self.inside.known.value c.args.self.now c.self.inside.returned c.args.queries
+          c.append.new.self c.self.view_is c.self.invariant.1.1.0 c.requires c.in-Ok.ensures,
+      c.self.invariant.1.1.1,
+    ),
   ),
 )
 
@@ -16,8 +19,11 @@ pub invariant_of-self-in-Ok : goal.invariant_of-self-in-Ok
 invariant_of-self-in-Ok c = (
   c.self.invariant.0,
   (
-    put_after c.self.inside.known.value c.args.self.now c.self.inside.returned c.args.queries
-        c.append.new.self c.self.view_is c.self.invariant.1.0 c.requires c.in-Ok.ensures,
-    c.self.invariant.1.1,
+    c.self.invariant.1.0,
+    (
+      put_after c.self.inside.known.value c.args.self.now c.self.inside.returned c.args.queries
+          c.append.new.self c.self.view_is c.self.invariant.1.1.0 c.requires c.in-Ok.ensures,
+      c.self.invariant.1.1.1,
+    ),
   ),
 )

@@ -1,0 +1,4 @@
+pub mod Choices
+pub mod Blocks
+pub mod Cost
+pub mod Examples

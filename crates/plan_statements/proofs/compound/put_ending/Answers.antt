@@ -1,0 +1,15 @@
+use Rattle.std.proofs.Common.{[], ◌∷◌, ap, map}
+use Rattle.std.proofs.lemmas.Result.{on_ok_weaker}
+use Rattle.rel_algebra.specs.BodySteps.{acts, store}
+use Rattle.rel_algebra.specs.Plan.{Scalar, no_node}
+use Rattle.plan_steps.proofs.Stepping.{puts_as}
+use Rattle.plan_statements.proofs.compound.put_ending.Goals as goal
+
+pub returns : goal.returns
+returns c =
+    let n = c.args.columns in
+    let code = c.args.codes.now.exit in
+    on_ok_weaker c.go.result
+    (λ puts known outer. puts_as c.args.draft.now c.go.new.draft _ _
+    (ap (λ (s : Scalar). acts code no_node n (store 0 s ∷ []) n [] ∷ [])
+    (c.in_ok-target.ensures known outer)) puts) c.go.ensures

@@ -1,7 +1,0 @@
-use Rattle.std.proofs.Common.{◌∙◌}
-use Rattle.region_trees.proofs.Parts.{first_row}
-use Rattle.region_trees.proofs.planned.first_width.Goals as goal
-
-pub returns-in-Some : goal.returns-in-Some
-returns-in-Some c = λ known. c.row_width.ensures known ∙
-    first_row known c.args.rows.now c.in-Some.row.now c.in-Some.ensures.value
