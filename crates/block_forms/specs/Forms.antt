@@ -14,16 +14,15 @@ use Rattle.region_trees.specs.Form.{formed, in_form}
 use Rattle.region_trees.specs.Regions.{region_seen}
 use Rattle.block_forms.specs.Filled.{filled}
 
--- it doesn't call itself, is called on NULL too, and its body is in form, not too heavy, and has as
--- many columns as targets in each SELECT INTO
+-- it doesn't call itself, and its body is in form, not too heavy, and has as many columns as
+-- targets in each SELECT INTO
 abbrev pub may_be_planned : Callees → Interpreted → Bool
-may_be_planned k f = not f.self_calling
-    && (not f.null_call && (in_form k f.body && filled k f.body))
+may_be_planned k f = not f.self_calling && (in_form k f.body && filled k f.body)
 
 -- a function by its body, whose calls run what has a plan
 abbrev pub body_routine : Callees → Interpreted → Routine
 body_routine k f =
-    Function false f.parameters f.returns false (stmt_of (region_seen k f.body))
+    Function false f.parameters f.returns f.null_call (stmt_of (region_seen k f.body))
 
 -- A function that may have a plan is planned, as the routines of the catalog see it, and is that of
 -- its body by what has a plan; and its body is of statements in form.

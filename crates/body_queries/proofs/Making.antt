@@ -54,7 +54,7 @@ procedure_unplanned known name p is = ap (λ (o : Option Object). planned_routin
 -- what is emitted of a function's body over such parameters, where blocks have plans
 abbrev pub emitted_of : Callees → Interpreted → List SqlType → Emitted
 emitted_of k f parameters =
-    emit_body (Function false parameters f.returns false (stmt_of (region_seen k f.body)))
+    emit_body (Function false parameters f.returns f.null_call (stmt_of (region_seen k f.body)))
     (width_in k) (top (length parameters)) 0
 
 module _ (seen : RoutinesByName) (known : Catalog) (name : List ℕ)

@@ -142,6 +142,7 @@ fn apart_plan(
         alloc,
         parameters,
         function.head.returns,
+        function.null_call,
         &function.body,
         functions,
     )?;

@@ -1,6 +1,6 @@
-//! The outermost queries of statements (ISO/IEC 9075-2, 14 and 23.1; ISO/IEC 9075-4, 14 and 17), by
-//! the variables and cursors that are in sight there. The query of a cursor counts where the cursor
-//! is opened.
+//! The queries of statements (ISO/IEC 9075-2, 14 and 23.1; ISO/IEC 9075-4, 14 and 17), by the
+//! variables and cursors that are in sight there. The query of a cursor counts where the cursor is
+//! opened.
 
 ghost use Rattle.std.specs.Prelude.{IfOk, OnOk};
 ghost use Rattle.kept_queries.specs.Keeping.{AreKept};
@@ -8,16 +8,17 @@ ghost use Rattle.kept_queries.specs.Keeping.{AreKept};
 use crate::outermost::{keep_in_expr, keep_outermost};
 use bound_trees::{
     BoundArgument, BoundBlock, BoundBranch, BoundExpr, BoundHandler, BoundInformation, BoundQuery,
-    BoundRow, BoundStmt, BoundVariables,
+    BoundStmt, BoundVariables,
 };
 use kept_queries::{Around, KeptQuery};
+use plan_drafts::columns_of;
 use sql_values::NoMemory;
 use sqlite_items::Items;
 use std::alloc::Global;
 
 /// The plans of the outermost queries of a body that have one, each over as many arguments as
-/// variables are in sight where it is evaluated; at the start there are so many. What is missed is
-/// only slower.
+/// variables are in sight where it is evaluated; at the start there are so many; and of the queries
+/// in one that has none, under its rows. What is missed is only slower.
 pub fn keep_body(
     alloc: Global,
     body: &BoundStmt,
@@ -138,18 +139,6 @@ fn keep_in_defaults(
         in_sight = in_sight.saturating_add(group.count);
     }
     Ok(in_sight)
-}
-
-// How many columns a query has: VALUES as many as its first row.
-fn columns_of(query: &BoundQuery) -> usize {
-    match query {
-        BoundQuery::Select(select) => select.items.len(),
-        BoundQuery::Values(rows) => match rows.get(0) {
-            Some(BoundRow::Row(values)) => values.len(),
-            None => 0,
-        },
-        BoundQuery::Ordered(query, _) => columns_of(query.get()),
-    }
 }
 
 // The queries of the cursors in sight once more.

@@ -1,13 +1,12 @@
-//! The outermost queries of expressions and queries: those that are evaluated with no row in sight.
+//! The outermost queries of expressions and queries: those that are evaluated with no row in sight;
+//! and those in them.
 
-ghost use Rattle.std.specs.Prelude.{◌≡◌, true, IfOk, OnOk};
-ghost use Rattle.rel_algebra.specs.Plain.{planned};
-ghost use Rattle.block_plans.specs.View.{query_seen};
+ghost use Rattle.std.specs.Prelude.{IfOk, OnOk};
 ghost use Rattle.kept_queries.specs.Keeping.{AreKept};
 
-use bound_trees::{BoundExpr, BoundFromItem, BoundLink, BoundQuery, BoundRow, BoundSource};
-use kept_queries::{Around, KeptQuery, find, keep};
-use planned_queries::is_planned;
+use crate::under_rows::{keep_query, keep_within};
+use bound_trees::{BoundExpr, BoundQuery};
+use kept_queries::{Around, InSight, KeptQuery};
 use sql_values::NoMemory;
 use sqlite_items::Items;
 use std::alloc::Global;
@@ -30,8 +29,8 @@ pub(crate) fn keep_asked(
     Ok(kept)
 }
 
-/// The plans of the outermost queries in what a function returns, over so many parameters, where
-/// there are so many of other functions.
+/// The plans of the outermost queries in what a function returns, over so many parameters, and of
+/// those in them, where there are so many of other functions.
 pub(crate) fn keep_returned(
     alloc: Global,
     returned: &BoundExpr,
@@ -50,7 +49,6 @@ pub(crate) fn keep_returned(
 }
 
 /// Those of an expression, where so many variables are in sight.
-#[cycle(outermost)]
 pub(crate) fn keep_in_expr(
     alloc: Global,
     expr: &BoundExpr,
@@ -61,67 +59,11 @@ pub(crate) fn keep_in_expr(
     requires { AreKept around.now kept.old }
     ensures { OnOk result (AreKept around.now kept.new) }
 {
-    match expr {
-        BoundExpr::Literal(_) => Ok(()),
-        BoundExpr::Column(_, _) => Ok(()),
-        BoundExpr::Variable(_) => Ok(()),
-        BoundExpr::Operation(_, operands) => {
-            keep_in_exprs(alloc, operands.as_slice(), variables, around, kept)
-        }
-        BoundExpr::Chain(first, rest) => {
-            keep_in_expr(alloc, first.get(), variables, around, kept)?;
-            keep_in_links(alloc, rest.as_slice(), variables, around, kept)
-        }
-        BoundExpr::Call(_, arguments) => {
-            keep_in_exprs(alloc, arguments.as_slice(), variables, around, kept)
-        }
-        BoundExpr::Single(query) => keep_outermost(alloc, query.get(), variables, around, kept),
-        BoundExpr::Exists(query) => keep_outermost(alloc, query.get(), variables, around, kept),
-        BoundExpr::In(left, query) => {
-            keep_in_expr(alloc, left.get(), variables, around, kept)?;
-            keep_outermost(alloc, query.get(), variables, around, kept)
-        }
-    }
-}
-
-// Those of several expressions.
-#[cycle(outermost)]
-fn keep_in_exprs(
-    alloc: Global,
-    exprs: &[BoundExpr],
-    variables: usize,
-    around: &Around,
-    kept: &mut Items<KeptQuery>,
-) -> Result<(), NoMemory>
-    requires { AreKept around.now kept.old }
-    ensures { OnOk result (AreKept around.now kept.new) }
-{
-    for expr in exprs {
-        keep_in_expr(alloc, expr, variables, around, kept)?;
-    }
-    Ok(())
-}
-
-// Those of the operands of a chain after its first.
-#[cycle(outermost)]
-fn keep_in_links(
-    alloc: Global,
-    links: &[BoundLink],
-    variables: usize,
-    around: &Around,
-    kept: &mut Items<KeptQuery>,
-) -> Result<(), NoMemory>
-    requires { AreKept around.now kept.old }
-    ensures { OnOk result (AreKept around.now kept.new) }
-{
-    for link in links {
-        keep_in_expr(alloc, &link.operand, variables, around, kept)?;
-    }
-    Ok(())
+    let sight = InSight::without_rows(alloc, variables);
+    keep_within(alloc, expr, &sight, around, kept)
 }
 
 /// An outermost query itself, where it has a plan, and else those in it.
-#[cycle(outermost)]
 pub(crate) fn keep_outermost(
     alloc: Global,
     query: &BoundQuery,
@@ -132,155 +74,6 @@ pub(crate) fn keep_outermost(
     requires { AreKept around.now kept.old }
     ensures { OnOk result (AreKept around.now kept.new) }
 {
-    if is_planned(query, around.functions) {
-        keep_once(alloc, query, variables, around, kept)
-    } else {
-        keep_in_query(alloc, query, variables, around, kept)
-    }
-}
-
-// Whether no more is kept, or an equal query over as many variables is.
-fn is_done(kept: &[KeptQuery], query: &BoundQuery, variables: usize) -> bool {
-    kept.len() >= MOST_KEPT || find(kept, query, variables).is_some()
-}
-
-// A query with a plan, once.
-fn keep_once(
-    alloc: Global,
-    query: &BoundQuery,
-    variables: usize,
-    around: &Around,
-    kept: &mut Items<KeptQuery>,
-) -> Result<(), NoMemory>
-    requires planned { planned (query_seen around.now.functions.now query.now) ≡ true }
-    requires kept { AreKept around.now kept.old }
-    ensures { OnOk result (AreKept around.now kept.new) }
-{
-    if is_done(kept.as_slice(), query, variables) {
-        return Ok(());
-    }
-    let one = keep(alloc, query, variables, around)?;
-    kept.push(one)?;
-    Ok(())
-}
-
-// Those in a query without a plan: its derived tables, and the values of VALUES. Its other parts
-// have a row in sight.
-#[cycle(outermost)]
-fn keep_in_query(
-    alloc: Global,
-    query: &BoundQuery,
-    variables: usize,
-    around: &Around,
-    kept: &mut Items<KeptQuery>,
-) -> Result<(), NoMemory>
-    requires { AreKept around.now kept.old }
-    ensures { OnOk result (AreKept around.now kept.new) }
-{
-    match query {
-        BoundQuery::Select(select) => {
-            keep_in_from(alloc, select.from.as_slice(), variables, around, kept)
-        }
-        BoundQuery::Values(rows) => {
-            keep_in_rows(alloc, rows.as_slice(), variables, around, kept)
-        }
-        BoundQuery::Ordered(query, _) => {
-            keep_in_query(alloc, query.get(), variables, around, kept)
-        }
-    }
-}
-
-// Those of FROM.
-#[cycle(outermost)]
-fn keep_in_from(
-    alloc: Global,
-    items: &[BoundFromItem],
-    variables: usize,
-    around: &Around,
-    kept: &mut Items<KeptQuery>,
-) -> Result<(), NoMemory>
-    requires { AreKept around.now kept.old }
-    ensures { OnOk result (AreKept around.now kept.new) }
-{
-    for item in items {
-        keep_in_item(alloc, item, variables, around, kept)?;
-    }
-    Ok(())
-}
-
-// Those of an item of FROM, whose ON has a row in sight.
-#[cycle(outermost)]
-fn keep_in_item(
-    alloc: Global,
-    item: &BoundFromItem,
-    variables: usize,
-    around: &Around,
-    kept: &mut Items<KeptQuery>,
-) -> Result<(), NoMemory>
-    requires { AreKept around.now kept.old }
-    ensures { OnOk result (AreKept around.now kept.new) }
-{
-    match item {
-        BoundFromItem::Comma(source) => keep_in_source(alloc, source, variables, around, kept),
-        BoundFromItem::Cross(source) => keep_in_source(alloc, source, variables, around, kept),
-        BoundFromItem::Inner(source, _) => keep_in_source(alloc, source, variables, around, kept),
-        BoundFromItem::Left(source, _) => keep_in_source(alloc, source, variables, around, kept),
-    }
-}
-
-// That of a derived table.
-#[cycle(outermost)]
-fn keep_in_source(
-    alloc: Global,
-    source: &BoundSource,
-    variables: usize,
-    around: &Around,
-    kept: &mut Items<KeptQuery>,
-) -> Result<(), NoMemory>
-    requires { AreKept around.now kept.old }
-    ensures { OnOk result (AreKept around.now kept.new) }
-{
-    match source {
-        BoundSource::Table(_) => Ok(()),
-        BoundSource::Derived(query) => {
-            keep_outermost(alloc, query.get(), variables, around, kept)
-        }
-    }
-}
-
-// Those of rows of VALUES.
-#[cycle(outermost)]
-fn keep_in_rows(
-    alloc: Global,
-    rows: &[BoundRow],
-    variables: usize,
-    around: &Around,
-    kept: &mut Items<KeptQuery>,
-) -> Result<(), NoMemory>
-    requires { AreKept around.now kept.old }
-    ensures { OnOk result (AreKept around.now kept.new) }
-{
-    for row in rows {
-        keep_in_row(alloc, row, variables, around, kept)?;
-    }
-    Ok(())
-}
-
-// Those of a row of VALUES.
-#[cycle(outermost)]
-fn keep_in_row(
-    alloc: Global,
-    row: &BoundRow,
-    variables: usize,
-    around: &Around,
-    kept: &mut Items<KeptQuery>,
-) -> Result<(), NoMemory>
-    requires { AreKept around.now kept.old }
-    ensures { OnOk result (AreKept around.now kept.new) }
-{
-    match row {
-        BoundRow::Row(values) => {
-            keep_in_exprs(alloc, values.as_slice(), variables, around, kept)
-        }
-    }
+    let sight = InSight::without_rows(alloc, variables);
+    keep_query(alloc, query, &sight, around, kept)
 }

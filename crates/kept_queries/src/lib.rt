@@ -4,7 +4,9 @@
 mod around;
 mod keeping;
 mod plans;
+mod sight;
 
 pub use around::Around;
 pub use keeping::{KeptQuery, find, keep, kept_last, kept_mean};
 pub use plans::KeptPlans;
+pub use sight::InSight;

@@ -7,6 +7,7 @@ ghost use Rattle.call_plans.specs.Calls.{IsCallPlan};
 ghost use Rattle.kept_queries.specs.Keeping.{IsKeptFor, ArePlans};
 
 use crate::keeping::{KeptQuery, find};
+use crate::sight::InSight;
 use block_plans::BlockPlans;
 use bound_trees::BoundQuery;
 use call_plans::CallPlan;
@@ -158,21 +159,21 @@ impl KeptPlans {
         self.statement = queries;
     }
 
-    /// The first that is kept of an equal query over so many variables, for the body of a routine,
-    /// or for what stands in none. What it misses is only slower.
+    /// The first that is kept of an equal query where as much is in sight, for the body of a
+    /// routine, or for what stands in none. What it misses is only slower.
     pub fn find<'a>(
         &'a self,
         own: Option<&Name>,
         query: &BoundQuery,
-        variables: usize,
+        sight: &InSight,
     ) -> Option<&'a KeptQuery>
         ensures kept { IfSome result (λ k. IsKeptFor self.now (option_copied own.entry) k.now) }
         ensures query { IfSome result (λ k. k.now.query ≡ query.now) }
-        ensures variables { IfSome result (λ k. k.now.variables ≡ variables) }
+        ensures sight { IfSome result (λ k. k.now.in_sight ≡ sight.now) }
     {
         match own {
-            Some(name) => self.find_in(name, query, variables),
-            None => self.find_outside(query, variables),
+            Some(name) => self.find_in(name, query, sight),
+            None => self.find_outside(query, sight),
         }
     }
 
@@ -181,27 +182,27 @@ impl KeptPlans {
         &'a self,
         own: &Name,
         query: &BoundQuery,
-        variables: usize,
+        sight: &InSight,
     ) -> Option<&'a KeptQuery>
         ensures kept { IfSome result (λ k. IsKeptFor self.now (Some own.now) k.now) }
         ensures query { IfSome result (λ k. k.now.query ≡ query.now) }
-        ensures variables { IfSome result (λ k. k.now.variables ≡ variables) }
+        ensures sight { IfSome result (λ k. k.now.in_sight ≡ sight.now) }
     {
         match self.routines.get(own) {
-            Some(queries) => find(queries.as_slice(), query, variables),
+            Some(queries) => find(queries.as_slice(), query, sight),
             None => None,
         }
     }
 
     // The first of the statement, or else of functions.
-    fn find_outside<'a>(&'a self, query: &BoundQuery, variables: usize) -> Option<&'a KeptQuery>
+    fn find_outside<'a>(&'a self, query: &BoundQuery, sight: &InSight) -> Option<&'a KeptQuery>
         ensures kept { IfSome result (λ k. IsKeptFor self.now None k.now) }
         ensures query { IfSome result (λ k. k.now.query ≡ query.now) }
-        ensures variables { IfSome result (λ k. k.now.variables ≡ variables) }
+        ensures sight { IfSome result (λ k. k.now.in_sight ≡ sight.now) }
     {
-        match find(self.statement.as_slice(), query, variables) {
+        match find(self.statement.as_slice(), query, sight) {
             Some(kept) => Some(kept),
-            None => find(self.returned.as_slice(), query, variables),
+            None => find(self.returned.as_slice(), query, sight),
         }
     }
 }

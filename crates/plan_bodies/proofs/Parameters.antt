@@ -1,17 +1,22 @@
 -- The cells of the first row, and of the last.
 use Rattle.std.proofs.Common.{◌≡◌, ℕ, suc, ◌+◌, ◌-◌, ◌<◌, ◌≤◌, List, [], ◌∷◌, ◌++◌, length}
-use Rattle.std.proofs.Common.{drop, get_or, sym, ap, ◌∙◌, arith}
+use Rattle.std.proofs.Common.{drop, get_or, sym, ap, ◌∙◌, subst, arith}
 use Rattle.std.proofs.lemmas.List.{drop_all, drop_more}
 use Rattle.plan_expressions.proofs.Laws.{put-append, put-none}
 use Rattle.plan_expressions.proofs.Places.{below_inside}
 use Rattle.plan_expressions.specs.Emission.{put}
 use Rattle.plan_steps.proofs.Stores.{put_more}
-use Rattle.rel_algebra.specs.BodyChain.{arguments, first_cells, last_cell, of_type}
+use Rattle.rel_algebra.specs.BodyChain.{arguments, first_cells, known, knowns, last_cell, of_type}
 use Rattle.rel_algebra.specs.BodyChain.{raised_area, read_outward, without_return_cell}
 use Rattle.rel_algebra.specs.BodySteps.{code_is, col, only}
-use Rattle.rel_algebra.specs.Emissions.{assigning}
+use Rattle.rel_algebra.specs.Emissions.{Emitted, asked_where, assigning}
 use Rattle.rel_algebra.specs.Environments.{given, outward, read, top}
-use Rattle.rel_algebra.specs.Plan.{Scalar, Scalars, argument, case_word, more, none, word}
+use Rattle.rel_algebra.specs.Plan.{PlanTree, Scalar, Scalars, argument, case_word, more, none}
+use Rattle.rel_algebra.specs.Plan.{single}
+use Rattle.rel_algebra.specs.Plan.{word}
+use Rattle.catalog_store.specs.Kept.{IsPlan}
+use Rattle.catalog_store.specs.declared.entry.FunctionPlan.{FunctionPlan}
+use Rattle.sql_values.specs.declared.value.SqlType.TheVariants.{Integer}
 use Rattle.rel_algebra.specs.PlanView.{scalar_of, scalars_of}
 use Rattle.rel_algebra.specs.declared.scalar.Scalar.{Scalar as ScalarCode}
 use Rattle.sql_values.specs.declared.value.SqlType.{SqlType}
@@ -45,6 +50,37 @@ pub arguments_done : (front : List ScalarCode) (count i : ℕ) (whole : Scalars)
 arguments_done front count i whole h b =
     let none_left : count - i ≡ 0 = omega (arith, h) in
     sym (put-none front) ∙ ap (λ n. put front (arguments i n)) (sym none_left) ∙ b
+
+-- whether each is not NULL
+pub known_next : (types : List SqlType) (i : ℕ) (front longer : List ScalarCode)
+    (s : ScalarCode) (whole : Scalars) → i < length types →
+    scalar_of s ≡ known (given i) → longer ≡ front ++ s ∷ [] →
+    put front (knowns (top (length types)) i (drop i types)) ≡ whole →
+    put longer (knowns (top (length types)) (i + 1) (drop (i + 1) types)) ≡ whole
+known_next types i front longer s whole h cell f b =
+    let e = top (length types) in let others = drop (i + 1) types in
+    let next : suc i ≡ i + 1 = omega arith in
+    put_more front longer s (knowns e (i + 1) others) f ∙
+    ap (λ x. put front (more x (knowns e (i + 1) others))) cell ∙
+    ap (λ n. put front (more (known (given i)) (knowns e n others))) (sym next) ∙
+    ap (λ p. put front (more (known p) (knowns e (suc i) others)))
+    (sym (below_inside (length types) i (given i) h)) ∙
+    ap (λ (ts : List SqlType). put front (knowns e i ts)) (sym (drop_more types i Integer h)) ∙ b
+
+pub known_done : (types : List SqlType) (i : ℕ) (front : List ScalarCode) (whole : Scalars) →
+    length types ≤ i → put front (knowns (top (length types)) i (drop i types)) ≡ whole →
+    scalars_of front ≡ whole
+known_done types i front whole h b =
+    sym (put-none front) ∙ ap (λ (ts : List SqlType). put front
+    (knowns (top (length types)) i ts)) (sym (drop_all i types h)) ∙ b
+
+-- ---- an Apply
+
+-- by its test and its plan
+pub asked_is : {when a : Scalar} {inner t : PlanTree} → when ≡ a → inner ≡ t →
+    (p : FunctionPlan) → IsPlan p (asked_where when single inner 0) →
+    IsPlan p (asked_where a single t 0)
+asked_is h g p = subst (λ (e : Emitted). IsPlan p e) (λ i. asked_where (h i) single (g i) 0)
 
 -- each as one of its parameter's type
 pub typed_next : (types : List SqlType) (i : ℕ) (d : SqlType) (front longer : List ScalarCode)

@@ -25,7 +25,7 @@ use Rattle.region_trees.specs.Regions.{stmt_region}
 use Rattle.regions.specs.Tree.{Stmt}
 use Rattle.regions.specs.TreeBodies.{stmt_of}
 use Rattle.rel_algebra.specs.Bodies as body
-use Rattle.rel_algebra.specs.BodyChain.{called_body}
+use Rattle.rel_algebra.specs.BodyChain.{called_body, known_body}
 use Rattle.rel_algebra.specs.Emit.{emit_body, stmt_body}
 use Rattle.rel_algebra.specs.Environments.{Env}
 use Rattle.rel_algebra.specs.Tree as whole
@@ -43,6 +43,13 @@ pub block_emitted : (types : List SqlType) (returns : SqlType) (s : whole.Stmt) 
     (body.Body types returns (stmt_body s)) S e n
 block_emitted types returns (whole.Return x) S e n h = absurd cc
 block_emitted types returns _ S e n h = refl
+
+-- that of a function that returns NULL on NULL input is one under a test
+pub known_emitted : (types : List SqlType) (returns : SqlType) (s : whole.Stmt) (S : List ℕ → ℕ)
+    (e : Env) (n : ℕ) →
+    emit_body (whole.Function false types returns true s) S e n ≡ known_body
+    (body.Body types returns (stmt_body s)) S e n
+known_emitted types returns s S e n = refl
 
 module _ (k : Callees) where
   -- a statement by its parts

@@ -7,6 +7,7 @@ ghost use Rattle.plan_bodies.specs.Examples.{BlocksPlanned};
 mod block;
 mod emit;
 mod inline;
+mod known;
 
 pub use block::plan_block;
 pub use inline::inline_body;

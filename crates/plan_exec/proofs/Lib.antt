@@ -6,6 +6,7 @@ pub mod Growing
 pub mod Looked
 pub mod Matching
 pub mod Opening
+pub mod Regions
 pub mod Settled
 pub mod Stretched
 pub mod Taken

@@ -3,3 +3,4 @@ pub mod Apart
 pub mod Applying
 pub mod Chains
 pub mod Passing
+pub mod RegionRows

@@ -42,7 +42,7 @@ module _ (S : List ℕ → ℕ) where
 
     routine_lasts : (r : Routine) → RoutineLasts r S S
     routine_lasts (Returned types returns x) = expr_lasts x
-    routine_lasts (Function false types returns false statement) = λ params. refl
+    routine_lasts (Function false types returns null_call statement) = λ params. refl
     routine_lasts _ = tt
 
     rows_last : (rs : Rows) → RowsLast rs S S

@@ -19,5 +19,5 @@ pub use creation::create;
 pub use drop::drop_object;
 pub use explained::explain_query;
 pub use law::queries_without_plans;
-pub use prepared::{Prepared, prepare_over, prepare_query, run_plan};
+pub use prepared::{Prepared, prepare_query, run_plan};
 pub use run::{run_delete, run_insert, run_query, run_routine, run_update};

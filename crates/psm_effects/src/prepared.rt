@@ -10,8 +10,6 @@ ghost use Rattle.rel_algebra.specs.Plain.{planned as planned_by};
 ghost use Rattle.rel_algebra.specs.Work.{work};
 ghost use Rattle.catalog_store.specs.View.{query_of};
 ghost use Rattle.catalog_store.specs.Widths.{width_in};
-ghost use Rattle.block_plans.specs.Callees.{width_in as width_over};
-ghost use Rattle.block_plans.specs.View.{query_seen};
 ghost use Rattle.psm_effects.specs.Answering.{ends_with, HasValues};
 ghost use Rattle.psm_effects.specs.Preparing.{IsPlanOf, KeepsForm, over, plan_in};
 
@@ -47,20 +45,6 @@ pub fn prepare_query(
         (width_in catalog.now) (plan_in p)) }
 {
     let plan = plan_query(alloc, query, &Functions::of(catalog))?;
-    Ok(Prepared { plan })
-}
-
-/// Prepares a query whose calls all run what has a plan.
-pub fn prepare_over(
-    alloc: Global,
-    query: &BoundQuery,
-    functions: &Functions,
-) -> Result<Prepared, NoMemory>
-    requires { planned_by (query_seen functions.now query.now) ≡ true }
-    ensures { IfOk result (λ p. IsPlanOf (query_seen functions.now query.now)
-        (width_over functions.now) (plan_in p)) }
-{
-    let plan = plan_query(alloc, query, functions)?;
     Ok(Prepared { plan })
 }
 

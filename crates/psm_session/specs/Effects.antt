@@ -11,8 +11,8 @@ use Rattle.psm_effects.specs.Effects.{answered, routine_done, bound_alone}
 use Rattle.run_modes.specs.declared.mode.Mode.{Mode}
 use Rattle.run_modes.specs.Modes.{is_by_plan}
 
--- whether what a statement of this form replies is determined; of EXPLAIN, which does nothing, it is
--- not
+-- whether what a statement of this form replies is a part of its effect; that of EXPLAIN, which does
+-- nothing, is told elsewhere
 abbrev pub is_done : Bound → Bool
 is_done (Explain query) = false
 is_done _ = true

@@ -1,5 +1,5 @@
--- What comes of a statement that was read: where it is valid, its effect, or where it is an EXPLAIN, a
--- reply that it may have; else its least fault. And what comes of it where it is checked alone.
+-- What comes of a statement that was read: where it is valid, its effect, or where it is an EXPLAIN,
+-- its reply; else its least fault. And what comes of it where it is checked alone.
 use Rattle.std.specs.Prelude.{ℕ, ◌≡◌, ◌⊎◌, true, List, [], Some}
 use Rattle.syntax_trees.specs.declared.anchor.Anchor.{Anchor}
 use Rattle.bind_faults.specs.declared.fault.Fault.{Fault}
@@ -25,7 +25,7 @@ pub record HasEffect (budget : ℕ) (found : Noted BoundStatement) (before : Pla
   pub replies : reply ≡ (effect budget found.value.bound before).reply
   pub leaves : after ≡ (effect budget found.value.bound before).after
 
--- An EXPLAIN without faults is answered by one of the replies that it may have, and nothing changes.
+-- An EXPLAIN without faults has its reply, byte by byte, and nothing changes.
 pub record HasExplained (found : Noted BoundStatement) (before : Plain) (reply : List ℕ)
     (after : Plain) : Type 0 where
   pub query : BoundQuery

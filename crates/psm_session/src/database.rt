@@ -26,8 +26,6 @@ use crate::effect::{check_bound, is_done, run_found};
 use bind_direct::{Bound, BoundStatement};
 use bind_faults::Fault;
 use bind_statements::{NameFault, bind_statement};
-use block_plans::Functions;
-use body_queries::keep_blocks;
 use bound_trees::BoundQuery;
 use catalog_store::Catalog;
 use kept_queries::KeptPlans;
@@ -179,15 +177,13 @@ impl Database {
         dump.into_reply()
     }
 
-    /// The reply to EXPLAIN of a query: in how many places it calls functions with plans, blocks
-    /// that may have plans among them, and functions without, and, where it has a plan, the lines
-    /// of one that means it, whatever the tables hold. Nothing is run and nothing changes.
+    /// The reply to EXPLAIN of a query, exactly: in how many places it calls functions with plans,
+    /// blocks that may have plans among them, and functions without, and, where it has a plan, the
+    /// lines of that, which means it, whatever the tables hold. Nothing is run and nothing changes.
     pub fn explain(&self, query: &BoundQuery) -> Result<Reply, NoMemory>
         ensures { IfOk result (λ r. IsExplained self.now.catalog query.now r) }
     {
-        let kept = keep_blocks(self.alloc, query, &self.catalog)?;
-        let functions = Functions::with_blocks(&self.catalog, kept.blocks());
-        explain_query(self.alloc, query, &functions)
+        explain_query(self.alloc, query, &self.catalog)
     }
 
     // The reply to an EXPLAIN whose names are resolved.
@@ -202,9 +198,9 @@ impl Database {
     }
 
     /// Does a statement in a mode with so many turns, and answers its reply, which is the same in
-    /// both modes, but for which plan of its query an EXPLAIN tells. A statement with faults in
-    /// this catalog changes nothing, and its reply is the least of them; an EXPLAIN changes
-    /// nothing, and takes no turn. Without memory nothing changes either.
+    /// both modes. A statement with faults in this catalog changes nothing, and its reply is the
+    /// least of them; an EXPLAIN changes nothing, and takes no turn. Without memory nothing changes
+    /// either.
     pub fn exec_statement(
         &mut self,
         stmt: &Stmt,

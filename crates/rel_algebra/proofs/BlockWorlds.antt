@@ -2,11 +2,12 @@
 -- expressions and queries give so.
 use Rattle.std.proofs.Common.{◌≡◌, ℕ, zero, suc, Bool, true, false, cond, List, [], ◌∷◌, map}
 use Rattle.std.proofs.Common.{replicate, Option, Some, None, Ok, Err, refl, ap, sym, ◌∙◌, subst}
-use Rattle.std.proofs.Common.{◌++◌, ◌-◌, pos}
+use Rattle.std.proofs.Common.{◌++◌, ◌-◌, pos, if◌then◌else◌}
+use Rattle.std.specs.List.{list_any}
 use Rattle.sql_values.specs.declared.value.Value.{Value}
 use Rattle.sql_values.specs.declared.value.Value.TheVariants.{Null, Int, Str, Bool as Truth}
 use Rattle.sql_values.specs.declared.value.SqlType.{SqlType}
-use Rattle.sql_values.specs.Values.{is_true}
+use Rattle.sql_values.specs.Values.{is_null, is_true}
 use Rattle.sql_values.specs.Casts.{assigned}
 use Rattle.sql_conditions.specs.declared.condition.Condition.{Condition}
 use Rattle.sql_conditions.specs.Conditions.{Area, area_of}
@@ -560,3 +561,26 @@ call_gives types returns s values args w p =
     end_gives w returns (full.does s
     (placed worlds.no_self worlds.no_again [] no_context) (worlds.frame_of values) w)
     (does s (tables_of w args) no_context values).outcome e.outcome e.world
+
+-- NULL, or else this
+unless : (b : Bool) (go : worlds.Eval Value) (e : Ending Value) (w : World) → go w ≡ carried e w →
+    (if b then worlds.give Null else go) w ≡ carried (if b then Ok Null else e) w
+unless true go e w h = refl
+unless false go e w h = h
+
+-- the same of a function that returns NULL on NULL input
+pub known_call_gives : (types : List SqlType) (returns : SqlType) (s : Stmt)
+    (values args : List Value) (w : World) → Each s (ExprGives w args) (QueryGives w args) →
+    full.call (Function false types returns true s) values w
+    ≡ carried (if list_any is_null values then Ok Null
+    else call (body.Body types returns (stmt_meant s)) values (tables_of w args)) w
+known_call_gives types returns s values args w p =
+    let self = callings.null_or true worlds.no_self in
+    let e = stmt_same s w args p self worlds.no_again [] no_context tt (worlds.frame_of values) in
+    unless (list_any is_null values)
+    (λ u. callings.returned returns
+    (full.does s (placed self worlds.no_again [] no_context) (worlds.frame_of values) u))
+    (call (body.Body types returns (stmt_meant s)) values (tables_of w args)) w
+    (end_gives w returns
+    (full.does s (placed self worlds.no_again [] no_context) (worlds.frame_of values) w)
+    (does s (tables_of w args) no_context values).outcome e.outcome e.world)

@@ -2,12 +2,16 @@
 -- does over leaves that have plans; and the leaves of SELECT INTO are right.
 use Rattle.std.proofs.Common.{◌≡◌, ℕ, zero, ◌+◌, true, nat_eq, List, [], ◌∷◌}
 use Rattle.std.proofs.Common.{length, Option, Some, None, refl, sym, ap, ◌∙◌, subst, suc}
+use Rattle.std.proofs.Common.{if◌then◌else◌, Ok}
+use Rattle.std.specs.List.{list_any}
+use Rattle.sql_values.specs.Values.{is_null}
+use Rattle.sql_values.specs.declared.value.Value.TheVariants.{Null}
 use Rattle.sql_values.specs.declared.value.SqlType.{SqlType}
 use Rattle.sql_values.specs.declared.value.Value.{Value}
 use Rattle.row_types.specs.Rows.{Row}
 use Rattle.row_types.specs.declared.cell.Cell.{Cell}
 use Rattle.rel_algebra.specs.Bodies as body
-use Rattle.rel_algebra.specs.BodyChain.{called_body}
+use Rattle.rel_algebra.specs.BodyChain.{called_body, known_body}
 use Rattle.rel_algebra.specs.BodyMeaning.{call}
 use Rattle.rel_algebra.specs.Emit.{Env, Folded, branches_body, folded, folded_env, handlers_body}
 use Rattle.rel_algebra.specs.Emit.{perhaps_body, query_leaf, stmt_body, stmts_body}
@@ -28,6 +32,7 @@ use Rattle.rel_algebra.specs.Tree.{GetConditionItems, Leave, Return, Stmts, NoSt
 use Rattle.rel_algebra.specs.Tree.{Branches, NoBranch, MoreBranches, Handlers, NoHandler}
 use Rattle.rel_algebra.specs.Tree.{MoreHandlers}
 use Rattle.rel_algebra.proofs.BodyCalled.{called_right}
+use Rattle.rel_algebra.proofs.BodyKnown.{known_right}
 use Rattle.rel_algebra.proofs.BodyHeld.{CountIs, QueryRight, RoutineRight}
 use Rattle.rel_algebra.proofs.BodyHeld.{Folds as FoldsTo}
 use Rattle.rel_algebra.proofs.BodyUnplanned.{all_unplanned, branches_unplanned, call_unplanned}
@@ -166,3 +171,18 @@ block_right types returns s w right o vs e n q l c reads =
     subst (λ (d : Ending Value). Yields (called_body r (columns_in w) e n) w o q (cell_end d))
     (call_meant types returns s vs w)
     (called_right r w right o vs e n q l (equal_numbers (length vs) (length types) c) reads)
+
+-- the same of a function that returns NULL on NULL input
+pub known_block_right : (types : List SqlType) (returns : SqlType) (s : Stmt) (w : Inputs) →
+    RoutineRight w (body.Body types returns (stmt_body s)) → (o : List (List Cell)) (vs : Row)
+    (e : Env) (n : ℕ) (q : List Cell) → length q ≡ n → nat_eq (length vs) (length types) ≡ true →
+    Reads e w o (record { rows = []; params = vs }) q →
+    Yields (known_body (body.Body types returns (stmt_body s)) (columns_in w) e n) w o q
+    (cell_end (if list_any is_null vs then Ok Null
+    else call (body.Body types returns (stmt_meant s)) vs w))
+known_block_right types returns s w right o vs e n q l c reads =
+    let r = body.Body types returns (stmt_body s) in
+    subst (λ (d : Ending Value). Yields (known_body r (columns_in w) e n) w o q
+    (cell_end (if list_any is_null vs then Ok Null else d)))
+    (call_meant types returns s vs w)
+    (known_right r w right o vs e n q l (equal_numbers (length vs) (length types) c) reads)

@@ -8,11 +8,10 @@ use Rattle.sql_values.specs.declared.value.SqlType.{SqlType}
 use Rattle.row_types.specs.declared.cell.Cell.{Cell}
 use Rattle.row_types.specs.declared.cell.Cell.TheVariants.{Val}
 use Rattle.rel_algebra.specs.Environments.{Env, Place, at, given, nowhere, outward, read}
-use Rattle.rel_algebra.specs.Emissions.{asked}
 use Rattle.rel_algebra.specs.Endings.{cell_end, value_at}
 use Rattle.rel_algebra.specs.MovedPlans.{Move, moved, moved_scalar, moved_scalars, moved_tree}
 use Rattle.rel_algebra.specs.Scopes.{Inputs, columns_in}
-use Rattle.rel_algebra.specs.Plan.{anew, apply_by, cell_of, cells_of, collapse, constant, more}
+use Rattle.rel_algebra.specs.Plan.{anew, apply_by, cell_of, cells_of, collapse, den, more}
 use Rattle.rel_algebra.specs.Plan.{Scalar, Sight, coalesce_cell, no_node, scalar_count, shown}
 use Rattle.rel_algebra.specs.Plan.{sight, single}
 use Rattle.rel_algebra.proofs.BodyDeclares.{null_cell}
@@ -26,7 +25,8 @@ use Rattle.rel_algebra.proofs.Truths.{and_true}
 use Rattle.rel_algebra.proofs.Growing.{grows_same}
 use Rattle.rel_algebra.proofs.Moves.{EnvMoved, moved_place, own_column, wide}
 use Rattle.rel_algebra.specs.Bodies.{Body, Routine, parameters_of}
-use Rattle.rel_algebra.specs.BodyChain.{called_body, inline_with, null_of, of_type, read_outward}
+use Rattle.rel_algebra.specs.BodyChain.{called_body, called_where, inline_with, null_of, of_type}
+use Rattle.rel_algebra.specs.BodyChain.{read_outward}
 use Rattle.rel_algebra.specs.BodyMeaning.{call}
 use Rattle.rel_algebra.specs.Leaves.{Widths}
 use Rattle.rel_algebra.proofs.BodyCalls.{one_collapsed}
@@ -75,24 +75,33 @@ outward_cells e w o q (t ∷ ts) (v ∷ vs) i l h =
 outward_cells e w o q [] (v ∷ vs) i l h = absurd (omega (arith, l))
 outward_cells e w o q (t ∷ ts) [] i l h = absurd (omega (arith, l))
 
--- Where an environment has as many values as the function has parameters, the Apply adds the value
--- or the area of the call.
-pub called_right : (r : Routine) (w : Inputs) → RoutineRight w r → (o : List (List Cell))
-    (vs : List Value) (e : Env) (n : ℕ) (q : List Cell) → length q ≡ n →
-    length vs ≡ length (parameters_of r) →
+-- Where an environment has as many values as the function has parameters, the region's one row is
+-- the value or the area of the call.
+pub call_collapsed : (r : Routine) (w : Inputs) → RoutineRight w r → (o : List (List Cell))
+    (vs : List Value) (e : Env) (q : List Cell) → length vs ≡ length (parameters_of r) →
     Reads e w o (record { rows = []; params = vs }) q →
-    Yields (called_body r (columns_in w) e n) w o q (cell_end (call r vs w))
-called_right r w right o vs e n q l k reads =
-    let S = columns_in w in
+    collapse single (Val Null)
+    (den (inline_with r (columns_in w) (read_outward e 0 (parameters_of r))) w (q ∷ o))
+    ≡ cell_end (call r vs w) ∷ []
+call_collapsed r w right o vs e q k reads =
     let params = read_outward e 0 (parameters_of r) in
     let here = reads q (grows_same q) in
     let cells : cells_of params (sight w (q ∷ o) []) ≡ shown vs =
     outward_cells e w o q (parameters_of r) vs 0 k
     (λ j. ap (λ (m : ℕ). cell_of (read (e.params m)) (outside w (q ∷ o)))
     (let e0 : 0 + j ≡ j = omega arith in e0) ∙ here.1 j) in
-    asked_yields single (inline_with r S params) n w o q (cell_end (call r vs w)) l
-    (ap (collapse single (Val Null)) (inlines_with r w (q ∷ o) params vs right k cells)
-    ∙ one_collapsed (call r vs w))
+    ap (collapse single (Val Null)) (inlines_with r w (q ∷ o) params vs right k cells)
+    ∙ one_collapsed (call r vs w)
+
+-- The Apply adds it.
+pub called_right : (r : Routine) (w : Inputs) → RoutineRight w r → (o : List (List Cell))
+    (vs : List Value) (e : Env) (n : ℕ) (q : List Cell) → length q ≡ n →
+    length vs ≡ length (parameters_of r) →
+    Reads e w o (record { rows = []; params = vs }) q →
+    Yields (called_body r (columns_in w) e n) w o q (cell_end (call r vs w))
+called_right r w right o vs e n q l k reads =
+    asked_yields single (inline_with r (columns_in w) (read_outward e 0 (parameters_of r))) n w o q
+    (cell_end (call r vs w)) l (call_collapsed r w right o vs e q k reads)
 
 -- ---- it can be removed
 
@@ -101,9 +110,10 @@ by_region true b c h = refl
 by_region false true c h = refl
 by_region false false c h = and_true c true h refl
 
-pub called_removable : (r : Routine) (S : Widths) → RoutineRemovable S r → (e : Env) (n : ℕ) →
-    nodes_removable (called_body r S e n).nodes ≡ true
-called_removable r S h e n =
+-- whatever is tested before
+pub called_removable : (when : Scalar) (r : Routine) (S : Widths) → RoutineRemovable S r →
+    (e : Env) (n : ℕ) → nodes_removable (called_where when r S e n).nodes ≡ true
+called_removable when r S h e n =
     let params = read_outward e 0 (parameters_of r) in let t = inline_with r S params in
     and_true (removable single t && all_removable t) true
     (and_true (removable single t) (all_removable t)
@@ -183,16 +193,17 @@ outward_moves e e' v d i (t ∷ ts) h = λ x.
     one (given j) = refl
     one nowhere = refl
 
-pub called_moved : (r : Routine) (S : Widths) (v : Move) (d : ℕ) → RoutineStays S v (suc d) r →
+pub called_moved : (when when' : Scalar) (r : Routine) (S : Widths) (v : Move) (d : ℕ) →
+    moved_scalar v d when ≡ when' → RoutineStays S v (suc d) r →
     (e e' : Env) (j : ℕ) → EnvMoved v d e e' →
-    called_body r S e' (wide v d j) ≡ moved v d (called_body r S e j)
-called_moved r S v d h e e' j m =
+    called_where when' r S e' (wide v d j) ≡ moved v d (called_where when r S e j)
+called_moved when when' r S v d g h e e' j m =
     let types = parameters_of r in
     let p : moved_tree v d (inline_with r S (read_outward e 0 types))
     ≡ inline_with r S (read_outward e' 0 types) =
     inline_moved r S v d (read_outward e 0 types) h
     ∙ ap (inline_with r S) (outward_moves e e' v d 0 types m) in
     λ i. record {
-      nodes = apply_by (constant (Truth true)) single anew (sym p i) no_node;
+      nodes = apply_by (sym g i) single anew (sym p i) no_node;
       scalar = own_column v d j i;
     }

@@ -17,8 +17,8 @@ use Rattle.rel_algebra.specs.Kinds.{NullKind, joined_kind}
 use Rattle.rel_algebra.specs.Plan.{coalesce_word}
 use Rattle.rel_algebra.specs.Kinds.{BooleanKind, DataKind, IntegerKind, Kinds, NullKind, agree}
 use Rattle.rel_algebra.specs.Kinds.{assigned_kind, kind_at, kinds_at, scalar_good}
-use Rattle.rel_algebra.specs.Kinds.{scalar_kind, scalars_good, table_widths}
-use Rattle.rel_algebra.specs.Kinds.{tree_good, tree_kinds, type_kind}
+use Rattle.rel_algebra.specs.Kinds.{is_test, scalar_kind, scalars_good, scalars_kinds, table_widths}
+use Rattle.rel_algebra.specs.Kinds.{tests_good, tree_good, tree_kinds, type_kind}
 use Rattle.rel_algebra.specs.Plan.{no_node, Scalar, Scalars, none, more, word, case_word, strict}
 use Rattle.rel_algebra.specs.Plan.{constant, extend, unit_row}
 use Rattle.rel_algebra.proofs.Truths.{and_true}
@@ -27,6 +27,7 @@ use Rattle.rel_algebra.proofs.KindRows.{KindsGrow, first_kinds_columns, kinds_gr
 use Rattle.rel_algebra.proofs.KindRows.{kinds_grow_by, kinds_grow_same, kinds_grow_trans}
 use Rattle.rel_algebra.proofs.KindRows.{kinds_grown_column, kinds_grown_columns}
 use Rattle.rel_algebra.proofs.KindWords.{HaveAll, agree_null, agree_turned, join_null, read_good}
+use Rattle.rel_algebra.proofs.KindWords.{tested}
 use Rattle.rel_algebra.specs.Bodies.{Without, With, Stmt, Compound, If, SearchedCase}
 use Rattle.rel_algebra.specs.Bodies.{SimpleCase, Set, SelectInto, Signal, Resignal}
 use Rattle.rel_algebra.specs.Bodies.{GetStatementItems}
@@ -40,7 +41,7 @@ use Rattle.rel_algebra.specs.BodyChain.{ending, ending_width, whole_raise, varia
 use Rattle.rel_algebra.specs.BodyChain.{has_default, null_scalars, emit, emit_all, emit_else}
 use Rattle.rel_algebra.specs.BodyChain.{emit_branches, emit_matching, emit_declares, coded, top}
 use Rattle.rel_algebra.specs.BodyChain.{raised_area, last_cell, first_cells, called_body, of_type}
-use Rattle.rel_algebra.specs.BodyChain.{read_outward}
+use Rattle.rel_algebra.specs.BodyChain.{all_known, known_body, knowns, read_outward}
 use Rattle.rel_algebra.specs.BodyChain.{without_return_cell}
 use Rattle.rel_algebra.specs.BodyCompounds.{scopes_in}
 use Rattle.rel_algebra.specs.BodyDispatch.{Env, Emit, Coded, Codes, count, judging, raising_to}
@@ -635,4 +636,51 @@ called_kinds types returns body T s e n r ks ps l h =
         kinds_grown_column r z R n l (subst (λ (j : Kinds). KindsGrow (r ++ j) z) one g),
         refl,
       ),
+    )
+
+-- ---- a call of a function that returns NULL on NULL input
+
+-- each test of a parameter is one
+knowns_tests : (e : Reading) (i : ℕ) (ts : List SqlType) (ks : List Kinds) (ps : Kinds) →
+    tests_good (scalars_kinds (knowns e i ts) ks ps) ≡ true
+knowns_tests e i [] ks ps = refl
+knowns_tests e i (t ∷ ts) ks ps = knowns_tests e (suc i) ts ks ps
+
+knowns_good : (e : Reading) (i : ℕ) (ts : List SqlType) (ks : List Kinds) (ps : Kinds) →
+    scalars_good (knowns e i ts) ks ps ≡ true
+knowns_good e i [] ks ps = refl
+knowns_good e i (t ∷ ts) ks ps =
+    let s = scalar_good (read (e.params i)) ks ps in
+    and_true ((((s && true) && true) && true) && true) (scalars_good (knowns e (suc i) ts) ks ps)
+    (and_true (((s && true) && true) && true) true (and_true ((s && true) && true) true
+    (and_true (s && true) true (and_true s true (read_good (e.params i) ks ps) refl) refl) refl)
+    refl)
+    (knowns_good e (suc i) ts ks ps)
+
+all_known_test : (e : Reading) (ts : List SqlType) (ks : List Kinds) (ps : Kinds) →
+    is_test (all_known e ts) ks ps ≡ true
+all_known_test e [] ks ps = refl
+all_known_test e (t ∷ ts) ks ps =
+    tested (all_known e (t ∷ ts)) ks ps BooleanKind (
+      refl,
+      and_true (scalars_good (knowns e 0 (t ∷ ts)) ks ps)
+          (tests_good (scalars_kinds (knowns e 0 (t ∷ ts)) ks ps))
+          (knowns_good e 0 (t ∷ ts) ks ps) (knowns_tests e 0 (t ∷ ts) ks ps),
+    ) refl
+
+-- the same of it
+pub known_kinds : (types : List SqlType) (returns : SqlType) (body : Stmt)
+    (T : List ℕ → Kinds) → RoutineKinds T (Body types returns body) →
+    (e : Reading) (n : ℕ) (r : Kinds) (ks : List Kinds) (ps : Kinds) → length r ≡ n →
+    ((j : ℕ) → j < length types →
+    agree (scalar_kind (read (e.params j)) (r ∷ ks) ps) (kind_at (type_kinds types) j) ≡ true) →
+    Yields (known_body (Body types returns body) (table_widths T) e n) T r ks ps
+    (type_kind returns)
+known_kinds types returns body T s e n r ks ps l h =
+    let c = called_kinds types returns body T s e n r ks ps l h in
+    let inner = inline_with (Body types returns body) (table_widths T) (read_outward e 0 types) in
+    let test = is_test (all_known e types) (r ∷ ks) ps in (
+      and_true (test && true) (tree_good inner T (r ∷ ks) ps && true)
+          (and_true test true (all_known_test e types (r ∷ ks) ps) refl) c.0,
+      c.1,
     )

@@ -1,6 +1,8 @@
 -- Whatever an expression or a query raises is an exception.
 use Rattle.std.proofs.Common.{ℕ, Bool, true, false, cond, List, [], ◌∷◌, ◌++◌, refl, Ok}
 use Rattle.std.proofs.Common.{Some, None}
+use Rattle.std.specs.List.{list_any}
+use Rattle.rel_algebra.specs.BodyMeaning.{call as body_call}
 use Rattle.sql_values.specs.declared.value.Value.{Value}
 use Rattle.sql_values.specs.declared.value.Value.TheVariants.{Null, Bool as Truth}
 use Rattle.sql_values.specs.declared.value.SqlType.{SqlType}
@@ -169,6 +171,9 @@ mutual
       (ev_fails e w (record { rows = []; params = vs })) (λ v. ending_fails (assigned returns v))
   call_fails (Function false types returns false statement) vs w =
       body_fails (body.Body types returns (stmt_meant statement)) vs w
+  call_fails (Function false types returns true statement) vs w =
+      let r = body.Body types returns (stmt_meant statement) in
+      fails_if (list_any is_null vs) (Ok Null) (body_call r vs w) tt (body_fails r vs w)
   call_fails _ vs w = tt
 
   holds_fails : (tests : Exprs) (w : Inputs) (f : Scope) → Fails (holds tests w f)

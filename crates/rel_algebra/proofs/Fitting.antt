@@ -59,10 +59,11 @@ use Rattle.rel_algebra.proofs.BodyHeld.{AllHold, BranchesHold, HandlersHold, Hol
 use Rattle.rel_algebra.proofs.BodyHeld.{VariablesHold}
 use Rattle.rel_algebra.specs.Bodies as body
 use Rattle.rel_algebra.specs.Emit.{query_leaf}
-use Rattle.rel_algebra.specs.BodyChain.{called_body}
+use Rattle.rel_algebra.specs.BodyChain.{called_body, known_body}
 use Rattle.rel_algebra.specs.WellFormed.{ShapedBranches, ShapedHandlers, ShapedPerhaps, ShapedStmt}
 use Rattle.rel_algebra.specs.WellFormed.{ShapedStmts, ShapedVariables}
 use Rattle.rel_algebra.proofs.BodyCalled.{called_fits}
+use Rattle.rel_algebra.proofs.BodyKnown.{known_fits}
 use Rattle.rel_algebra.proofs.BodyHeld.{CountIs, QueryFits as LeafFits, ValueFits}
 use Rattle.rel_algebra.proofs.Blocks.{list_counted}
 
@@ -532,6 +533,9 @@ mutual
   body_fits (Function false types returns false statement) = λ S m k ws ps s.
       called_fits (body.Body types returns (stmt_body statement)) S (stmt_fits statement S s)
       (passed m k) (m + k) ws ps (passed_fits m k (m + k) ws ps (omega arith))
+  body_fits (Function false types returns true statement) = λ S m k ws ps s.
+      known_fits (body.Body types returns (stmt_body statement)) S (stmt_fits statement S s)
+      (passed m k) (m + k) ws ps (passed_fits m k (m + k) ws ps (omega arith))
   body_fits _ = λ S m k ws ps s. absurd s
 
   pub perhaps_fits : (text : Perhaps) (S : List ℕ → ℕ) → ShapedPerhaps text S →
@@ -715,6 +719,14 @@ routine_fits (Function false types returns false statement) S s =
     let b = called_body r S (top n) 0 in
     listed_fits (singly b) 0 unit_row S [] n refl
     (singly_fits b S 0 [] n (called_fits r S (stmt_fits statement S s) (top n) 0 [] n (
+      λ d i. tt,
+      λ i. below_fits n i (given i) (0 ∷ []) n (λ l. l),
+    ))) refl
+routine_fits (Function false types returns true statement) S s =
+    let n = length types in let r = body.Body types returns (stmt_body statement) in
+    let b = known_body r S (top n) 0 in
+    listed_fits (singly b) 0 unit_row S [] n refl
+    (singly_fits b S 0 [] n (known_fits r S (stmt_fits statement S s) (top n) 0 [] n (
       λ d i. tt,
       λ i. below_fits n i (given i) (0 ∷ []) n (λ l. l),
     ))) refl

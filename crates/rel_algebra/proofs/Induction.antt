@@ -5,10 +5,10 @@ use Rattle.row_types.specs.Rows.{Row}
 use Rattle.row_types.specs.declared.cell.Cell.{Cell}
 use Rattle.row_types.specs.declared.cell.Cell.TheVariants.{Val}
 use Rattle.rel_algebra.specs.Emit.{at, below, emit, emit_body, given, passed, plan, read}
-use Rattle.rel_algebra.specs.Emit.{listed, routine_plan, singly, top}
+use Rattle.rel_algebra.specs.Emit.{Emitted, listed, routine_plan, singly, top}
 use Rattle.sql_values.specs.declared.value.SqlType.{SqlType}
 use Rattle.rel_algebra.specs.Bodies as body
-use Rattle.rel_algebra.specs.BodyChain.{called_body}
+use Rattle.rel_algebra.specs.BodyChain.{called_body, known_body}
 use Rattle.rel_algebra.specs.BodyMeaning.{call as body_call}
 use Rattle.rel_algebra.specs.Plain.{stmt_meant}
 use Rattle.rel_algebra.specs.Endings.{cell_end, row_at, value_at}
@@ -34,7 +34,7 @@ use Rattle.rel_algebra.specs.Emit.{stmts_body, variables_body}
 use Rattle.rel_algebra.proofs.Growing.{shown_at, shown_long}
 use Rattle.rel_algebra.proofs.Folding.{Folds, exists_right, grouped_folds, in_right, single_right}
 use Rattle.rel_algebra.proofs.Lists.{RowsRight, values_means}
-use Rattle.rel_algebra.proofs.Nodes.{Yields, below_reads, outward_reads, passed_reads}
+use Rattle.rel_algebra.proofs.Nodes.{Reads, Yields, below_reads, outward_reads, passed_reads}
 use Rattle.rel_algebra.proofs.Nodes.{singly_yields, wider}
 use Rattle.rel_algebra.proofs.Planned.{AllPlan, FromPlans, LinksPlan, Plans, QueryPlans}
 use Rattle.rel_algebra.proofs.Planned.{RoutinePlans, RowsPlan, query_plans, routine_plans}
@@ -48,11 +48,14 @@ use Rattle.rel_algebra.proofs.BodyBase.{equals_itself}
 use Rattle.rel_algebra.proofs.Truths.{never}
 use Rattle.rel_algebra.proofs.Tests.{list_cells, listed_den}
 use Rattle.rel_algebra.proofs.Words.{assigning_cell}
-use Rattle.std.proofs.Common.{ap, subst, false, nat_eq}
+use Rattle.std.proofs.Common.{ap, subst, false, nat_eq, if◌then◌else◌, Ok}
+use Rattle.std.specs.List.{list_any}
+use Rattle.sql_values.specs.Values.{is_null}
+use Rattle.sql_values.specs.declared.value.Value.TheVariants.{Null}
 use Rattle.rel_algebra.proofs.BodyHeld.{AllHold, BranchesHold, HandlersHold, Holds, PerhapsHolds}
 use Rattle.rel_algebra.proofs.BodyHeld.{VariablesHold}
 use Rattle.rel_algebra.proofs.BodyHeld.{QueryRight, RoutineRight, ValueRight}
-use Rattle.rel_algebra.proofs.Blocks.{block_right, into_right}
+use Rattle.rel_algebra.proofs.Blocks.{block_right, into_right, known_block_right}
 use Rattle.rel_algebra.proofs.Planned.{BranchesPlan, HandlersPlan, PerhapsPlans, StmtPlans}
 use Rattle.rel_algebra.proofs.Planned.{StmtsPlan, VariablesPlan}
 
@@ -98,6 +101,10 @@ mutual
       (passed_reads w o m z vs l) y g)
   body_right (Function false types returns false statement) p = λ w fits o vs m z l c.
       block_right types returns statement w (stmt_right statement p w fits) o vs
+      (passed m (length vs)) (m + length vs) (z ++ shown vs) (body_long z vs m l) c
+      (passed_reads w o m z vs l)
+  body_right (Function false types returns true statement) p = λ w fits o vs m z l c.
+      known_block_right types returns statement w (stmt_right statement p w fits) o vs
       (passed m (length vs)) (m + length vs) (z ++ shown vs) (body_long z vs m l) c
       (passed_reads w o m z vs l)
   body_right _ p = absurd p
@@ -219,6 +226,23 @@ means_under q w rows p fits =
     (under (widths rows) (length w.args))
     (under_reads w rows, args_read w (stack rows))
 
+-- a function by itself gives one row of what its emission yields
+one_row_cells : (b : Emitted) (w : Inputs) (end : Cell) → Yields b w [] [] end →
+    den (listed (singly b) 0 unit_row) w [] ≡ one_cell end
+one_row_cells b w end y =
+    let a = singly b in
+    listed_den a 0 unit_row w []
+    ∙ ap (λ (rs : List PlanRow). rs ++ [])
+    (list_cells a 0 w [] [] (end ∷ []) refl (singly_yields b w [] [] end y))
+
+-- its parameters are the arguments
+args_are : (w : Inputs) →
+    Reads (top (length w.args)) w [] (record { rows = []; params = w.args }) []
+args_are w = λ z h. (λ d i. refl, λ i. args_read w (z ∷ []) i)
+
+as_long : (vs : Row) (n : ℕ) → length vs ≡ n → nat_eq (length vs) n ≡ true
+as_long vs n l = subst (λ (k : ℕ). nat_eq (length vs) k ≡ true) l (equals_itself (length vs))
+
 -- a block by itself
 block_cells : (types : List SqlType) (returns : SqlType) (s : Stmt) (w : Inputs) →
     length w.args ≡ length types → RoutineRight w (body.Body types returns (stmt_body s)) →
@@ -228,15 +252,26 @@ block_cells : (types : List SqlType) (returns : SqlType) (s : Stmt) (w : Inputs)
 block_cells types returns s w l right =
     let r = body.Body types returns (stmt_body s) in
     let end = cell_end (body_call (body.Body types returns (stmt_meant s)) w.args w) in
-    let b = called_body r (columns_in w) (top (length types)) 0 in let a = singly b in
-    listed_den a 0 unit_row w []
-    ∙ ap (λ (rs : List PlanRow). rs ++ [])
-    (list_cells a 0 w [] [] (end ∷ []) refl
-    (singly_yields b w [] [] end
+    one_row_cells (called_body r (columns_in w) (top (length types)) 0) w end
     (subst (λ (k : ℕ). Yields (called_body r (columns_in w) (top k) 0) w [] [] end) l
     (block_right types returns s w right [] w.args (top (length w.args)) 0 [] refl
-    (subst (λ (k : ℕ). nat_eq (length w.args) k ≡ true) l (equals_itself (length w.args)))
-    (λ z h. (λ d i. refl, λ i. args_read w (z ∷ []) i))))))
+    (as_long w.args (length types) l) (args_are w)))
+
+-- the same of one that returns NULL on NULL input
+known_block_cells : (types : List SqlType) (returns : SqlType) (s : Stmt) (w : Inputs) →
+    length w.args ≡ length types → RoutineRight w (body.Body types returns (stmt_body s)) →
+    den (listed (singly (known_body (body.Body types returns (stmt_body s)) (columns_in w)
+    (top (length types)) 0)) 0 unit_row) w []
+    ≡ one_cell (cell_end (if list_any is_null w.args then Ok Null
+    else body_call (body.Body types returns (stmt_meant s)) w.args w))
+known_block_cells types returns s w l right =
+    let r = body.Body types returns (stmt_body s) in
+    let end = cell_end (if list_any is_null w.args then Ok Null
+    else body_call (body.Body types returns (stmt_meant s)) w.args w) in
+    one_row_cells (known_body r (columns_in w) (top (length types)) 0) w end
+    (subst (λ (k : ℕ). Yields (known_body r (columns_in w) (top k) 0) w [] [] end) l
+    (known_block_right types returns s w right [] w.args (top (length w.args)) 0 [] refl
+    (as_long w.args (length types) l) (args_are w)))
 
 -- a function by itself
 pub routine_cells : (r : Routine) (w : Inputs) → planned_routine r ≡ true →
@@ -258,4 +293,7 @@ routine_cells (Function false types returns false statement) w p l fits =
     let r = Function false types returns false statement in
     block_cells types returns statement w l
     (stmt_right statement (routine_plans r p) w fits)
+routine_cells (Function false types returns true statement) w p l fits =
+    known_block_cells types returns statement w l
+    (stmt_right statement (routine_plans (Function false types returns true statement) p) w fits)
 routine_cells _ w p l fits = never p

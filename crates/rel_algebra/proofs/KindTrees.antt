@@ -74,7 +74,7 @@ use Rattle.rel_algebra.specs.Kinds.{type_kinds}
 use Rattle.rel_algebra.proofs.BodyKindsHeld.{AllKinds, BranchesKinds, Gives, HandlersKinds, Kinded}
 use Rattle.rel_algebra.proofs.BodyKindsHeld.{PerhapsGives, QueryKinds as LeafKinds, StmtKinds}
 use Rattle.rel_algebra.proofs.BodyKindsHeld.{VariablesKinds, made_types}
-use Rattle.rel_algebra.proofs.BodyKindsRoutines.{called_kinds}
+use Rattle.rel_algebra.proofs.BodyKindsRoutines.{called_kinds, known_kinds}
 
 -- How many columns queries have.
 exprs_long : (es : Exprs) (T : List ℕ → Kinds) (g : List Kinds) (p : Kinds) →
@@ -907,6 +907,10 @@ mutual
       ty.0) ty.1
   body_kinds (Function false types returns false statement) = λ T p m r ks ps l ty.
       called_kinds types returns (stmt_body statement) T (stmt_kinds statement T returns types ty.1)
+      (passed m (length p)) (m + length p) (r ++ p) ks ps (kinds_wider r p m (length p) l refl)
+      (λ j g. passed_are m r p (type_kinds types) ks ps l ty.0 j)
+  body_kinds (Function false types returns true statement) = λ T p m r ks ps l ty.
+      known_kinds types returns (stmt_body statement) T (stmt_kinds statement T returns types ty.1)
       (passed m (length p)) (m + length p) (r ++ p) ks ps (kinds_wider r p m (length p) l refl)
       (λ j g. passed_are m r p (type_kinds types) ks ps l ty.0 j)
   body_kinds _ = λ T p m r ks ps l ty. absurd ty

@@ -1,6 +1,6 @@
 -- A plan depends on the tables that its query names alone.
-use Rattle.std.proofs.Common.{◌≡◌, ℕ, zero, suc, ◌+◌, false, List, ◌∷◌, length, Some, refl, drop}
-use Rattle.std.proofs.Common.{[]}
+use Rattle.std.proofs.Common.{◌≡◌, ℕ, zero, suc, ◌+◌, true, false, List, [], ◌∷◌, length, Some}
+use Rattle.std.proofs.Common.{refl, drop}
 use Rattle.sql_values.specs.declared.value.SqlType.{SqlType}
 use Rattle.rel_algebra.specs.Emit.{Emitted, Env, Waiting, against_on, all_true, all_values, ask}
 use Rattle.rel_algebra.specs.Emit.{ask_member, assigning_in, called, emit, emit_all, emit_args}
@@ -32,8 +32,8 @@ use Rattle.rel_algebra.specs.Emit.{stmts_body, variables_body}
 use Rattle.rel_algebra.proofs.BodyHeld.{AllHold, BranchesHold, HandlersHold, Holds, PerhapsHolds}
 use Rattle.rel_algebra.proofs.BodyHeld.{VariablesHold}
 use Rattle.rel_algebra.specs.Bodies as body
-use Rattle.rel_algebra.specs.BodyChain.{read_outward}
-use Rattle.rel_algebra.specs.Emissions.{asked}
+use Rattle.rel_algebra.specs.BodyChain.{all_known, read_outward}
+use Rattle.rel_algebra.specs.Emissions.{asked, asked_where}
 use Rattle.rel_algebra.specs.Lasting.{BranchesLast, HandlersLast, PerhapsLasts, StmtLasts}
 use Rattle.rel_algebra.specs.Lasting.{StmtsLast, VariablesLast}
 use Rattle.rel_algebra.proofs.BodyLasts.{QueryLasts as LeafLasts, ValueLasts, inline_lasts}
@@ -118,6 +118,8 @@ mutual
       λ i. assigning_in (returns ∷ []) (expr_lasts x S R e n h i)
   body_lasts (Function false types returns false statement) S R e n h =
       λ i. asked single (h (read_outward e 0 types) i) n
+  body_lasts (Function false types returns true statement) S R e n h =
+      λ i. asked_where (all_known e types) single (h (read_outward e 0 types) i) n
   body_lasts _ S R e n h = refl
 
   perhaps_last : (text : Perhaps) (S R : List ℕ → ℕ) → PerhapsLasts text S R →
@@ -190,7 +192,8 @@ mutual
   rows_last (MoreRows es rows) S R e n h = λ i. all_last es S R e n h.0 i
       ∷ rows_last rows S R e (width (all_last es S R e n h.0 i).nodes n) h.1 i
 
-  pub plan_lasts : (q : Query) (S R : List ℕ → ℕ) (e : Env) → QueryLasts q S R → plan q S e ≡ plan q R e
+  pub plan_lasts : (q : Query) (S R : List ℕ → ℕ) (e : Env) → QueryLasts q S R →
+      plan q S e ≡ plan q R e
   plan_lasts (Select items from tests) S R e h = λ i.
       selected (λ m. tests_last tests S R (entered e (from_width_lasts from S R h.1 i)) none_waits m
       h.2 i)

@@ -57,6 +57,7 @@ pub use Rattle.rel_algebra.proofs.Moves.{NotGiven}
 pub use Rattle.rel_algebra.proofs.Nodes.{on_each_den, added_grows, Reads, Yields, added_join}
 pub use Rattle.rel_algebra.proofs.Nodes.{added_long, wider, cells_long}
 pub use Rattle.rel_algebra.proofs.Passing.{expr_gives, expr_is, ending_body, query_gives}
+pub use Rattle.rel_algebra.proofs.Passing.{query_is}
 pub use Rattle.rel_algebra.proofs.Planned.{Plans, QueryPlans, plans, query_plans}
 pub use Rattle.rel_algebra.proofs.Removable.{PartsOk, expr_ok, into_ok, query_ok, fold_ok}
 pub use Rattle.rel_algebra.proofs.Rows.{AreCells, are_cells, shown_append, WideEnd}

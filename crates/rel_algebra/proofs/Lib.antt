@@ -55,6 +55,7 @@ pub mod BodyUnplanned
 pub mod BodyLasts
 pub mod BodyCalls
 pub mod BodyCalled
+pub mod BodyKnown
 pub mod Blocks
 pub mod KindRows
 pub mod KindWords

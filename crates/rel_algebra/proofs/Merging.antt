@@ -52,6 +52,7 @@ use Rattle.rel_algebra.proofs.BodyHeld.{VariablesHold}
 use Rattle.rel_algebra.specs.Bodies as body
 use Rattle.rel_algebra.specs.Emit.{query_leaf, value_leaf}
 use Rattle.rel_algebra.proofs.BodyCalled.{called_moved}
+use Rattle.rel_algebra.proofs.BodyKnown.{known_moved}
 use Rattle.rel_algebra.proofs.BodyMoved.{FoldedStays, QueryStays, ValueStays}
 
 abbrev pub ExprMoved : Expr → Type 0
@@ -503,7 +504,11 @@ mutual
       ap (assigning_in (returns ∷ [])) (expr_moved x S v d e e' j m)
       ∙ assigning_in_moved (returns ∷ []) (emit x S e j) v d
   body_moved (Function false types returns false statement) = λ S v d e e' j m.
-      called_moved (body.Body types returns (stmt_body statement)) S v d
+      called_moved (constant (Truth true)) (constant (Truth true))
+      (body.Body types returns (stmt_body statement)) S v d refl
+      (stmt_moved statement S v d) e e' j m
+  body_moved (Function false types returns true statement) = λ S v d e e' j m.
+      known_moved (body.Body types returns (stmt_body statement)) S v d
       (stmt_moved statement S v d) e e' j m
   body_moved _ = λ S v d e e' j m. refl
 

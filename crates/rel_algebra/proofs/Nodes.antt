@@ -8,6 +8,7 @@ use Rattle.row_types.specs.Rows.{Row}
 use Rattle.row_types.specs.declared.cell.Cell.{Cell}
 use Rattle.row_types.specs.declared.cell.Cell.TheVariants.{Cond, Val}
 use Rattle.rel_algebra.specs.Emit.{Emitted, EmittedAll, Env, Place, asked, asked_member, at, below}
+use Rattle.rel_algebra.specs.Emissions.{asked_where}
 use Rattle.rel_algebra.specs.Emit.{columns_within, entered, first_and, given, joined_nodes, lifted}
 use Rattle.rel_algebra.specs.Emit.{nowhere, outward, passed, read, scalar_count, singly}
 use Rattle.rel_algebra.specs.Emit.{then_columns, width}
@@ -221,7 +222,15 @@ then_columns_yields a go n w o q cs c l ya yc y g =
     (ap (λ (ds : List Cell). length ds) (sym same) ∙ cells_long a.scalars
     (sight w o z)) y (subst (λ (r : List Cell). Grows r y) row g)
 
--- Queries inside.
+-- Queries inside: under a test
+pub asked_where_yields : (when : Scalar) (kind : Kind) (inner : PlanTree) (n : ℕ) (w : Inputs)
+    (o : List (List Cell)) (q : List Cell) (c : Cell) → length q ≡ n →
+    apply_cells when kind (sight w o q) (den inner w (q ∷ o)) ≡ c ∷ [] →
+    Yields (asked_where when kind inner n) w o q c
+asked_where_yields when kind inner n w o q c l h z g =
+    grown_column q z c n l (subst (λ (cs : List Cell). Grows (q ++ cs) z) h g)
+
+-- and always
 pub asked_yields : (kind : Kind) (inner : PlanTree) (n : ℕ) (w : Inputs) (o : List (List Cell))
     (q : List Cell) (c : Cell) → length q ≡ n →
     collapse kind (member_cell kind (sight w o q)) (den inner w (q ∷ o)) ≡ c ∷ [] →

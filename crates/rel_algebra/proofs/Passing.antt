@@ -57,6 +57,7 @@ use Rattle.rel_algebra.proofs.Planned.{BranchesPlan, HandlersPlan, PerhapsPlans,
 use Rattle.rel_algebra.proofs.Planned.{StmtsPlan, VariablesPlan}
 use Rattle.rel_algebra.proofs.BlockWorlds.{AllEach, BranchesEach, Each, ExprGives, HandlersEach}
 use Rattle.rel_algebra.proofs.BlockWorlds.{PerhapsEach, QueryGives, VariablesEach, call_gives}
+use Rattle.rel_algebra.proofs.BlockWorlds.{known_call_gives}
 use Rattle.rel_algebra.proofs.Exceptions.{answer_fails, ev_fails}
 
 -- this evaluation ends so, in this world
@@ -385,6 +386,8 @@ mutual
       ∙ body_is returns f w e
   call_is (Function false types returns false statement) p vs w args =
       call_gives types returns statement vs args w (stmt_give statement p w args)
+  call_is (Function false types returns true statement) p vs w args =
+      known_call_gives types returns statement vs args w (stmt_give statement p w args)
   call_is _ p vs w args = absurd p
 
   perhaps_give : (text : Perhaps) → PerhapsPlans text → (w : World) (args : List Value) →
@@ -596,9 +599,10 @@ body_means returns f w (RunsOut u) = refl
 two_forms : (r : Routine) → planned_routine r ≡ true → IsReturned r ⊎ IsBlock r
 two_forms (Returned types returns x) p =
     inl (record { parameters = types; returns = returns; body = x; form = refl })
-two_forms (Function false types returns false statement) p = inr (record {
+two_forms (Function false types returns null_call statement) p = inr (record {
   parameters = types;
   returns = returns;
+  null_call = null_call;
   body = statement;
   form = refl;
   in_form = p;

@@ -47,7 +47,7 @@ abbrev mutual
 
   pub RoutinePlans : Routine → Type 0
   RoutinePlans (Returned types returns x) = Plans x
-  RoutinePlans (Function false types returns false statement) = StmtPlans statement
+  RoutinePlans (Function false types returns null_call statement) = StmtPlans statement
   RoutinePlans _ = ⊥
 
   pub PerhapsPlans : Perhaps → Type 0
@@ -159,7 +159,7 @@ mutual
 
   pub routine_plans : (r : Routine) → planned_routine r ≡ true → RoutinePlans r
   routine_plans (Returned types returns x) = plans x
-  routine_plans (Function false types returns false statement) = stmt_plans statement
+  routine_plans (Function false types returns null_call statement) = stmt_plans statement
   routine_plans _ = λ p. never p
 
   pub perhaps_plans : (text : Perhaps) → planned_perhaps text ≡ true → PerhapsPlans text

@@ -45,7 +45,7 @@ use Rattle.rel_algebra.proofs.BodyHeld.{AllHold, BranchesHold, HandlersHold, Hol
 use Rattle.rel_algebra.proofs.BodyHeld.{VariablesHold}
 use Rattle.rel_algebra.specs.Bodies as body
 use Rattle.rel_algebra.specs.Emit.{query_leaf}
-use Rattle.rel_algebra.specs.BodyChain.{called_body}
+use Rattle.rel_algebra.specs.BodyChain.{all_known, called_body, known_body}
 use Rattle.rel_algebra.specs.Plan.{into}
 use Rattle.rel_algebra.specs.Simple.{SimpleBranches, SimpleHandlers, SimplePerhaps, SimpleStmt}
 use Rattle.rel_algebra.specs.Simple.{SimpleStmts, SimpleVariables}
@@ -359,8 +359,11 @@ mutual
   body_ok (Returned types returns x) =
       λ S m k j s. expr_ok x S false (passed m k) j s (λ i. below_not_given k i (m + i))
   body_ok (Function false types returns false statement) = λ S m k j s.
-      called_removable (body.Body types returns (stmt_body statement)) S (stmt_ok statement S s)
-      (passed m k) j
+      called_removable (constant (Truth true)) (body.Body types returns (stmt_body statement)) S
+      (stmt_ok statement S s) (passed m k) j
+  body_ok (Function false types returns true statement) = λ S m k j s.
+      called_removable (all_known (passed m k) types)
+      (body.Body types returns (stmt_body statement)) S (stmt_ok statement S s) (passed m k) j
   body_ok _ = λ S m k j s. absurd s
 
   pub perhaps_ok : (text : Perhaps) (S : List ℕ → ℕ) → SimplePerhaps text S →
@@ -480,7 +483,12 @@ routine_ok (Returned types returns x) S s =
 routine_ok (Function false types returns false statement) S s =
     let r = body.Body types returns (stmt_body statement) in
     listed_ok (singly (called_body r S (top (length types)) 0)) 0 unit_row
-    (called_removable r S (stmt_ok statement S s) (top (length types)) 0) refl
+    (called_removable (constant (Truth true)) r S (stmt_ok statement S s) (top (length types)) 0)
+    refl
+routine_ok (Function false types returns true statement) S s =
+    let r = body.Body types returns (stmt_body statement) in let e = top (length types) in
+    listed_ok (singly (known_body r S e 0)) 0 unit_row
+    (called_removable (all_known e types) r S (stmt_ok statement S s) e 0) refl
 routine_ok _ S s = absurd s
 
 pub removable_plans : RemovablePlans

@@ -47,8 +47,9 @@ use Rattle.rel_algebra.proofs.BodyHeld.{AllHold, BranchesHold, HandlersHold, Hol
 use Rattle.rel_algebra.proofs.BodyHeld.{VariablesHold}
 use Rattle.rel_algebra.specs.Bodies as body
 use Rattle.rel_algebra.specs.Emit.{query_leaf, value_leaf}
-use Rattle.rel_algebra.specs.BodyChain.{called_body}
+use Rattle.rel_algebra.specs.BodyChain.{called_body, known_body}
 use Rattle.rel_algebra.proofs.BodyCalled.{called_within}
+use Rattle.rel_algebra.proofs.BodyKnown.{known_within}
 use Rattle.rel_algebra.proofs.BodyInward.{FoldedWithin, QueryWithin, ReadsWithin, ValueWithin}
 
 -- of the levels that are reached, and of the parameters where p is true, the places are within the
@@ -698,6 +699,9 @@ mutual
   body_in (Function false types returns false statement) = λ S m j n i.
       called_within (body.Body types returns (stmt_body statement)) S n
       (stmt_in statement S (suc n)) (passed m j) i (passed_reads_in m j n)
+  body_in (Function false types returns true statement) = λ S m j n i.
+      known_within (body.Body types returns (stmt_body statement)) S n
+      (stmt_in statement S (suc n)) (passed m j) i (passed_reads_in m j n)
   body_in _ = λ S m j n i. (refl, refl)
 
   pub perhaps_in : (text : Perhaps) (S : List ℕ → ℕ) (n : ℕ) →
@@ -828,6 +832,13 @@ closed_routine (Function false types returns false statement) S =
     let b = called_body (body.Body types returns (stmt_body statement)) S (top (length types)) 0 in
     listed_in (singly b) 0 unit_row 0
     (singly_in b 0 (called_within (body.Body types returns (stmt_body statement)) S 0
+    (stmt_in statement S 1) (top (length types)) 0
+    (λ i. read_stays (below (length types) i (given i)) 1
+    (below_in (length types) i (given i) 1 tt)))) refl
+closed_routine (Function false types returns true statement) S =
+    let b = known_body (body.Body types returns (stmt_body statement)) S (top (length types)) 0 in
+    listed_in (singly b) 0 unit_row 0
+    (singly_in b 0 (known_within (body.Body types returns (stmt_body statement)) S 0
     (stmt_in statement S 1) (top (length types)) 0
     (λ i. read_stays (below (length types) i (given i)) 1
     (below_in (length types) i (given i) 1 tt)))) refl

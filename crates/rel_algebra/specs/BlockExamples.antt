@@ -6,8 +6,9 @@ use Rattle.sql_values.specs.declared.value.Value.TheVariants.{Null, Int, Bool as
 use Rattle.sql_values.specs.declared.value.SqlType.TheVariants.{Integer}
 use Rattle.sql_values.specs.declared.operators.Operator.TheVariants.{Add}
 use Rattle.row_types.specs.Rows.{Row}
-use Rattle.rel_algebra.specs.Tree.{Sum, NullTest, Expr, Literal, Column, Variable, Operate, Call}
-use Rattle.rel_algebra.specs.Tree.{NoExpr, Routine, Function, Query, Select, Grouped, Table, Target}
+use Rattle.rel_algebra.specs.Tree.{Sum, NullTest, Opposite, Expr, Literal, Column, Variable}
+use Rattle.rel_algebra.specs.Tree.{Operate, Call, NoExpr, Routine, Function, Query, Select, Grouped}
+use Rattle.rel_algebra.specs.Tree.{Table, Target}
 use Rattle.rel_algebra.specs.Tree.{Exit, State, Without, With, NoVariable, MoreVariables, Stmt}
 use Rattle.rel_algebra.specs.Tree.{Insert, Compound, If, Set, SelectInto, Signal, Return}
 use Rattle.rel_algebra.specs.Tree.{NoStmt, MoreStmts, NoBranch, MoreBranches, NoHandler}
@@ -17,7 +18,8 @@ use Rattle.rel_algebra.specs.World.{Gives, Raises}
 use Rattle.rel_algebra.specs.Meaning.{ask}
 use Rattle.rel_algebra.specs.Joins.{table_width}
 use Rattle.rel_algebra.specs.Plain.{planned}
-use Rattle.rel_algebra.specs.Plan.{anew, apply, column, constant, extend, keep, scan, single}
+use Rattle.rel_algebra.specs.Plan.{and_word, anew, apply, column, constant, extend, keep, scan}
+use Rattle.rel_algebra.specs.Plan.{single, strict, word}
 use Rattle.rel_algebra.specs.Emit.{stmt_body}
 use Rattle.rel_algebra.specs.Bodies.{Body}
 use Rattle.rel_algebra.specs.BodyChain.{inline_with, of_type}
@@ -81,6 +83,16 @@ adding = Compound false NoVariable 0 NoHandler
 abbrev pub of_each : Stmt → Expr → Query
 of_each statement x = Select (one (call statement x)) (Table t_name) NoExpr
 
+-- seven: RETURN 7
+abbrev pub seven : Stmt
+seven = Return (number 7)
+
+-- the same of a function that returns NULL on NULL input
+abbrev pub of_each_known : Stmt → Expr → Query
+of_each_known statement x =
+    Select (one (Call (codes "F") (Function false (Integer ∷ []) Integer true statement) (one x)))
+    (Table t_name) NoExpr
+
 -- SELECT k FROM t WHERE small(k) = 1
 abbrev pub small_keys : Query
 small_keys = Select (one (Column 0 0)) (Table t_name)
@@ -128,6 +140,20 @@ pub record BlocksWorked : Type 0 where
   pub call_plan : planned_as (of_each safe (Column 0 1))
       ≡ keep (3 ∷ []) (apply (constant (Truth true)) single anew
       (inline_with (Body (Integer ∷ []) Integer (stmt_body safe)) (table_width tables)
+      (only (of_type Integer (column 1 2))))
+      (extend (only (col 1)) (scan t_name 2)))
+  -- seven(NULL), seven(10), seven(0)
+  pub on_null : ask (of_each_known seven (Column 0 1)) world
+      ≡ Gives (values (Null ∷ int 7 ∷ int 7 ∷ [])) world
+  -- by the plan
+  pub on_null_plan : runs (of_each_known seven (Column 0 1))
+      ≡ Ok (values (Null ∷ int 7 ∷ int 7 ∷ []))
+  -- the Apply asks and(not(isnull(#2)))
+  pub on_null_call_plan : planned_as (of_each_known seven (Column 0 1))
+      ≡ keep (3 ∷ []) (apply (word and_word
+      (only (word (strict Opposite) (only (word (strict NullTest) (only (col 2)))))))
+      single anew
+      (inline_with (Body (Integer ∷ []) Integer (stmt_body seven)) (table_width tables)
       (only (of_type Integer (column 1 2))))
       (extend (only (col 1)) (scan t_name 2)))
   -- each Apply can be removed

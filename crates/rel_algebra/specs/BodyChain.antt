@@ -5,12 +5,12 @@ use Rattle.std.specs.Prelude.{Some, None}
 use Rattle.sql_values.specs.declared.value.Value.TheVariants.{Null, Str, Bool as Truth}
 use Rattle.sql_values.specs.declared.value.SqlType.{SqlType}
 use Rattle.sql_values.specs.declared.operators.Comparison.TheVariants.{Equals}
-use Rattle.rel_algebra.specs.Tree.{Assign, Cast, Comparing}
+use Rattle.rel_algebra.specs.Tree.{Assign, Cast, Comparing, NullTest, Opposite}
 use Rattle.rel_algebra.specs.Joins.{places}
 use Rattle.rel_algebra.specs.Emissions.{Emitted, Folded, plain, width, joined_nodes, all_values}
-use Rattle.rel_algebra.specs.Emissions.{if_values, assigning, asked}
+use Rattle.rel_algebra.specs.Emissions.{if_values, assigning, asked_where}
 use Rattle.rel_algebra.specs.Environments.{Place, at, nowhere, Env as Reading, outward, read}
-use Rattle.rel_algebra.specs.Plan.{coalesce_word}
+use Rattle.rel_algebra.specs.Plan.{and_word, coalesce_word}
 use Rattle.rel_algebra.specs.Plan.{Scalar, Scalars, constant, column, argument, word, none, more}
 use Rattle.rel_algebra.specs.Plan.{case_word, single, strict, on_condition, Nodes, no_node}
 use Rattle.rel_algebra.specs.Plan.{extend_by, apply_by, into, aggregate, PlanTree, unit_row, extend}
@@ -569,7 +569,30 @@ read_outward e i (t ∷ ts) =
     more (of_type t (read (outward (e.params i)))) (read_outward e (suc i) ts)
 
 -- what a call of a function emits whose parameters an environment has: an Apply of its plan as a
--- region
-abbrev pub called_body : Routine → Widths → Reading → ℕ → Emitted
-called_body r S e n = asked single
+-- region, which is run where this scalar is TRUE
+abbrev pub called_where : Scalar → Routine → Widths → Reading → ℕ → Emitted
+called_where when r S e n = asked_where when single
     (inline_with r S (read_outward e 0 (parameters_of r))) n
+
+-- of a function that is called on NULL too
+abbrev pub called_body : Routine → Widths → Reading → ℕ → Emitted
+called_body = called_where (constant (Truth true))
+
+-- whether what stands at a place is not NULL
+abbrev pub known : Place → Scalar
+known p = word (strict Opposite) (only (word (strict NullTest) (only (read p))))
+
+-- the same of each parameter of these types, from the i-th on
+abbrev pub knowns : Reading → ℕ → List SqlType → Scalars
+knowns e i [] = none
+knowns e i (t ∷ ts) = more (known (e.params i)) (knowns e (suc i) ts)
+
+-- whether no parameter is NULL
+abbrev pub all_known : Reading → List SqlType → Scalar
+all_known e [] = constant (Truth true)
+all_known e (t ∷ ts) = word and_word (knowns e 0 (t ∷ ts))
+
+-- Of a function that returns NULL on NULL input: its body is run where no parameter is NULL. 10.4
+-- (routine invocation)
+abbrev pub known_body : Routine → Widths → Reading → ℕ → Emitted
+known_body r S e n = called_where (all_known e (parameters_of r)) r S e n

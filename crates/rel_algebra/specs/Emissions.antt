@@ -59,12 +59,16 @@ then_columns a go n =
     let m = width a.nodes n in let k = scalar_count a.scalars in let c = go m k in
     record { nodes = joined_nodes a.nodes (extend_by a.scalars c.nodes); scalar = c.scalar }
 
--- a query inside, under an Apply
-abbrev pub asked : Kind → PlanTree → ℕ → Emitted
-asked kind inner n = record {
-  nodes = apply_by (constant (Truth true)) kind anew inner no_node;
+-- a query inside, under an Apply that asks it where this scalar is TRUE
+abbrev pub asked_where : Scalar → Kind → PlanTree → ℕ → Emitted
+asked_where when kind inner n = record {
+  nodes = apply_by when kind anew inner no_node;
   scalar = column 0 n;
 }
+
+-- a query inside, under an Apply
+abbrev pub asked : Kind → PlanTree → ℕ → Emitted
+asked = asked_where (constant (Truth true))
 
 -- x IN a query, whose Apply reads x's scalar. 8.4 (in predicate)
 abbrev pub asked_member : Emitted → PlanTree → ℕ → Emitted

@@ -18,7 +18,7 @@ use Rattle.rel_algebra.specs.Tree.{NoStmt, MoreStmts, Branches, NoBranch, MoreBr
 use Rattle.rel_algebra.specs.Tree.{NoHandler, MoreHandlers}
 use Rattle.rel_algebra.specs.Plain.{answer, ev}
 use Rattle.rel_algebra.specs.Bodies as body
-use Rattle.rel_algebra.specs.BodyChain.{called_body}
+use Rattle.rel_algebra.specs.BodyChain.{called_body, known_body}
 use Rattle.rel_algebra.specs.Leaves.{QueryLeaf, ValueLeaf}
 use Rattle.rel_algebra.specs.Joins.{places, numbered, rows_width, from_width}
 pub use Rattle.rel_algebra.specs.Plan.{scalar_count}
@@ -195,11 +195,14 @@ abbrev mutual
   emit_rows (MoreRows es rows) S e n = let a = emit_all es S e n in
       a ∷ emit_rows rows S e (width a.nodes n)
 
-  -- as the result's type takes it; of a block, an Apply of its plan as a region
+  -- As the result's type takes it; of a block, an Apply of its plan as a region, under the test of
+  -- its parameters where it returns NULL on NULL input.
   pub emit_body : Routine → (List ℕ → ℕ) → Env → ℕ → Emitted
   emit_body (Returned types returns x) S e n = assigning_in (returns ∷ []) (emit x S e n)
   emit_body (Function false types returns false statement) S e n =
       called_body (body.Body types returns (stmt_body statement)) S e n
+  emit_body (Function false types returns true statement) S e n =
+      known_body (body.Body types returns (stmt_body statement)) S e n
   -- no planned expression calls another routine
   emit_body _ S e n = plain (constant Null)
 

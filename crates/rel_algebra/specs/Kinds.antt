@@ -493,7 +493,7 @@ abbrev mutual
   -- the kind of what a call of a function gives. 10.4 (routine invocation)
   pub body_kind : Routine → (List ℕ → Kinds) → Kinds → DataKind
   body_kind (Returned types returns x) T p = assigned_kind returns (expr_kind x T [] p)
-  body_kind (Function false types returns false statement) T p = type_kind returns
+  body_kind (Function false types returns null_call statement) T p = type_kind returns
   body_kind _ T p = NullKind
 
   -- the kinds of a query's columns. 7.17 (query expression)
@@ -591,7 +591,7 @@ abbrev mutual
   TypedBody (Returned types returns x) T p =
       Typed x T [] p × (takes returns (expr_kind x T [] p) ≡ true)
   -- a block has its parameters in columns, each of the kind of its type, which also takes NULL
-  TypedBody (Function false types returns false statement) T p =
+  TypedBody (Function false types returns null_call statement) T p =
       (agree_all p (type_kinds types) ≡ true) × TypedStmt statement T returns types
   TypedBody _ T p = ⊥
 

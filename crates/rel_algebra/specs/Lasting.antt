@@ -60,7 +60,7 @@ abbrev mutual
   -- the same of the expression that a called function returns; a block has the same plan
   pub RoutineLasts : Routine → (List ℕ → ℕ) → (List ℕ → ℕ) → Type 0
   RoutineLasts (Returned types returns x) S R = Lasts x S R
-  RoutineLasts (Function false types returns false statement) S R = BlockLasts types returns
+  RoutineLasts (Function false types returns null_call statement) S R = BlockLasts types returns
       statement S R
   -- the emission of another routine names no table
   RoutineLasts _ S R = Unit {0}

@@ -3,6 +3,7 @@
 -- do.
 use Rattle.std.specs.Prelude.{ℕ, zero, Bool, true, false, if◌then◌else◌, List, [], ◌∷◌}
 use Rattle.std.specs.Prelude.{◌++◌, nat_eq, ◌&&◌, Ok, drop, length}
+use Rattle.std.specs.List.{list_any}
 use Rattle.sql_values.specs.declared.value.Value.{Value}
 use Rattle.sql_values.specs.declared.value.Value.TheVariants.{Null, Bool as Truth}
 use Rattle.sql_values.specs.declared.value.SqlType.{SqlType}
@@ -150,6 +151,10 @@ abbrev mutual
     ending_of (assigned returns v)
   call (Function false types returns false statement) vs w =
       body_call (body.Body types returns (stmt_meant statement)) vs w
+  -- it returns NULL on NULL input
+  call (Function false types returns true statement) vs w =
+      if list_any is_null vs then Ok Null
+      else body_call (body.Body types returns (stmt_meant statement)) vs w
   -- no planned expression calls another routine
   call _ vs w = Ok Null
 
@@ -300,10 +305,10 @@ abbrev mutual
   planned_all (MoreExprs x es) = planned_expr x && planned_all es
 
   -- a function only returns an expression, which has a plan, or its body is in form; it is no part
-  -- of itself, and is called on NULL too
+  -- of itself
   pub planned_routine : Routine → Bool
   planned_routine (Returned types returns x) = planned_expr x
-  planned_routine (Function false types returns false statement) = planned_stmt statement
+  planned_routine (Function false types returns null_call statement) = planned_stmt statement
   planned_routine _ = false
 
   -- an expression has a plan, where it isn't left out

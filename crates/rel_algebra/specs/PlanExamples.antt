@@ -335,10 +335,10 @@ pub record PlansWorked : Type 0 where
   -- no function that calls itself has a plan, and rows of VALUES have one length
   pub no_plan : planned (row_of
       (one (Call (codes "F") (Function true [] Integer false (Return (number 1))) NoExpr))) ≡ false
-  -- nor has one that is NULL on NULL
-  pub no_plan_on_null : planned
+  -- one that returns NULL on NULL input has one
+  pub plan_on_null : planned
       (row_of (one (Call (codes "F") (Function false [] Integer true (Return (number 1))) NoExpr)))
-      ≡ false
+      ≡ true
   -- a body of several statements has one, where each is in form
   pub plan_of_statements : planned
       (row_of (one (Call (codes "F") (Function false [] Integer false

@@ -23,12 +23,13 @@ pub record IsReturned (r : Routine) : Type 0 where
   pub body : Expr
   pub form : r ≡ Returned parameters returns body
 
--- a function whose body is a statement in form: it is no part of itself, and is called on NULL too
+-- a function whose body is a statement in form: it is no part of itself
 pub record IsBlock (r : Routine) : Type 0 where
   pub parameters : List SqlType
   pub returns : SqlType
+  pub null_call : Bool
   pub body : Stmt
-  pub form : r ≡ Function false parameters returns false body
+  pub form : r ≡ Function false parameters returns null_call body
   pub in_form : planned_stmt body ≡ true
 
 -- what a call of such a function means, and that no other routine is planned than those of the two

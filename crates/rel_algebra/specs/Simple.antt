@@ -160,7 +160,7 @@ abbrev mutual
   -- the body of a called function is, whose parameters are columns
   pub SimpleBody : Routine → (List ℕ → ℕ) → Type 0
   SimpleBody (Returned types returns x) S = Simple x S false
-  SimpleBody (Function false types returns false statement) S = SimpleStmt statement S
+  SimpleBody (Function false types returns null_call statement) S = SimpleStmt statement S
   SimpleBody _ S = ⊥
 
   -- an expression that may be left out is, where variables are columns
@@ -246,7 +246,7 @@ pub record ClosedPlans : Type 0 where
 -- once, and then has them in columns.
 abbrev pub SimpleRoutine : Routine → (List ℕ → ℕ) → Type 0
 SimpleRoutine (Returned types returns x) S = Simple x S true
-SimpleRoutine (Function false types returns false statement) S = SimpleStmt statement S
+SimpleRoutine (Function false types returns null_call statement) S = SimpleStmt statement S
 SimpleRoutine _ S = ⊥
 
 -- each Apply of a simple query's plan can be removed, and each of a function's

@@ -168,7 +168,7 @@ abbrev mutual
   -- the body of a called function
   pub ShapedBody : Routine → (List ℕ → ℕ) → Type 0
   ShapedBody (Returned types returns x) S = Shaped x S
-  ShapedBody (Function false types returns false statement) S = ShapedStmt statement S
+  ShapedBody (Function false types returns null_call statement) S = ShapedStmt statement S
   ShapedBody _ S = ⊥
 
   -- an expression that may be left out

@@ -2,3 +2,4 @@ mod Wide
 mod Ended
 mod Chosen
 mod Calls
+mod Outwards

@@ -1,3 +1,4 @@
 pub mod Ending
 pub mod Widths
 pub mod Calling
+pub mod Sights

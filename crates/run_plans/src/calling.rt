@@ -16,6 +16,7 @@ use crate::widths::are_wide;
 use call_plans::{CallPlan, calls_mean};
 use plan_exec::Values;
 use rel_algebra::kept_tables_fit;
+use row_types::Outer;
 use run_choices::single;
 use run_expressions::{Arguments, Raise, Stop, World};
 use run_places::Place;
@@ -91,7 +92,7 @@ fn call_value(call: &CallPlan, values: &[Value], world: &World) -> Result<Value,
         (call_end call.now values.now (world_of world.now)) }
 {
     let alloc = world.allocator();
-    match plan_values(alloc, &call.plan, world.tables(), values)? {
+    match plan_values(alloc, &call.plan, world.tables(), values, &Outer::Outermost)? {
         Values::Rows(rows) => single(rows.as_slice()),
         Values::Raised(area) => Err(Stop::Raised(Raise::held(alloc, area)?)),
     }

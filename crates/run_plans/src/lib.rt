@@ -4,7 +4,9 @@
 
 mod calling;
 mod choosing;
+mod outside;
 mod running;
+mod sights;
 mod widths;
 
 pub use calling::{call_plan_for, run_call_plan};

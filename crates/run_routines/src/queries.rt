@@ -41,7 +41,7 @@ pub fn answer_query(
         (world_of world.old)) }
 {
     match kept_for(place, query, outer, frame, &*world) {
-        Some(kept) => run_kept(kept, frame, &*world),
+        Some(kept) => run_kept(kept, outer, frame, &*world),
         None => answer_by_rows(query, outer, frame, world, place),
     }
 }

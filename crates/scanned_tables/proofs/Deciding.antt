@@ -183,6 +183,11 @@ module _ (S R : List ℕ → ℕ) where
         (λ g. stmt_reads statement [] (chain.top (length types)) 3 4 (3 + length types) None refl p
         g)
         h.0
+    routine_reads (Function false types returns true statement) e n p h =
+        block_reads S R types returns (stmt_body statement) (read_outward e 0 types)
+        (λ g. stmt_reads statement [] (chain.top (length types)) 3 4 (3 + length types) None refl p
+        g)
+        h.0
     routine_reads _ e n p h = absurd (false≢true p)
 
     -- ---- statements

@@ -5,7 +5,7 @@ pub returns : goal.returns
 returns c = record {
   has_plan = refl;
   no_plan = refl;
-  no_plan_on_null = refl;
+  plan_on_null = refl;
   plan_of_statements = refl;
   uneven = refl;
   several_rows = refl;

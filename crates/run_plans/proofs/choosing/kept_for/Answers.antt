@@ -1,18 +1,14 @@
-use Rattle.std.proofs.Common.{◌≡◌, List, sym, ap, subst}
-use Rattle.std.specs.Prelude.{IfSome}
-use Rattle.row_types.specs.Rows.{Row}
-use Rattle.rel_algebra.specs.Meaning.{answer}
-use Rattle.routine_views.specs.Views.{query_in}
+use Rattle.std.proofs.Common.{List, length, ap}
+use Rattle.sql_values.specs.declared.value.Value.{Value}
 use Rattle.run_choices.specs.Sight.{seen}
-use Rattle.run_expressions.specs.Content.{world_of}
-use Rattle.run_places.specs.Places.{known_of, self_of}
-use Rattle.run_plans.specs.Ending.{kept_end}
+use Rattle.run_plans.proofs.Chosen.{ends_found}
 use Rattle.run_plans.proofs.choosing.kept_for.Goals as goal
 
-pub returns-in-NoRow : goal.returns-in-NoRow
-returns-in-NoRow c =
-    let w = world_of c.args.world.now in
-    let p = c.args.place.now in
-    subst (λ (rows : List Row). IfSome c.kept_under.result (λ k.
-    answer (query_in (known_of p) c.args.query.now) (self_of p) rows c.args.frame.now w
-    ≡ kept_end k.now c.args.frame.now w)) (sym (ap seen c.in-NoRow.is)) c.kept_under.ensures
+pub returns-in-Some : goal.returns-in-Some
+returns-in-Some c =
+    ends_found c.kept_mean.ensures c.kept_tables_fit.ensures c.args.place.now c.args.world.now
+    c.args.frame.now (seen c.args.rows.now) c.args.query.now c.in-Some.kept.now
+    c.in-Some.ensures.kept c.in-Some.ensures.query _ c.in-Some.ensures.sight
+    (ap (λ (vs : List Value). length vs) c.variables.ensures) c.tables-stored.result.now
+    c.tables-stored.ensures c.len-rows.ensures.rows c.if_wide.result c.if_wide.ensures.same
+    c.if_wide.ensures.wide

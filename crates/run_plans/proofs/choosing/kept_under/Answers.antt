@@ -1,13 +1,9 @@
-use Rattle.std.proofs.Common.{List, length, ap, ◌∙◌}
-use Rattle.sql_values.specs.declared.value.Value.{Value}
-use Rattle.run_plans.proofs.Chosen.{ends_found}
+use Rattle.std.proofs.Common.{◌≡◌, subst}
+use Rattle.std.specs.Prelude.{IfSome}
+use Rattle.kept_queries.specs.declared.sight.InSight.{InSight}
 use Rattle.run_plans.proofs.choosing.kept_under.Goals as goal
 
-pub returns-in-Some : goal.returns-in-Some
-returns-in-Some c =
-    ends_found c.kept_mean.ensures c.kept_tables_fit.ensures c.args.place.now c.args.world.now
-    c.args.frame.now c.args.query.now c.in-Some.kept.now c.in-Some.ensures.kept
-    c.in-Some.ensures.query
-    (c.in-Some.ensures.variables ∙ ap (λ (vs : List Value). length vs) c.variables.ensures)
-    c.tables-stored.result.now c.tables-stored.ensures c.len-rows.ensures.rows c.if_wide.result
-    c.if_wide.ensures.same c.if_wide.ensures.wide
+pub returns-in-Ok-clause-sight : goal.returns-in-Ok-clause-sight
+returns-in-Ok-clause-sight c =
+    subst (λ (s : InSight). IfSome c.kept_at.result (λ k. k.now.in_sight ≡ s)) c.in-Ok.ensures
+    c.kept_at.ensures.sight

@@ -1,0 +1,5 @@
+pub mod Codes
+pub mod Cells
+pub mod Words
+pub mod Fronts
+pub mod Laws
