@@ -1,6 +1,7 @@
 -- What CREATE FUNCTION and CREATE PROCEDURE make of a body with its names resolved. ISO/IEC 9075-4,
 -- 9.20 (SQL-invoked function); ISO/IEC 9075-2, 11.60 (SQL-invoked routine).
-use Rattle.std.specs.Prelude.{ℕ, false, if◌then◌else◌, List, [], ◌++◌, map, length, Some, None}
+use Rattle.std.specs.Prelude.{ℕ, Bool, false, ◌&&◌, nat_lt, if◌then◌else◌, List}
+use Rattle.std.specs.Prelude.{[], ◌++◌, map, length, Some, None}
 use Rattle.syntax_trees.specs.declared.anchor.Ident.{Ident}
 use Rattle.statement_trees.specs.declared.definition.Characteristic.{Characteristic}
 use Rattle.statement_trees.specs.declared.definition.Parameter.{Parameter}
@@ -136,7 +137,7 @@ abbrev pub with_value : Definition → FunctionHead → BoundExpr → NewObject
 with_value s head result = new.Function
     (record { head = head; body = guarded_body s result; plan = None })
 
--- it has a plan where all that it uses has one
+-- a function with a plan, which has its own weight and height beside it
 abbrev pub planned_function : Definition → Catalog → DataAccess → List (List ℕ) → BoundExpr →
     NewObject
 planned_function s catalog access uses result = with_value s
@@ -168,10 +169,18 @@ interpreted s catalog access uses body = with_body s (interpreted_head s catalog
 abbrev pub access_of_result : Definition → Catalog → List (List ℕ) → DataAccess
 access_of_result s catalog uses = access_by s.characteristics (need_of catalog uses false)
 
--- a function whose body is RETURN: with a plan where all that it calls has one
+-- whether RETURN is no heavier than a plan may be that stands in the place of a body
+abbrev pub is_light : Catalog → BoundExpr → Bool
+is_light catalog result = nat_lt (weight catalog (Return result)) HEAVIEST
+
+-- a plan answers RETURN where all that it calls has one, and it is not too heavy
+abbrev pub has_plan : Catalog → List (List ℕ) → BoundExpr → Bool
+has_plan catalog uses result = all_run catalog uses && is_light catalog result
+
+-- a function whose body is RETURN: with a plan where all that it calls has one and it is light
 abbrev pub returning : Definition → Catalog → List (List ℕ) → BoundExpr → NewObject
 returning s catalog uses result =
-    if all_run catalog uses
+    if has_plan catalog uses result
     then planned_function s catalog (access_of_result s catalog uses) uses result
     else interpreted s catalog (access_of_result s catalog uses) uses (Return result)
 

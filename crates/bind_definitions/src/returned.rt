@@ -16,7 +16,7 @@ use bind_selects::all_run;
 use bound_trees::{BoundExpr, BoundStmt};
 use catalog_store::{Body, Catalog, DataAccess, FunctionHead, Object, RoutineRecord};
 use null_guards::guarded;
-use routine_form::weight_of_return;
+use routine_form::{HEAVIEST, weight_of_return};
 use sql_values::{Name, NoMemory};
 use sqlite_items::Items;
 use statement_trees::{CreateFunction, Stmt};
@@ -119,7 +119,15 @@ fn planned_function(
     with_value(alloc, create, head, bound.tree)
 }
 
-/// A function whose body is RETURN: with a plan where all that it calls has one.
+// Whether a plan answers RETURN: all that it calls has one, and it is not too heavy.
+fn has_plan(catalog: &Catalog, bound: &BoundResult) -> bool
+    ensures { result ≡ spec.has_plan catalog.now bound.now.uses bound.now.tree }
+{
+    all_run(bound.uses.as_slice(), catalog) && weight_of_return(&bound.tree, catalog) < HEAVIEST
+}
+
+/// A function whose body is RETURN: with a plan where all that it calls has one, and where it is no
+/// heavier than a plan may be.
 pub fn returning(
     alloc: Global,
     create: &CreateFunction,
@@ -130,7 +138,7 @@ pub fn returning(
         bound.uses bound.tree) }
 {
     let access = access_of_result(create, catalog, bound.uses.as_slice());
-    if all_run(bound.uses.as_slice(), catalog) {
+    if has_plan(catalog, &bound) {
         planned_function(alloc, create, catalog, access, bound)
     } else {
         let body = BoundBody {

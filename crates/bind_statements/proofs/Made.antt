@@ -2,6 +2,7 @@
 use Rattle.std.proofs.Common.{◌≡◌, refl, sym, ◌∙◌, subst, arith, ℕ, ◌+◌, ◌<◌, nat_lt, Bool, true, false}
 use Rattle.std.proofs.Common.{List, [], ◌∷◌, ◌++◌, Option, Some, None}
 use Rattle.std.specs.Prelude.{is_some, not, ◌==◌, if◌then◌else◌}
+use Rattle.std.proofs.lemmas.Bool.{and_parts}
 use Rattle.std.proofs.lemmas.Bool.Decides.{nat_tests}
 use Rattle.syntax_trees.specs.declared.anchor.Ident.{Ident}
 use Rattle.statement_trees.specs.declared.definition.CreateTable.{CreateTable}
@@ -59,6 +60,7 @@ use Rattle.bind_statements.specs.Functions.{function_with}
 use Rattle.bind_statements.specs.Functions.{body_of_function, judged_function, procedure_faults}
 use Rattle.bind_statements.specs.Functions.{procedure_with, body_of_procedure, judged_procedure}
 use Rattle.bind_definitions.specs.Making.{signature_faults, planned_function, interpreted}
+use Rattle.bind_definitions.specs.Making.{is_light, has_plan}
 use Rattle.bind_definitions.specs.Making.{access_of_result}
 use Rattle.bind_definitions.proofs.Laws.{guarded_uses, guarded_planned}
 use Rattle.bind_definitions.specs.Routines.{parameters_of, parameter_faults, stands, used_in}
@@ -154,8 +156,11 @@ returning-fits s result catalog all p =
     let low = no_fault (nat_lt MOST_HEIGHT (called + 1)) TooHigh s.name.anchor
     (back_nil access high (back_nil (expr.faults ++ given) (access ++ high) rest)) in (
       new,
-      either-fits s catalog expr.uses expr.value.tree (all_run catalog expr.uses)
-          (λ runs. guarded-fits s catalog expr.uses expr.value.tree
+      either-fits s catalog expr.uses expr.value.tree (has_plan catalog expr.uses expr.value.tree)
+          (λ (plan : has_plan catalog expr.uses expr.value.tree ≡ true).
+          let runs = (and_parts (all_run catalog expr.uses) (is_light catalog expr.value.tree)
+          plan).0 in
+          guarded-fits s catalog expr.uses expr.value.tree
           (covers.0 new runs (height_above called) (low_enough called low)) covers.2
           (covers.1 new runs)),
     )

@@ -55,11 +55,12 @@ use Rattle.bind_simple.specs.Places.{seen_from}
 use Rattle.bind_definitions.specs.Characteristics.{group_faults}
 use Rattle.bind_rules.specs.Definitions.{Definition}
 use Rattle.bind_definitions.specs.Making.{own_function, signature_faults, planned_function}
-use Rattle.bind_definitions.specs.Making.{interpreted, access_of_result, asked_of_result}
+use Rattle.bind_definitions.specs.Making.{interpreted, access_of_result, asked_of_result, is_light}
 use Rattle.bind_direct.specs.Returning.{in_function, judged_result, judged_returning}
 use Rattle.bind_definitions.specs.Routines.{parameters_of, calls as calls_in}
 use Rattle.bind_statements.specs.Runs.{lacks_plan, FunctionsPlanned, has_run_form, calls_back}
-use Rattle.bind_statements.specs.Runs.{form_calls_itself, FaultlessRuns}
+use Rattle.bind_statements.specs.Runs.{form_calls_itself, returns_light, form_is_light}
+use Rattle.bind_statements.specs.Runs.{FaultlessRuns}
 use Rattle.bind_direct.specs.Direct.{is_planned}
 use Rattle.bind_statements.specs.Statements.{judged_object, judged_form}
 use Rattle.bind_rules.specs.Definitions.{Form, if_bare, value_returned}
@@ -265,9 +266,10 @@ module _ (known : Catalog) (all : AllPlanned known) (plans : FunctionsPlanned kn
 
   returning-runs : (s : Definition) (result : Expr) →
       calls_in s.name.name (judged_result s result (parameters_of s.parameters) known).uses ≡ false
+      → is_light known (judged_result s result (parameters_of s.parameters) known).value ≡ true
       → (judged_returning s result known).faults ≡ [] →
       is_planned (judged_returning s result known).value ≡ true
-  returning-runs s result c p =
+  returning-runs s result c l p =
       let place = in_function s (parameters_of s.parameters) known in
       let seen = seen_from place in
       let x = judge result seen in
@@ -279,14 +281,16 @@ module _ (known : Catalog) (all : AllPlanned known) (plans : FunctionsPlanned kn
       let access = access_of_result s known x.uses in
       ap (λ b. is_planned (if b then planned_function s known access x.uses x.value.tree else
       interpreted s known access x.uses (Return x.value.tree)))
+      (and_from (all_run known x.uses) (is_light known x.value.tree)
       (expr-runs result seen refl refl (outside (own_function s) x.uses c)
-      (front_nil x.faults given inside))
+      (front_nil x.faults given inside)) l)
 
   definition-runs : (s : Definition) (result : Option Expr) → is_some result ≡ true →
-      calls_back s result known ≡ false → (judged_object s result known).faults ≡ []
+      calls_back s result known ≡ false → returns_light s result known ≡ true
+      → (judged_object s result known).faults ≡ []
       → is_planned (judged_object s result known).value ≡ true
-  definition-runs s None r c p = absurd cc
-  definition-runs s (Some result) r c p = returning-runs s result c p
+  definition-runs s None r c l p = absurd cc
+  definition-runs s (Some result) r c l p = returning-runs s result c l p
 
   -- of a function without characteristics the value that it returns is its form
   bare : (cs : List Characteristic) (value : Option Expr) → is_some (if_bare cs value) ≡ true →
@@ -297,46 +301,50 @@ module _ (known : Catalog) (all : AllPlanned known) (plans : FunctionsPlanned kn
   created-runs : (s : Definition) (value : Option Expr) →
       is_some (if_bare s.characteristics value) ≡ true
       → calls_back s (if_bare s.characteristics value) known ≡ false →
+      returns_light s (if_bare s.characteristics value) known ≡ true →
       (judged_object s value known).faults ≡ []
       → (is_some (if_bare s.characteristics value) &&
       is_planned (judged_object s value known).value) ≡ true
-  created-runs s value r c p =
+  created-runs s value r c l p =
       let same = bare s.characteristics value r in
       and_from (is_some (if_bare s.characteristics value))
       (is_planned (judged_object s value known).value) r
       (definition-runs s value (ap is_some (sym same) ∙ r)
-      (ap (λ o. calls_back s o known) (sym same) ∙ c) p)
+      (ap (λ o. calls_back s o known) (sym same) ∙ c)
+      (ap (λ o. returns_light s o known) (sym same) ∙ l) p)
 
   -- ---- statements
 
   form-runs : (y : Form) (whole : Stmt) → has_run_form y ≡ true →
-      form_calls_itself y known ≡ false → (judged_form y whole known).faults ≡ [] →
+      form_calls_itself y known ≡ false → form_is_light y known ≡ true →
+      (judged_form y whole known).faults ≡ [] →
       (judged_form y whole known).value.by_plan ≡ true
-  form-runs (Stmt-F.CreateTable s) whole r c p = refl
-  form-runs (Stmt-F.CreateFunction s) whole r c p =
-      created-runs (out-CreateFunction s) (value_returned (out-Stmt (out-CreateFunction s).body)) r c p
-  form-runs (Stmt-F.CreateProcedure s) whole r c p = absurd cc
-  form-runs (Stmt-F.Drop s) whole r c p = refl
-  form-runs (Stmt-F.Insert s) whole r c p = insert-runs s p
-  form-runs (Stmt-F.Update s) whole r c p = update-runs s p
-  form-runs (Stmt-F.Delete s) whole r c p = delete-runs s p
-  form-runs (Stmt-F.Query q) whole r c p = ordered-runs q p
-  form-runs (Stmt-F.Explain anchor q) whole r c p = absurd cc
-  form-runs (Stmt-F.Call s) whole r c p = absurd cc
-  form-runs (Stmt-F.Labelled s) whole r c p = absurd cc
-  form-runs (Stmt-F.If s) whole r c p = absurd cc
-  form-runs (Stmt-F.Case s) whole r c p = absurd cc
-  form-runs (Stmt-F.Set anchor a) whole r c p = absurd cc
-  form-runs (Stmt-F.SelectInto s) whole r c p = absurd cc
-  form-runs (Stmt-F.Open anchor i) whole r c p = absurd cc
-  form-runs (Stmt-F.Close anchor i) whole r c p = absurd cc
-  form-runs (Stmt-F.Fetch s) whole r c p = absurd cc
-  form-runs (Stmt-F.Signal s) whole r c p = absurd cc
-  form-runs (Stmt-F.Resignal s) whole r c p = absurd cc
-  form-runs (Stmt-F.GetDiagnostics s) whole r c p = absurd cc
-  form-runs (Stmt-F.Leave anchor i) whole r c p = absurd cc
-  form-runs (Stmt-F.Iterate anchor i) whole r c p = absurd cc
-  form-runs (Stmt-F.Return anchor value) whole r c p = absurd cc
+  form-runs (Stmt-F.CreateTable s) whole r c l p = refl
+  form-runs (Stmt-F.CreateFunction s) whole r c l p =
+      created-runs (out-CreateFunction s) (value_returned (out-Stmt (out-CreateFunction s).body))
+      r c l p
+  form-runs (Stmt-F.CreateProcedure s) whole r c l p = absurd cc
+  form-runs (Stmt-F.Drop s) whole r c l p = refl
+  form-runs (Stmt-F.Insert s) whole r c l p = insert-runs s p
+  form-runs (Stmt-F.Update s) whole r c l p = update-runs s p
+  form-runs (Stmt-F.Delete s) whole r c l p = delete-runs s p
+  form-runs (Stmt-F.Query q) whole r c l p = ordered-runs q p
+  form-runs (Stmt-F.Explain anchor q) whole r c l p = absurd cc
+  form-runs (Stmt-F.Call s) whole r c l p = absurd cc
+  form-runs (Stmt-F.Labelled s) whole r c l p = absurd cc
+  form-runs (Stmt-F.If s) whole r c l p = absurd cc
+  form-runs (Stmt-F.Case s) whole r c l p = absurd cc
+  form-runs (Stmt-F.Set anchor a) whole r c l p = absurd cc
+  form-runs (Stmt-F.SelectInto s) whole r c l p = absurd cc
+  form-runs (Stmt-F.Open anchor i) whole r c l p = absurd cc
+  form-runs (Stmt-F.Close anchor i) whole r c l p = absurd cc
+  form-runs (Stmt-F.Fetch s) whole r c l p = absurd cc
+  form-runs (Stmt-F.Signal s) whole r c l p = absurd cc
+  form-runs (Stmt-F.Resignal s) whole r c l p = absurd cc
+  form-runs (Stmt-F.GetDiagnostics s) whole r c l p = absurd cc
+  form-runs (Stmt-F.Leave anchor i) whole r c l p = absurd cc
+  form-runs (Stmt-F.Iterate anchor i) whole r c l p = absurd cc
+  form-runs (Stmt-F.Return anchor value) whole r c l p = absurd cc
 
 pub faultless-runs : FaultlessRuns
-faultless-runs s catalog all plans r c p = form-runs catalog all plans (out-Stmt s) s r c p
+faultless-runs s catalog all plans r c l p = form-runs catalog all plans (out-Stmt s) s r c l p

@@ -46,7 +46,6 @@ use Rattle.bind_kinds.specs.Types.{type_of}
 use Rattle.bind_sight.specs.declared.scope.Variable.{Variable as Held}
 use Rattle.bind_sight.specs.Sight.{at_top}
 use Rattle.bind_queries.specs.Order.{judge_ordered}
-use Rattle.bind_queries.specs.Runs.{all_run}
 use Rattle.bind_queries.proofs.Laws.{front_nil, back_nil}
 use Rattle.bind_simple.specs.Calls.{judged_call}
 use Rattle.bind_routines.specs.Statements.{judge_stmt}
@@ -64,6 +63,7 @@ use Rattle.bind_definitions.specs.Making.{own_procedure as own_procedure_of, sig
 use Rattle.null_guards.specs.Guards.{guarded}
 use Rattle.null_guards.proofs.Laws.{guards_keep_kinds}
 use Rattle.bind_definitions.specs.Making.{returning, planned_function, interpreted, guarded_body}
+use Rattle.bind_definitions.specs.Making.{has_plan}
 use Rattle.bind_definitions.specs.Making.{access_of_result}
 use Rattle.bind_direct.specs.Direct.{at_script as script_place, direct_call}
 use Rattle.bind_direct.specs.Returning.{in_function, judged_result, returning_with}
@@ -217,7 +217,7 @@ returned-typed : (s : Definition) (catalog : Catalog) (uses : List (List ℕ)) (
     → value_of (kind_of_type (type_of s.returns)) e
     (around (slots_of s.parameters) (Some (own_function_of s)) catalog) ≡ true
     → object_typed s.name.name (returning s catalog uses e) catalog ≡ true
-returned-typed s catalog uses e p = by (all_run catalog uses)
+returned-typed s catalog uses e p = by (has_plan catalog uses e)
   where
     access : DataAccess
     access = access_of_result s catalog uses

@@ -9,6 +9,7 @@ use Rattle.catalog_store.specs.Catalog.{ProcedureObject, Catalog, object_named}
 use Rattle.catalog_store.specs.Planning.{AllPlanned}
 use Rattle.bind_rules.specs.Definitions.{Definition}
 use Rattle.bind_direct.specs.Returning.{judged_result}
+use Rattle.bind_definitions.specs.Making.{is_light}
 use Rattle.bind_definitions.specs.Routines.{parameters_of, calls}
 use Rattle.bind_rules.specs.Definitions.{Form, result_of}
 use Rattle.bind_statements.specs.Statements.{judged_statement}
@@ -61,11 +62,29 @@ form_calls_itself _ catalog = false
 abbrev pub calls_itself : Stmt → Catalog → Bool
 calls_itself s catalog = form_calls_itself (out-Stmt s) catalog
 
+-- ---- functions that are light
+
+-- the value that a function returns is light
+abbrev pub returns_light : Definition → Option Expr → Catalog → Bool
+returns_light s None catalog = true
+returns_light s (Some result) catalog = is_light catalog
+    (judged_result s result (parameters_of s.parameters) catalog).value
+
+-- whether what it makes is light
+abbrev pub form_is_light : Form → Catalog → Bool
+form_is_light (Stmt-F.CreateFunction s) catalog =
+    returns_light (out-CreateFunction s) (result_of (out-CreateFunction s)) catalog
+form_is_light _ catalog = true
+
+-- no function that only returns a value, and is heavier than a plan may be
+abbrev pub makes_light : Stmt → Catalog → Bool
+makes_light s catalog = form_is_light (out-Stmt s) catalog
+
 -- ---- the law
 
 -- Plans answer a statement without faults that is of a planned form, where all functions have plans.
--- A function that calls itself has no plan.
+-- A function that calls itself has no plan, and neither has one that is too heavy.
 abbrev pub FaultlessRuns : Type 0
 FaultlessRuns = (s : Stmt) (catalog : Catalog) → AllPlanned catalog → FunctionsPlanned catalog →
-    is_run_form s ≡ true → calls_itself s catalog ≡ false
+    is_run_form s ≡ true → calls_itself s catalog ≡ false → makes_light s catalog ≡ true
     → (judged_statement s catalog).faults ≡ [] → (judged_statement s catalog).value.by_plan ≡ true

@@ -33,8 +33,9 @@ pub fn faultless_typed()
 {}
 
 /// Where all functions have plans, plans answer a statement without faults if it is of a planned
-/// form: CREATE TABLE, CREATE FUNCTION without characteristics whose body is RETURN and does not
-/// call the function itself, DROP, INSERT, UPDATE, DELETE or a query.
+/// form: CREATE TABLE, CREATE FUNCTION without characteristics whose body is RETURN, does not call
+/// the function itself and is no heavier than a plan may be, DROP, INSERT, UPDATE, DELETE or a
+/// query.
 pub fn faultless_runs()
     ensures { FaultlessRuns }
 {}
@@ -59,8 +60,8 @@ pub fn forms_bound_alone()
     ensures { FormsBoundAlone }
 {}
 
-/// Which functions whose body is RETURN have plans: all but one that calls itself. With RETURNS NULL
-/// ON NULL INPUT the value is a CASE over the parameters.
+/// Which functions whose body is a light RETURN have plans: all but one that calls itself. With
+/// RETURNS NULL ON NULL INPUT the value is a CASE over the parameters.
 pub fn functions_have_plans()
     ensures { FunctionsHavePlans }
 {}

@@ -19,13 +19,12 @@ use Rattle.catalog_store.proofs.Laws.{same_bytes}
 use Rattle.bind_kinds.specs.Kinds.{kind_of_type}
 use Rattle.bind_kinds.specs.Types.{type_of}
 use Rattle.bind_sight.specs.declared.scope.EnclosingRoutine.{EnclosingRoutine}
-use Rattle.bind_queries.specs.Runs.{all_run}
 use Rattle.bind_queries.proofs.Laws.{front_nil, back_nil}
 use Rattle.bind_rules.specs.Definitions.{Definition, ProcedureDefinition, Form, value_returned}
 use Rattle.bind_definitions.specs.Characteristics.{group_faults}
 use Rattle.bind_definitions.specs.Making.{own_function, own_procedure, signature_faults}
 use Rattle.bind_definitions.specs.Making.{asked_of_result, planned_function, interpreted}
-use Rattle.bind_definitions.specs.Making.{access_of_result}
+use Rattle.bind_definitions.specs.Making.{access_of_result, has_plan}
 use Rattle.bind_definitions.specs.Routines.{parameters_of, stands, used_in}
 use Rattle.bind_direct.specs.Returning.{in_function, judged_result, judged_returning}
 use Rattle.bind_statements.specs.Functions.{body_faults, body_of_function, judged_function}
@@ -121,7 +120,7 @@ returning-lists s result known all f =
     in
     returned-lists s known body.uses body.value
     (value-notes (kind_of_type (type_of s.returns)) result (in_function s sight known) all free)
-    (all_run known body.uses)
+    (has_plan known body.uses body.value)
 
 definition-lists : (s : Definition) (result : Option Expr) (known : Catalog) → AllPlanned known →
     (judged_object s result known).faults ≡ [] →

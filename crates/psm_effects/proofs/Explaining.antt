@@ -1,6 +1,6 @@
 -- EXPLAIN has a reply, and a plan that it tells means the query; and all of them begin alike.
 use Rattle.std.proofs.Common.{◌≡◌, ℕ, Bool, true, false, List, Result, Ok, Err, Some, refl, ap}
-use Rattle.std.proofs.Common.{◌∙◌}
+use Rattle.std.proofs.Common.{◌∙◌, subst, sym}
 use Rattle.std.specs.Prelude.{IfOk, if◌then◌else◌, slice_get}
 use Rattle.bound_trees.specs.declared.query.BoundQuery.{BoundQuery}
 use Rattle.sql_texts.specs.declared.memory.NoMemory.{NoMemory}
@@ -13,11 +13,18 @@ use Rattle.call_places.specs.Places.{inlined_places, interpreted_places}
 use Rattle.called_blocks.specs.Planned.{all_planned}
 use Rattle.plan_text.specs.Explained.{by_plan_text, by_row_text}
 use Rattle.psm_effects.specs.Explaining.{IsExplained, TellsPlan, explained, explained_by, told_plan}
+use Rattle.psm_effects.specs.Preparing.{IsPlanOf}
 use Rattle.psm_effects.proofs.Preparing.{own_plan}
+use Rattle.block_views.proofs.Laws.{seen_as_run}
+use Rattle.rel_algebra.specs.Tree.{Query}
 
--- the plan that is told means the query
-tells : (k : Callees) (q : BoundQuery) → TellsPlan k q
-tells k q some = own_plan (query_seen k q) (width_in k) (told_plan k q) some refl
+-- the plan that is told means the query as it is run
+tells : (known : Catalog) (q : BoundQuery) → TellsPlan known q
+tells known q names some =
+    let k = all_planned known q in
+    subst (λ (seen : Query). IsPlanOf seen (width_in k) (told_plan k q))
+    (sym (seen_as_run.queries k q names some))
+    (own_plan (query_seen k q) (width_in k) (told_plan k q) some refl)
 
 -- what is explained by all blocks that may have plans is explained in their catalog
 pub explained_there : (known : Catalog) (k : Callees) (q : BoundQuery) → k ≡ all_planned known q →
@@ -25,7 +32,7 @@ pub explained_there : (known : Catalog) (k : Callees) (q : BoundQuery) → k ≡
     → IfOk r (λ reply. IsExplained known q reply)
 explained_there known k q all (Ok reply) h = record {
   replies = h ∙ ap (λ (l : Callees). explained_by l q) all;
-  means = tells (all_planned known q) q;
+  means = tells known q;
 }
 explained_there known k q all (Err e) h = tt
 
@@ -34,7 +41,7 @@ explained_there known k q all (Err e) h = tt
 pub some_explained : (known : Catalog) (q : BoundQuery) →
     (reply : List ℕ) × IsExplained known q reply
 some_explained known q =
-    (explained known q, record { replies = refl; means = tells (all_planned known q) q })
+    (explained known q, record { replies = refl; means = tells known q })
 
 -- by the letter `i`
 begins : (k : Callees) (q : BoundQuery) → slice_get (explained_by k q) 0 ≡ Some 105

@@ -5,9 +5,7 @@ use Rattle.sql_lex.proofs.Laws as lists
 use Rattle.psm_effects.specs.Database.{Plain}
 use Rattle.psm_session.specs.Statement.{Statement}
 use Rattle.psm_session.specs.Statement.{Checked}
-use Rattle.psm_session.specs.Explains.{HoldsNoExplain}
 use Rattle.psm_session.specs.Planned.{EachPlanned}
-pub use Rattle.psm_session.proofs.Laws.{BeginsAlike}
 use Rattle.psm_session.proofs.Laws as session
 
 -- bytes have one list of tokens
@@ -18,19 +16,12 @@ one_lexing = lists.no_other_lexing
 pub some_lexing : (bytes : List ℕ) → (t : Lexing) × IsTokens bytes t
 some_lexing = lists.one_lexing
 
--- a statement at a token has one outcome in a script without EXPLAIN
+-- a statement at a token has one outcome
 pub one_statement : (budget : ℕ) (t : Lexing) (at : ℕ) (before : Plain) (r r' : List ℕ) (to to' : ℕ)
-    (after after' : Plain) → HoldsNoExplain t
+    (after after' : Plain)
     → Statement budget t at before r to after → Statement budget t at before r' to' after' →
     (r ≡ r') × (to ≡ to') × (after ≡ after')
 one_statement = session.one_statement
-
--- and in any script one but for the rest of its reply
-pub alike_statement : (budget : ℕ) (t : Lexing) (at : ℕ) (before : Plain) (r r' : List ℕ)
-    (to to' : ℕ) (after after' : Plain)
-    → Statement budget t at before r to after → Statement budget t at before r' to' after' →
-    BeginsAlike r r' × (to ≡ to') × (after ≡ after')
-alike_statement = session.alike_statement
 
 -- and it always has one before the end
 pub some_statement : (budget : ℕ) (t : Lexing) (at : ℕ) (before : Plain) →

@@ -1,10 +1,9 @@
--- A script leaves one database, and has one run where no EXPLAIN is run; and a status of 1 is told
--- exactly where it should.
+-- A script has one run; and a status of 1 is told exactly where it should.
 use Rattle.std.proofs.Common.{◌≡◌, ℕ, ◌<◌, List, [], ◌∷◌, ◌++◌, Bool, true, false, refl, sym, ◌∙◌}
 use Rattle.std.proofs.Common.{ap, subst, arith, length, length-append, append-nil, append_assoc}
 use Rattle.std.proofs.Common.{◌⊎◌, inl, inr, ◌||◌}
 use Rattle.std.proofs.lemmas.Grind.{flat_map-append}
-use Rattle.std.specs.Prelude.{Option, Some, None, slice_get}
+use Rattle.std.specs.Prelude.{Option, Some, None}
 use Rattle.psm_program.proofs.ProgramLemmas.{script_is}
 use Rattle.psm_program.proofs.RunLemmas.{whole-more}
 use Rattle.psm_program.specs.Outcome.{CutInReply, CutInEnding, FirstFew, Unflushed}
@@ -15,7 +14,7 @@ use Rattle.sql_lex.specs.Tokens.{Lexing, IsTokens}
 use Rattle.psm_effects.specs.Database.{Plain}
 use Rattle.psm_program.specs.Script.{Runs, IsDetermined, AlwaysGoesOn, whole, has_exception}
 use Rattle.program_status.specs.Replies.{is_exception}
-use Rattle.psm_program.specs.Session.{Does, ending, Script, IsFixed}
+use Rattle.psm_program.specs.Session.{Does, ending, Script}
 use Rattle.psm_session.specs.Planned.{EachPlanned}
 use Rattle.psm_words.specs.declared.command.Command.{Command}
 use Rattle.psm_words.specs.declared.command.Command.TheVariants.{Run, Check, Demo}
@@ -27,44 +26,24 @@ use Rattle.program_status.specs.declared.status.Status.TheVariants.{Done, DoneWi
 use Rattle.program_status.specs.declared.status.Status.TheVariants.{ReadFault, WriteFault, NoMemory}
 use Rattle.program_status.specs.declared.status.Status.TheVariants.{ScriptTooLong}
 use Rattle.psm_program.proofs.LowerLaws.{one_lexing, some_lexing, one_statement, some_statement}
-use Rattle.psm_program.proofs.LowerLaws.{alike_statement, one_checked, some_checked, BeginsAlike}
-use Rattle.psm_program.proofs.Runs.{some_run, runs_same, runs_front, Equal, all_equal, all_alike}
+use Rattle.psm_program.proofs.LowerLaws.{one_checked, some_checked}
+use Rattle.psm_program.proofs.Runs.{some_run, runs_same, runs_front}
 
--- what a command does is determined, where the script's replies are
-Does-determined : (command : Command) (bytes : List ℕ) (t : Lexing) → IsTokens bytes t →
-    IsFixed command bytes → IsDetermined Equal (Does command t) (length t.tokens)
-Does-determined (Run options) bytes t lexed fixed = record {
+-- what a command does is determined
+Does-determined : (command : Command) (t : Lexing) →
+    IsDetermined (Does command t) (length t.tokens)
+Does-determined (Run options) t = record {
   one = λ at before r r' to to' after after' p q. one_statement options.budget t at before r r' to
-      to' after after' (fixed t lexed) p.1 q.1;
+      to' after after' p.1 q.1;
   ends = λ before r to after p. absurd (omega (arith, p.0));
 }
-Does-determined Check bytes t lexed fixed = record {
+Does-determined Check t = record {
   one = λ at before r r' to to' after after' p q. one_checked t at before r r' to to' after after'
       p.1 q.1;
   ends = λ before r to after p. absurd (omega (arith, p.0));
 }
-Does-determined (Demo options) bytes t lexed fixed = record {
+Does-determined (Demo options) t = record {
   one = λ at before r r' to to' after after' p q. one_statement DEFAULT_BUDGET t at before r r' to
-      to' after after' (fixed t lexed) p.1 q.1;
-  ends = λ before r to after p. absurd (omega (arith, p.0));
-}
-
--- and whatever the script holds, but for the rest of a reply
-Does-alike : (command : Command) (t : Lexing) →
-    IsDetermined BeginsAlike (Does command t) (length t.tokens)
-Does-alike (Run options) t = record {
-  one = λ at before r r' to to' after after' p q. alike_statement options.budget t at before r r' to
-      to' after after' p.1 q.1;
-  ends = λ before r to after p. absurd (omega (arith, p.0));
-}
-Does-alike Check t = record {
-  one = λ at before r r' to to' after after' p q.
-      let same = one_checked t at before r r' to to' after after' p.1 q.1 in
-      (ap (λ (text : List ℕ). slice_get text 0) same.0, same.1, same.2);
-  ends = λ before r to after p. absurd (omega (arith, p.0));
-}
-Does-alike (Demo options) t = record {
-  one = λ at before r r' to to' after after' p q. alike_statement DEFAULT_BUDGET t at before r r' to
       to' after after' p.1 q.1;
   ends = λ before r to after p. absurd (omega (arith, p.0));
 }
@@ -105,40 +84,27 @@ run_over command bytes before rs rs' after after' p q =
     let same : p.lexing ≡ q.lexing = one_lexing bytes p.lexing q.lexing p.lexed q.lexed in
     subst (λ (t : Lexing). Runs (Does command t) 0 before rs (length t.tokens) after) same p.ran
 
--- A script leaves one database, and a reply of it is an exception in all of its runs or in none.
-pub script_alike : (command : Command) (bytes : List ℕ) (before : Plain) (rs rs' : List (List ℕ))
+-- A script has one run.
+pub script_same : (command : Command) (bytes : List ℕ) (before : Plain) (rs rs' : List (List ℕ))
     (after after' : Plain) → Script command bytes before rs after →
     Script command bytes before rs' after'
-    → (has_exception rs ≡ has_exception rs') × (after ≡ after')
-script_alike command bytes before rs rs' after after' p q =
-    let same = runs_same BeginsAlike (Does command q.lexing) (length q.lexing.tokens)
-    (Does-alike command q.lexing) 0 before rs rs' after after'
-    (run_over command bytes before rs rs' after after' p q) q.ran in
-    (all_alike rs rs' same.0, same.1)
-
--- Where its replies are determined, it has one list of them.
-pub script_same : (command : Command) (bytes : List ℕ) (before : Plain) (rs rs' : List (List ℕ))
-    (after after' : Plain) → IsFixed command bytes → Script command bytes before rs after →
-    Script command bytes before rs' after'
     → (rs ≡ rs') × (after ≡ after')
-script_same command bytes before rs rs' after after' fixed p q =
-    let same = runs_same Equal (Does command q.lexing) (length q.lexing.tokens)
-    (Does-determined command bytes q.lexing q.lexed fixed) 0 before rs rs' after after'
-    (run_over command bytes before rs rs' after after' p q) q.ran in
-    (all_equal rs rs' same.0, same.1)
+script_same command bytes before rs rs' after after' p q =
+    runs_same (Does command q.lexing) (length q.lexing.tokens) (Does-determined command q.lexing) 0
+    before rs rs' after after' (run_over command bytes before rs rs' after after' p q) q.ran
 
 -- The first statements of a script give the first of its replies.
 pub script_front : (command : Command) (bytes : List ℕ) (t : Lexing) (before : Plain)
-    (few rs : List (List ℕ)) (to : ℕ) (mid last : Plain) → IsFixed command bytes → IsTokens bytes t
+    (few rs : List (List ℕ)) (to : ℕ) (mid last : Plain) → IsTokens bytes t
     → Runs (Does command t) 0 before few to mid → Script command bytes before rs last →
     (more : List (List ℕ)) × (rs ≡ few ++ more)
-script_front command bytes t before few rs to mid last fixed lexed p q =
+script_front command bytes t before few rs to mid last lexed p q =
     let same : q.lexing ≡ t = one_lexing bytes q.lexing t q.lexed lexed in
     let ran : Runs (Does command t) 0 before rs (length t.tokens) last =
     subst (λ (u : Lexing). Runs (Does command u) 0 before rs (length u.tokens) last) same
     q.ran in
-    runs_front (Does command t) (length t.tokens) (Does-determined command bytes t lexed fixed) 0
-    before few rs to mid last p ran
+    runs_front (Does command t) (length t.tokens) (Does-determined command t) 0 before few rs to mid
+    last p ran
 
 whole-append : (xs ys : List (List ℕ)) → whole (xs ++ ys) ≡ whole xs ++ whole ys
 whole-append xs ys = flat_map-append (λ r. r) xs ys
@@ -197,8 +163,8 @@ module _ (command : Command) (left left' : Option (List ℕ)) (told told' : Opti
       let mine : Script command r.script before r.completes.replies after =
       record { lexing = r.lexing; lexed = r.lexed; ran = r.completes.ran } in
       let alike : has_exception r.completes.replies ≡ has_exception replies =
-      (script_alike command r.script before r.completes.replies replies after last mine ran').0
-      in
+      ap has_exception
+      (script_same command r.script before r.completes.replies replies after last mine ran').0 in
       let no : false ≡ true = sym r.completes.kind ∙ alike ∙ excepts in
       cc
   exactly DoneWithExceptions done cut few rest = λ script replies last t is ran excepts tells all.
@@ -249,28 +215,23 @@ module _ (command : Command) (left left' : Option (List ℕ)) (told told' : Opti
       subst (λ (s : List ℕ). Script command s before replies last) same ran in
       let mine : Script command r.script before r.completes.replies after =
       record { lexing = r.lexing; lexed = r.lexed; ran = r.completes.ran } in
-      let left_one = script_alike command r.script before r.completes.replies replies after last
-      mine ran' in (
-        left_one.1,
-        λ fixed.
-            let there : IsFixed command r.script =
-            subst (λ (s : List ℕ). IsFixed command s) same fixed in
-            let one = script_same command r.script before r.completes.replies replies after last
-            there mine ran' in
-            subst (λ (d : Plain). TakesFlushed told told' (whole replies ++ ending command d)) one.1
+      let one = script_same command r.script before r.completes.replies replies after last mine
+      ran' in (
+        one.1,
+        subst (λ (d : Plain). TakesFlushed told told' (whole replies ++ ending command d)) one.1
             (subst (λ (rs : List (List ℕ)). TakesFlushed told told' (whole rs ++
             ending command after)) one.0 r.completes.written),
       )
 
 module _ (command : Command) (told told' : Option TakenBytes) (t : Lexing) (script : List ℕ)
-    (lexed : IsTokens script t) (fixed : IsFixed command script) (before after : Plain) where
+    (lexed : IsTokens script t) (before after : Plain) where
   front_of_few : FirstFew (Does command t) told told' before after →
       (replies : List (List ℕ)) (last : Plain) → Script command script before replies last
       → (front : List ℕ) × (rest : List ℕ) × (whole replies ++ ending command last ≡
       front ++ rest) × Takes told told' front
   front_of_few f replies last ran =
-      let more = script_front command script t before f.replies replies f.to after last fixed lexed
-      f.ran ran in
+      let more = script_front command script t before f.replies replies f.to after last lexed f.ran
+      ran in
       let behind = ending command last in (
         whole f.replies,
         whole more.0 ++ behind,
@@ -286,7 +247,7 @@ module _ (command : Command) (told told' : Option TakenBytes) (t : Lexing) (scri
       front ++ rest) × Takes told told' front
   front_of_cut f replies last ran =
       let more = script_front command script t before (f.replies ++ f.reply ∷ []) replies f.to after
-      last fixed lexed f.ran ran in
+      last lexed f.ran ran in
       let behind = ending command last in
       let all : whole replies ≡ (whole f.replies ++ f.reply) ++ whole more.0 =
       ap whole more.1 ∙ whole-append (f.replies ++ f.reply ∷ []) more.0 ∙
@@ -306,7 +267,7 @@ module _ (command : Command) (told told' : Option TakenBytes) (t : Lexing) (scri
   all_written few ran replies last other =
       let mine : Script command script before few after =
       record { lexing = t; lexed = lexed; ran = ran } in
-      let one = script_same command script before replies few last after fixed other mine in
+      let one = script_same command script before replies few last after other mine in
       ap (λ rs. whole rs ++ ending command last) one.0 ∙
       ap (λ d. whole few ++ ending command d) one.1
 
@@ -337,32 +298,31 @@ module _ (command : Command) (told told' : Option TakenBytes) (t : Lexing) (scri
 module _ (command : Command) (left left' : Option (List ℕ)) (told told' : Option TakenBytes)
     (before after : Plain) where
   pub front_of_none : Takes told told' [] → WritesFront command left told told' before
-  front_of_none w script replies last is fixed ran = ([], whole replies ++ ending command last, refl, w)
+  front_of_none w script replies last is ran =
+      ([], whole replies ++ ending command last, refl, w)
 
   pub front_of_first : IsFirstFew command left left' told told' before after →
       WritesFront command left told told' before
-  front_of_first f script replies last is fixed ran =
+  front_of_first f script replies last is ran =
       let same : script ≡ f.script = script_is command left left' script f.script is f.given in
       let ran' : Script command f.script before replies last =
       subst (λ (s : List ℕ). Script command s before replies last) same ran in
-      front_of_few command told told' f.lexing f.script f.lexed
-      (subst (λ (s : List ℕ). IsFixed command s) same fixed) before after f.first replies last ran'
+      front_of_few command told told' f.lexing f.script f.lexed before after f.first replies last
+      ran'
 
   pub front_of_short : IsCutShort command left left' told told' before after →
       WritesFront command left told told' before
-  front_of_short f script replies last is fixed ran =
+  front_of_short f script replies last is ran =
       let same : script ≡ f.script = script_is command left left' script f.script is f.given in
       let ran' : Script command f.script before replies last =
       subst (λ (s : List ℕ). Script command s before replies last) same ran in
-      let there : IsFixed command f.script =
-      subst (λ (s : List ℕ). IsFixed command s) same fixed in
       elim f.cut [
-        | inl x ↦ front_of_cut command told told' f.lexing f.script f.lexed there before after x
+        | inl x ↦ front_of_cut command told told' f.lexing f.script f.lexed before after x
             replies last ran'
         | inr y ↦ elim y [
-          | inl x ↦ front_of_ending command told told' f.lexing f.script f.lexed there before after x
+          | inl x ↦ front_of_ending command told told' f.lexing f.script f.lexed before after x
               replies last ran'
-          | inr x ↦ front_of_all command told told' f.lexing f.script f.lexed there before after x
+          | inr x ↦ front_of_all command told told' f.lexing f.script f.lexed before after x
               replies last ran'
         ]
       ]

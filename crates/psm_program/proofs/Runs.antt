@@ -1,10 +1,8 @@
 -- Runs over any step: there is one where each place before the end has an outcome that goes
--- further, and no other, but for the replies, where each step is determined.
+-- further, and no other where each step is determined.
 use Rattle.std.proofs.Common.{◌≡◌, ℕ, zero, suc, ◌<◌, ◌≤◌, ◌+◌, ◌-◌, List, [], ◌∷◌, ◌++◌, refl, sym}
-use Rattle.std.proofs.Common.{◌∙◌, ◌||◌, ap, ap₂, subst, arith}
-use Rattle.program_status.specs.Replies.{begins_with_mark, is_exception}
-use Rattle.psm_program.specs.Script.{Step, Runs, IsDetermined, GoesOn, AlwaysGoesOn, has_exception}
-use Rattle.psm_program.proofs.LowerLaws.{BeginsAlike}
+use Rattle.std.proofs.Common.{◌∙◌, ap₂, subst, arith}
+use Rattle.psm_program.specs.Script.{Step, Runs, IsDetermined, GoesOn, AlwaysGoesOn}
 
 module _ {D : Type 0} (Sound : D → Type 0) (step : Step D) (end : ℕ)
     (goes : AlwaysGoesOn Sound step end) where
@@ -25,39 +23,12 @@ module _ {D : Type 0} (Sound : D → Type 0) (step : Step D) (end : ℕ)
       Runs step 0 before replies end after
   some_run before sound = run_from end end 0 before sound (omega arith) (omega arith)
 
--- replies that are so far the same, one by one
-abbrev pub AllSame : (List ℕ → List ℕ → Type 0) → List (List ℕ) → List (List ℕ) → Type 0
-AllSame Same [] [] = Unit {0}
-AllSame Same [] (r' ∷ rs') = ⊥
-AllSame Same (r ∷ rs) [] = ⊥
-AllSame Same (r ∷ rs) (r' ∷ rs') = Same r r' × AllSame Same rs rs'
-
--- the same bytes
-abbrev pub Equal : List ℕ → List ℕ → Type 0
-Equal r r' = r ≡ r'
-
-pub all_equal : (rs rs' : List (List ℕ)) → AllSame Equal rs rs' → rs ≡ rs'
-all_equal [] [] h = refl
-all_equal [] (r' ∷ rs') h = absurd h
-all_equal (r ∷ rs) [] h = absurd h
-all_equal (r ∷ rs) (r' ∷ rs') h = ap₂ (λ x xs. x ∷ xs) h.0 (all_equal rs rs' h.1)
-
--- the first bytes say whether one is an exception
-pub all_alike : (rs rs' : List (List ℕ)) → AllSame BeginsAlike rs rs' →
-    has_exception rs ≡ has_exception rs'
-all_alike [] [] h = refl
-all_alike [] (r' ∷ rs') h = absurd h
-all_alike (r ∷ rs) [] h = absurd h
-all_alike (r ∷ rs) (r' ∷ rs') h = ap₂ (λ x y. x || y) (ap begins_with_mark h.0)
-    (all_alike rs rs' h.1)
-
-module _ {D : Type 0} (Same : List ℕ → List ℕ → Type 0) (step : Step D) (end : ℕ)
-    (one : IsDetermined Same step end) where
-  -- Two runs to the end give replies that are so far the same, and the same database.
+module _ {D : Type 0} (step : Step D) (end : ℕ) (one : IsDetermined step end) where
+  -- Two runs to the end give the same replies and the same database.
   pub runs_same : (at : ℕ) (before : D) (rs rs' : List (List ℕ)) (after after' : D) →
       Runs step at before rs end after → Runs step at before rs' end after'
-      → AllSame Same rs rs' × (after ≡ after')
-  runs_same at before [] [] after after' p q = (tt, p.1 ∙ sym q.1)
+      → (rs ≡ rs') × (after ≡ after')
+  runs_same at before [] [] after after' p q = (refl, p.1 ∙ sym q.1)
   runs_same at before [] (r' ∷ rs') after after' p q =
       absurd (one.ends before r' q.0 q.1 (subst (λ (k : ℕ). step k before r' q.0 q.1)
       (sym p.0) q.2))
@@ -70,9 +41,8 @@ module _ {D : Type 0} (Same : List ℕ → List ℕ → Type 0) (step : Step D) 
       let from : Runs step q.0 q.1 rs end after =
       subst (λ (d : D). Runs step q.0 d rs end after) same.2 there in
       let later = runs_same q.0 q.1 rs rs' after after' from q.3 in
-      ((same.0, later.0), later.1)
+      (ap₂ (λ x xs. x ∷ xs) same.0 later.0, later.1)
 
-module _ {D : Type 0} (step : Step D) (end : ℕ) (one : IsDetermined Equal step end) where
   -- A run that stops before the end is a front of the one that does not.
   pub runs_front : (at : ℕ) (before : D) (few rs : List (List ℕ)) (to : ℕ) (mid last : D) →
       Runs step at before few to mid → Runs step at before rs end last

@@ -16,13 +16,10 @@ Runs step at before [] to after = (to ≡ at) × (after ≡ before)
 Runs {D} step at before (reply ∷ replies) to after = (mid : ℕ) × (between : D) ×
     step at before reply mid between × Runs step mid between replies to after
 
--- A statement at a place has one outcome, but for its reply: any two of its replies are so far the
--- same. And none begins at the end. Only where each step has one reply has a script one run: a step
--- with a reply that is free in part has more, which may leave one database.
-pub record IsDetermined {D : Type 0} (Same : List ℕ → List ℕ → Type 0) (step : Step D) (end : ℕ) :
-    Type 0 where
+-- A statement at a place has one outcome. And none begins at the end.
+pub record IsDetermined {D : Type 0} (step : Step D) (end : ℕ) : Type 0 where
   pub one : (at : ℕ) (before : D) (reply reply' : List ℕ) (to to' : ℕ) (after after' : D) →
-      step at before reply to after → step at before reply' to' after' → Same reply reply' ×
+      step at before reply to after → step at before reply' to' after' → (reply ≡ reply') ×
       (to ≡ to') × (after ≡ after')
   pub ends : (before : D) (reply : List ℕ) (to : ℕ) (after : D) → step end before reply to after → ⊥
 

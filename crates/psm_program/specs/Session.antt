@@ -6,7 +6,6 @@ use Rattle.demo_script.specs.Demo.{demo_text}
 use Rattle.program_status.specs.Reading.{ReadsWhole}
 use Rattle.psm_effects.specs.Database.{Plain}
 use Rattle.psm_session.specs.Dump.{dump_text}
-use Rattle.psm_session.specs.Explains.{HoldsNoExplain}
 use Rattle.psm_session.specs.Statement.{Statement}
 use Rattle.psm_session.specs.Statement.{Checked}
 use Rattle.psm_program.specs.Script.{Step, Runs}
@@ -36,19 +35,6 @@ pub record Script (command : Command) (bytes : List ℕ) (before : Plain) (repli
   pub lexing : Lexing
   pub lexed : IsTokens bytes lexing
   pub ran : Runs (Does command lexing) 0 before replies (length lexing.tokens) after
-
--- ---- which scripts have one run
-
--- no token of the script is the word EXPLAIN
-abbrev pub IsWithoutExplain : List ℕ → Type 0
-IsWithoutExplain bytes = (lexing : Lexing) → IsTokens bytes lexing → HoldsNoExplain lexing
-
--- The command's replies to the script are determined: of an EXPLAIN that is run they are not, since
--- the plan that it tells is free. To a check an EXPLAIN is as any other query.
-abbrev pub IsFixed : Command → List ℕ → Type 0
-IsFixed (Run options) bytes = IsWithoutExplain bytes
-IsFixed Check bytes = Unit {0}
-IsFixed (Demo options) bytes = IsWithoutExplain bytes
 
 -- ---- which script a command has
 

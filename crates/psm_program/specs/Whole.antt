@@ -6,7 +6,7 @@ use Rattle.io_edges.specs.TakenBytes.{TakenBytes, Takes, TakesFlushed, with_byte
 use Rattle.sql_lex.specs.Tokens.{Lexing, IsTokens}
 use Rattle.psm_effects.specs.Database.{Plain}
 use Rattle.psm_program.specs.Script.{whole, has_exception}
-use Rattle.psm_program.specs.Session.{Does, ending, Script, IsFixed, HasScript, IsGiven}
+use Rattle.psm_program.specs.Session.{Does, ending, Script, HasScript, IsGiven}
 use Rattle.psm_words.specs.declared.command.Command.{Command}
 use Rattle.program_status.specs.Reading.{TakesCount}
 use Rattle.psm_program.specs.Outcome.{Completes, IsCut, FirstFew, Ends}
@@ -69,23 +69,21 @@ SaysExceptions command left told told' before status =
     → told' ≡ Some (all_flushed (with_bytes t (whole replies ++ ending command after)))
     → status ≡ DoneWithExceptions
 
--- Where all was done: whatever run the script has, its database is what is left, and where its replies
--- are determined, they and what stands behind them are what was written and flushed.
+-- Where all was done: whatever run the script has, its database is what is left, and its replies and
+-- what stands behind them are what was written and flushed.
 abbrev pub LeavesTheOnlyRun : Command → Option (List ℕ) → Option TakenBytes → Option TakenBytes →
     Plain → Plain → Type 0
 LeavesTheOnlyRun command left told told' before after =
     (script : List ℕ) (replies : List (List ℕ)) (last : Plain)
     → HasScript command left script → Script command script before replies last
-    → (after ≡ last) × (IsFixed command script →
-    TakesFlushed told told' (whole replies ++ ending command last))
+    → (after ≡ last) × TakesFlushed told told' (whole replies ++ ending command last)
 
 -- Whatever run the script has, what was written is a front of its replies and of what stands behind
--- them, where these are determined, and none of it is flushed.
+-- them, and none of it is flushed.
 abbrev pub WritesFront : Command → Option (List ℕ) → Option TakenBytes → Option TakenBytes → Plain →
     Type 0
 WritesFront command left told told' before = (script : List ℕ) (replies : List (List ℕ))
     (last : Plain)
-    → HasScript command left script → IsFixed command script →
-    Script command script before replies last
+    → HasScript command left script → Script command script before replies last
     → (front : List ℕ) × (rest : List ℕ) × (whole replies ++ ending command last ≡ front ++ rest) ×
     Takes told told' front

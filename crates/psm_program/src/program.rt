@@ -110,9 +110,8 @@ pub fn run_program<'a, S: Source, K: Sink, E: Sink>(
         (command_of (map (λ w. w.now) words.entry.now) ≡ Some command)
         × RunsWhole command (S.left src.old) (S.left src.new) (K.told out.old) (K.told out.new) db.old db.new true }
 
-    // All runs of a script leave one database, which is what is left; and where no EXPLAIN is run it
-    // has one run: its replies, and the dump of its database where it is asked for, are what was
-    // written.
+    // A script has one run: its database is what is left, and its replies, and the dump of its
+    // database where it is asked for, are what was written.
     ensures only { (result ≡ Status.Done) ⊎ (result ≡ Status.DoneWithExceptions)
         → (command : Command) → command_of (map (λ w. w.now) words.entry.now) ≡ Some command
         → LeavesTheOnlyRun command (S.left src.old) (K.told out.old) (K.told out.new) db.old db.new }
@@ -149,8 +148,8 @@ pub fn run_program<'a, S: Source, K: Sink, E: Sink>(
         × EndsReading command (S.empty_reads src.old) (S.empty_reads src.new)
         × IsFirstFew command (S.left src.old) (S.left src.new) (K.told out.old) (K.told out.new) db.old db.new) }
 
-    // 4 and 5: what was written is a front of all replies of the script, with the dump behind them
-    // where it is asked for, and where no EXPLAIN is run, of the replies of its one run.
+    // 4 and 5: what was written is a front of all replies of the script's one run, with the dump
+    // behind them where it is asked for.
     ensures front { (result ≡ Status.WriteFault) ⊎ (result ≡ Status.NoMemory)
         → (command : Command) → command_of (map (λ w. w.now) words.entry.now) ≡ Some command
         → WritesFront command (S.left src.old) (K.told out.old) (K.told out.new) db.old }

@@ -7,7 +7,6 @@ pub mod Laws
 pub mod Unread
 pub mod Calls
 pub mod KeptPlans
-pub mod ExplainToken
 pub mod Naming
 pub mod Dumped
 pub mod Planned

@@ -1,7 +1,6 @@
--- A statement at a token has one outcome, but for the reply of an EXPLAIN.
+-- A statement at a token has one outcome.
 use Rattle.std.proofs.Common.{◌≡◌, ◌≤◌, ◌+◌, ℕ, suc, true, false, List, [], Some, None, length, ap}
 use Rattle.std.proofs.Common.{ap₂, sym, ◌∙◌, subst, inl, inr, arith}
-use Rattle.std.specs.Prelude.{slice_get}
 use Rattle.sql_lex.specs.Tokens.{Lexing}
 use Rattle.sql_lex.specs.Openings.{place_at}
 use Rattle.statement_trees.specs.declared.statement.Stmt.{Stmt}
@@ -12,16 +11,16 @@ use Rattle.grammar_sql.specs.Decides.{all_decide, statement_decides, statement_e
 use Rattle.bind_faults.specs.declared.fault.Fault.{Fault}
 use Rattle.bind_faults.specs.Faults.{Noted, least}
 use Rattle.bound_trees.specs.declared.query.BoundQuery.{BoundQuery}
-use Rattle.catalog_store.specs.Catalog.{Catalog}
+use Rattle.bind_direct.specs.declared.bound.Bound.{Bound}
 use Rattle.bind_direct.specs.declared.bound.Bound.TheVariants as bound
 use Rattle.bind_direct.specs.declared.bound.BoundStatement.{BoundStatement}
 use Rattle.bind_statements.specs.Statements.{judged_statement, anchor_of}
 use Rattle.reply_text.specs.declared.fault.FaultText.{FaultText}
 use Rattle.reply_text.specs.Texts.{fault_text}
 use Rattle.psm_effects.specs.Database.{Plain}
-use Rattle.psm_effects.proofs.Laws.{explained_begins}
+use Rattle.psm_effects.specs.Explaining.{explained}
 use Rattle.psm_session.specs.Effects.{is_done}
-use Rattle.psm_session.specs.Executing.{HasFault, Executes, Checks, reply_to}
+use Rattle.psm_session.specs.Executing.{HasExplained, HasFault, Executes, Checks, reply_to}
 use Rattle.psm_session.specs.Statement.{Reads, Stops, Doing, IsRead, IsUnread, StatementBy}
 
 -- ---- what comes of a statement
@@ -44,83 +43,55 @@ one_fault found before r r' after after' p q =
     let same : p.fault ≡ q.fault = some_same p.fault q.fault (sym p.is_least ∙ q.is_least) in
     (p.replies ∙ ap reply_to same ∙ sym q.replies, p.leaves ∙ sym q.leaves)
 
--- ---- by how far replies are the same
+-- the query that is explained
+abbrev query_in : BoundQuery → Bound → BoundQuery
+query_in other (bound.Explain query) = query
+query_in other _ = other
 
--- What is done with a statement that is read leaves one database, and any two of its replies are so
--- far the same, where the statement is one of these.
-abbrev pub IsOne : (List ℕ → List ℕ → Type 0) → (Stmt → Type 0) → Doing → Type 0
-IsOne Same Among Does = (tree : Stmt) (before : Plain) → Among tree → (r r' : List ℕ)
-    (after after' : Plain) → Does (judged_statement tree before.catalog) (anchor_of tree) before r after
-    → Does (judged_statement tree before.catalog) (anchor_of tree) before r' after' → Same r r' ×
+one_explained : (found : Noted BoundStatement) (before : Plain) (r r' : List ℕ)
+    (after after' : Plain) → HasExplained found before r after → HasExplained found before r' after'
+    → (r ≡ r') × (after ≡ after')
+one_explained found before r r' after after' p q =
+    let same : p.query ≡ q.query = ap (query_in p.query) (sym p.explains ∙ q.explains) in (
+      p.replies.replies ∙ ap (explained before.catalog) same ∙ sym q.replies.replies,
+      p.leaves ∙ sym q.leaves,
+    )
+
+-- What is done with a statement that is read has one reply, and leaves one database.
+abbrev pub IsOne : Doing → Type 0
+IsOne Does = (tree : Stmt) (before : Plain) (r r' : List ℕ) (after after' : Plain) →
+    Does (judged_statement tree before.catalog) (anchor_of tree) before r after
+    → Does (judged_statement tree before.catalog) (anchor_of tree) before r' after' → (r ≡ r') ×
     (after ≡ after')
 
--- the same bytes
-abbrev pub Equal : List ℕ → List ℕ → Type 0
-Equal r r' = r ≡ r'
-
--- the same first byte, or none
-abbrev pub BeginsAlike : List ℕ → List ℕ → Type 0
-BeginsAlike r r' = slice_get r 0 ≡ slice_get r' 0
-
--- no EXPLAIN, whatever the catalog
-abbrev pub IsDetermined : Stmt → Type 0
-IsDetermined tree = (known : Catalog) → is_done (judged_statement tree known).value.bound ≡ true
-
-abbrev pub IsAny : Stmt → Type 0
-IsAny tree = Unit {0}
-
-pub one_execution : (budget : ℕ) → IsOne Equal IsDetermined (Executes budget)
-one_execution budget tree before done r r' after after' (inl p) (inl q) =
+pub one_execution : (budget : ℕ) → IsOne (Executes budget)
+one_execution budget tree before r r' after after' (inl p) (inl q) =
     (p.replies ∙ sym q.replies, p.leaves ∙ sym q.leaves)
-one_execution budget tree before done r r' after after' (inl p) (inr (inl q)) =
+one_execution budget tree before r r' after after' (inl p) (inr (inl q)) =
     absurd (both_runs (judged_statement tree before.catalog) q.query p.runs q.explains)
-one_execution budget tree before done r r' after after' (inl p) (inr (inr q)) =
+one_execution budget tree before r r' after after' (inl p) (inr (inr q)) =
     absurd (no_least (judged_statement tree before.catalog).faults q.fault p.valid q.is_least)
-one_execution budget tree before done r r' after after' (inr (inl p)) q =
-    absurd (both_runs (judged_statement tree before.catalog) p.query (done before.catalog) p.explains)
-one_execution budget tree before done r r' after after' (inr (inr p)) (inl q) =
+one_execution budget tree before r r' after after' (inr (inl p)) (inl q) =
+    absurd (both_runs (judged_statement tree before.catalog) p.query q.runs p.explains)
+one_execution budget tree before r r' after after' (inr (inl p)) (inr (inl q)) =
+    one_explained (judged_statement tree before.catalog) before r r' after after' p q
+one_execution budget tree before r r' after after' (inr (inl p)) (inr (inr q)) =
+    absurd (no_least (judged_statement tree before.catalog).faults q.fault p.valid q.is_least)
+one_execution budget tree before r r' after after' (inr (inr p)) (inl q) =
     absurd (no_least (judged_statement tree before.catalog).faults p.fault q.valid p.is_least)
-one_execution budget tree before done r r' after after' (inr (inr p)) (inr (inl q)) =
+one_execution budget tree before r r' after after' (inr (inr p)) (inr (inl q)) =
     absurd (no_least (judged_statement tree before.catalog).faults p.fault q.valid p.is_least)
-one_execution budget tree before done r r' after after' (inr (inr p)) (inr (inr q)) =
+one_execution budget tree before r r' after after' (inr (inr p)) (inr (inr q)) =
     one_fault (judged_statement tree before.catalog) before r r' after after' p q
 
-pub first-byte : (r r' : List ℕ) → r ≡ r' → BeginsAlike r r'
-first-byte r r' same = ap (λ (text : List ℕ). slice_get text 0) same
-
--- whatever the statement is
-pub alike_execution : (budget : ℕ) → IsOne BeginsAlike IsAny (Executes budget)
-alike_execution budget tree before any r r' after after' (inl p) (inl q) =
-    (first-byte r r' (p.replies ∙ sym q.replies), p.leaves ∙ sym q.leaves)
-alike_execution budget tree before any r r' after after' (inl p) (inr (inl q)) =
-    absurd (both_runs (judged_statement tree before.catalog) q.query p.runs q.explains)
-alike_execution budget tree before any r r' after after' (inl p) (inr (inr q)) =
-    absurd (no_least (judged_statement tree before.catalog).faults q.fault p.valid q.is_least)
-alike_execution budget tree before any r r' after after' (inr (inl p)) (inl q) =
-    absurd (both_runs (judged_statement tree before.catalog) p.query q.runs p.explains)
-alike_execution budget tree before any r r' after after' (inr (inl p)) (inr (inl q)) = (
-  explained_begins before.catalog p.query r p.replies ∙
-      sym (explained_begins before.catalog q.query r' q.replies),
-  p.leaves ∙ sym q.leaves,
-)
-alike_execution budget tree before any r r' after after' (inr (inl p)) (inr (inr q)) =
-    absurd (no_least (judged_statement tree before.catalog).faults q.fault p.valid q.is_least)
-alike_execution budget tree before any r r' after after' (inr (inr p)) (inl q) =
-    absurd (no_least (judged_statement tree before.catalog).faults p.fault q.valid p.is_least)
-alike_execution budget tree before any r r' after after' (inr (inr p)) (inr (inl q)) =
-    absurd (no_least (judged_statement tree before.catalog).faults p.fault q.valid p.is_least)
-alike_execution budget tree before any r r' after after' (inr (inr p)) (inr (inr q)) =
-    let same = one_fault (judged_statement tree before.catalog) before r r' after after' p q in
-    (first-byte r r' same.0, same.1)
-
-pub one_check : IsOne Equal IsAny Checks
-one_check tree before any r r' after after' (inl p) (inl q) =
+pub one_check : IsOne Checks
+one_check tree before r r' after after' (inl p) (inl q) =
     (p.replies ∙ sym q.replies, p.leaves ∙ sym q.leaves)
-one_check tree before any r r' after after' (inl p) (inr q) =
+one_check tree before r r' after after' (inl p) (inr q) =
     absurd (no_least (judged_statement tree before.catalog).faults q.fault p.valid q.is_least)
-one_check tree before any r r' after after' (inr p) (inl q) =
+one_check tree before r r' after after' (inr p) (inl q) =
     absurd (no_least (judged_statement tree before.catalog).faults p.fault q.valid p.is_least)
-one_check tree before any r r' after after' (inr p) (inr q) =
+one_check tree before r r' after after' (inr p) (inr q) =
     one_fault (judged_statement tree before.catalog) before r r' after after' p q
 
 -- ---- what is read
@@ -178,30 +149,28 @@ one_unread t at before r r' to to' after after' p q =
 
 -- ---- the statement
 
-module _ (Does : Doing) (Same : List ℕ → List ℕ → Type 0) (Among : Stmt → Type 0)
-    (equal : (r r' : List ℕ) → r ≡ r' → Same r r') (one : IsOne Same Among Does) where
+module _ (Does : Doing) (one : IsOne Does) where
   one_read : (t : Lexing) (at : ℕ) (before : Plain) (r r' : List ℕ) (to to' : ℕ)
-      (after after' : Plain) → ((tree : Stmt) (end : ℕ) → Reads t at tree end → Among tree)
-      → IsRead Does t at before r to after → IsRead Does t at before r' to' after' → Same r r' ×
+      (after after' : Plain)
+      → IsRead Does t at before r to after → IsRead Does t at before r' to' after' → (r ≡ r') ×
       (to ≡ to') × (after ≡ after')
-  one_read t at before r r' to to' after after' among p q =
+  one_read t at before r r' to to' after after' p q =
       let same = one_tree t at p.tree q.tree to to' p.reads q.reads in
       let there : Does (judged_statement q.tree before.catalog) (anchor_of q.tree) before r after =
       subst (λ (tree : Stmt). Does (judged_statement tree before.catalog) (anchor_of tree) before r
       after) same.0 p.does in
-      let done = one q.tree before (among q.tree to' q.reads) r r' after after' there q.does in
+      let done = one q.tree before r r' after after' there q.does in
       (done.0, same.1, done.1)
 
   pub Statement-one : (t : Lexing) (at : ℕ) (before : Plain) (r r' : List ℕ) (to to' : ℕ)
-      (after after' : Plain) → ((tree : Stmt) (end : ℕ) → Reads t at tree end → Among tree)
+      (after after' : Plain)
       → StatementBy Does t at before r to after → StatementBy Does t at before r' to' after' →
-      Same r r' × (to ≡ to') × (after ≡ after')
-  Statement-one t at before r r' to to' after after' among (inl p) (inl q) =
-      one_read t at before r r' to to' after after' among p q
-  Statement-one t at before r r' to to' after after' among (inl p) (inr q) =
+      (r ≡ r') × (to ≡ to') × (after ≡ after')
+  Statement-one t at before r r' to to' after after' (inl p) (inl q) =
+      one_read t at before r r' to to' after after' p q
+  Statement-one t at before r r' to to' after after' (inl p) (inr q) =
       absurd (q.nothing p.tree to p.reads)
-  Statement-one t at before r r' to to' after after' among (inr p) (inl q) =
+  Statement-one t at before r r' to to' after after' (inr p) (inl q) =
       absurd (p.nothing q.tree to' q.reads)
-  Statement-one t at before r r' to to' after after' among (inr p) (inr q) =
-      let same = one_unread t at before r r' to to' after after' p q in
-      (equal r r' same.0, same.1, same.2)
+  Statement-one t at before r r' to to' after after' (inr p) (inr q) =
+      one_unread t at before r r' to to' after after' p q

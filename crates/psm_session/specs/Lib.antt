@@ -4,7 +4,6 @@ pub mod Effects
 pub mod Executing
 pub mod Statement
 pub mod Planned
-pub mod Explains
 pub mod Typed
 pub mod Names
 pub mod Dump

@@ -1,10 +1,11 @@
-use Rattle.std.proofs.Common.{ap, [], ◌∷◌, None, Some}
+use Rattle.std.proofs.Common.{◌∙◌, ap, [], ◌∷◌, None, Some}
 use Rattle.std.specs.Prelude.{codes}
 use Rattle.bind_faults.specs.Faults.{Noted}
 use Rattle.bind_direct.specs.declared.bound.BoundStatement.{BoundStatement}
-use Rattle.bind_queries.specs.Examples.{called, name, call}
+use Rattle.bind_queries.specs.Examples.{called, name, call, catalog}
 use Rattle.bind_statements.specs.Examples.{integer, new_parameter, delete, deterministic, returning}
-use Rattle.bind_statements.specs.Examples.{block}
+use Rattle.bind_statements.specs.Examples.{block, new_function}
+use Rattle.bind_statements.proofs.Light.{variable-planned}
 use Rattle.bind_statements.proofs.Rows.{function-row, call-row, explain-row, block-row}
 use Rattle.bind_statements.proofs.Rows.{procedure-row, body-block-row, characteristic-row}
 use Rattle.bind_statements.proofs.Rows.{anchor-of-call, anchor-of-explain, anchor-of-block}
@@ -15,7 +16,9 @@ pub returns : goal.returns
 returns c = record {
   planned_form = ap (λ (x : Noted BoundStatement). x.value.by_plan)
       (function-row (codes "G") (new_parameter (codes "X") 4 (integer 5) ∷ []) (integer 8)
-      (name (codes "X") 10));
+      (name (codes "X") 10)) ∙
+      variable-planned catalog (new_function (codes "G")
+      (new_parameter (codes "X") 4 (integer 5) ∷ []) (integer 8) (name (codes "X") 10));
   planned_form_is_valid = ap (λ (x : Noted BoundStatement). x.faults)
       (function-row (codes "G") (new_parameter (codes "X") 4 (integer 5) ∷ []) (integer 8)
       (name (codes "X") 10));
